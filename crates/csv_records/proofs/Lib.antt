@@ -1,0 +1,3 @@
+pub mod LeftFacts
+pub mod FieldFacts
+pub mod NumberFacts

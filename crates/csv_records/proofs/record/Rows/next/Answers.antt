@@ -1,0 +1,14 @@
+use Rattle.std.proofs.Common.{sym, ◌∙◌}
+use Rattle.csv.specs.Records.{fields_of}
+use Rattle.csv_records.proofs.LeftFacts.{left-read}
+use Rattle.csv_records.proofs.record.Rows.next.Goals as goal
+
+pub returns-in-Ok-clause-taken : goal.returns-in-Ok-clause-taken
+returns-in-Ok-clause-taken c =
+    rw (← c.self.view_is) (left-read c.self.inside.reader c.read_byte_record.new.self c.in-Ok.found (fields_of c.read_byte_record.new.row) c.self.invariant
+    (λ dead. let e = sym c.in-Ok.is ∙ c.read_byte_record.ensures.failed dead in cc e) c.in-Ok.ensures.reads).0
+
+pub returns-in-Ok-clause-end : goal.returns-in-Ok-clause-end
+returns-in-Ok-clause-end c =
+    rw (← c.self.view_is) (left-read c.self.inside.reader c.read_byte_record.new.self c.in-Ok.found (fields_of c.read_byte_record.new.row) c.self.invariant
+    (λ dead. let e = sym c.in-Ok.is ∙ c.read_byte_record.ensures.failed dead in cc e) c.in-Ok.ensures.reads).1

@@ -1,0 +1,4 @@
+pub mod DistinctFacts
+pub mod ExtremeFacts
+pub mod RowFacts
+pub mod SumFacts

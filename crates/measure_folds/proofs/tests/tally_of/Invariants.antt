@@ -1,0 +1,5 @@
+use Rattle.std.proofs.Common.{◌≡◌, ◌≤◌, length}
+use Rattle.measure_folds.proofs.tests.tally_of.Given as goal
+
+abbrev pub invariant-loop-value : goal.invariant-loop-value
+invariant-loop-value l = (l.tally.aggregator ≡ l.fn.aggregator) × (length l.tally.values ≤ 100)

@@ -1,0 +1,13 @@
+//! Tallies: one measure summed up over fact rows, a row at a time.
+#![tactic(auto)]
+
+mod counts;
+mod distinct;
+mod extremes;
+mod state;
+mod sums;
+mod tally;
+#[cfg(test)]
+mod tests;
+
+pub use tally::Tally;

@@ -1,0 +1,25 @@
+-- Which answers tell a fault.
+use Rattle.std.proofs.Common.{◌≡◌, ◌+◌, ◌∷◌, ◌⊎◌, inl, inr, ℕ, List, Option, Some, None}
+use Rattle.std.specs.Option.{IsSomeAnd, option_or}
+use Rattle.olap_meaning.specs.FileQuery.{FileFault, FileQuery, no_column, record_fault, first_fault}
+use Rattle.olap_server.specs.declared.cell.CellFault.{CellFault}
+use Rattle.olap_server.specs.declared.cell.CellFault.TheVariants.{OutOfMemory as NoMemory}
+use Rattle.olap_server.specs.Faults.{told_fault, TellsFault, MissesColumn}
+
+-- the answer to a missing column tells it, where there was memory for its name
+pub missed_or_not : (answer : CellFault) (missing : Option (List ℕ)) (name : List ℕ) → missing ≡ Some name → (answer ≡ told_fault (no_column name)) ⊎ (answer ≡ NoMemory) → (answer ≡ NoMemory) ⊎ MissesColumn answer missing
+missed_or_not answer missing name found (inl told) = inr (rw found told)
+missed_or_not answer missing name found (inr none) = inl none
+
+pub tells : (answer : CellFault) (found : Option FileFault) (fault : FileFault) → found ≡ Some fault → answer ≡ told_fault fault → TellsFault answer found
+tells answer found fault is told = rw is told
+
+first_of : (o p : Option FileFault) (P : FileFault → Type 0) → IsSomeAnd o P → IsSomeAnd (option_or o p) P
+first_of None p P h = absurd h
+first_of (Some fault) p P h = h
+
+-- the fault of a record that comes next is the first fault of the records that are left
+pub tells_first : (answer : CellFault) (query : FileQuery) (header : List (List ℕ)) (n : ℕ) (row : List (List ℕ)) (rows left : List (List (List ℕ))) (first : Option FileFault) → left ≡ row ∷ rows → first_fault query header n left ≡ first
+    → TellsFault answer (record_fault query header n row) → TellsFault answer first
+tells_first answer query header n row rows left first next same told =
+    rw (← same, next) (first_of (record_fault query header n row) (first_fault query header (n + 1) rows) (λ fault. answer ≡ told_fault fault) told)

@@ -1,0 +1,4 @@
+pub mod PlaceFacts
+pub mod FaultFacts
+pub mod WordFacts
+pub mod ReplyFacts

@@ -1,0 +1,12 @@
+use Rattle.std.proofs.Common.{◌≡◌, ◌<◌, true, length, arith}
+use Rattle.olap_meaning.specs.Records.{is_csv}
+use Rattle.olap_server.proofs.PlaceFacts.{place_within, csv_width}
+use Rattle.olap_server.proofs.bound_query.BoundQuery.value.Goals as goal
+
+pub field-field-requires : goal.field-field-requires
+field-field-requires c =
+    let b = c.self.inside in
+    let within = place_within b.query.column b.header b.column c.self.invariant.column_found in
+    let whole : is_csv b.header c.args.row.now ≡ true = cc in
+    let width = csv_width b.header c.args.row.now whole in
+    omega arith

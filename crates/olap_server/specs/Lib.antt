@@ -1,0 +1,4 @@
+pub mod Bound
+pub mod Faults
+pub mod Said
+pub mod Run

@@ -1,0 +1,8 @@
+//! Tests of the whole, from words and files to what is written. They stand apart, since a crate with tests is proved
+//! twice.
+#![tactic(auto)]
+
+#[cfg(test)]
+mod cell;
+#[cfg(test)]
+mod standard;

@@ -1,0 +1,15 @@
+-- What the objects outside hold, where they tell it.
+use Rattle.std.specs.Prelude.{◌≡◌, ◌++◌, ℕ, List, [], ◌∷◌, Option, Some, None, option_map, take, bytes_eq, if◌then◌else◌}
+
+-- what was taken, with some bytes more
+abbrev pub with_bytes : Option (List ℕ) → List ℕ → Option (List ℕ)
+with_bytes taken bytes = option_map (λ held. held ++ bytes) taken
+
+-- some bytes from the front of these were taken, and no others
+abbrev pub TakesFront : Option (List ℕ) → Option (List ℕ) → List ℕ → Type 0
+TakesFront before after bytes = (n : ℕ) × (after ≡ with_bytes before (take n bytes))
+
+-- the bytes of the file of this name: the first, where two have one name
+abbrev pub file_named : List (List ℕ × List ℕ) → List ℕ → Option (List ℕ)
+file_named [] name = None
+file_named (file ∷ files) name = if bytes_eq file.0 name then Some file.1 else file_named files name

@@ -1,0 +1,51 @@
+//! Where files come from.
+ghost use Rattle.std.specs.Prelude.{◌≡◌, ◌<◌, ◌≤◌, OnOk, OnErr, IfOk, IfSome, IsErrOf, Some, None, ℕ, List, Option};
+ghost use Rattle.outside.specs.Told.{file_named};
+
+use olap_base::List;
+use std::alloc::Global;
+use std::fmt;
+
+/// Why a file was not given.
+#[derive(Clone, Copy, Debug, PartialEq, Eq)]
+pub enum DepotRefusal {
+    /// No file has this name.
+    Missing,
+    /// The file could not be read.
+    Failed,
+    OutOfMemory,
+}
+
+impl fmt::Display for DepotRefusal {
+    fn fmt<W: fmt::Write>(&self, f: &mut fmt::Formatter<W>) -> fmt::Result {
+        f.write_str(match self {
+            DepotRefusal::Missing => "no file has this name",
+            DepotRefusal::Failed => "the file could not be read",
+            DepotRefusal::OutOfMemory => "out of memory",
+        })
+    }
+}
+
+impl std::error::Error for DepotRefusal {}
+
+/// Where files come from, as a folder.
+pub trait Depot {
+    // The files, each with its name, where it tells them.
+    ghost files: { Self → Option (List (List ℕ × List ℕ)) };
+
+    // How often a read has failed.
+    ghost faults: { Self → ℕ };
+
+    // How often a file was asked for that is not there.
+    ghost misses: { Self → ℕ };
+
+    /// The bytes of the file of this name.
+    fn fetch(&mut self, alloc: Global, name: &str) -> Result<List<u8>, DepotRefusal>
+        ensures file { IfOk result (λ bytes. IfSome (files self.old) (λ all. file_named all name.now ≡ Some bytes)) }
+        ensures same_files { files self.new ≡ files self.old }
+        ensures fault_count { faults self.old ≤ faults self.new }
+        ensures miss_count { misses self.old ≤ misses self.new }
+        ensures failed { IsErrOf result DepotRefusal.Failed → faults self.old < faults self.new }
+        ensures missing { IsErrOf result DepotRefusal.Missing → misses self.old < misses self.new }
+        ensures not_there { IsErrOf result DepotRefusal.Missing → IfSome (files self.old) (λ all. file_named all name.now ≡ None) };
+}
