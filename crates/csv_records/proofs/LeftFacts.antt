@@ -11,7 +11,7 @@ use Rattle.csv.specs.declared.reader.Trim.TheVariants as trim
 use Rattle.csv.proofs.ReadFacts.{rows-end, rows-more}
 use Rattle.csv_records.specs.Left.{left_from, left_of, Streams}
 
-if_some : (b : Bool) (r q : Read) (o : Option Read) → (if b then Some r else o) ≡ Some q → (r ≡ q) ⊎ (o ≡ Some q)
+pub if_some : (b : Bool) (r q : Read) (o : Option Read) → (if b then Some r else o) ≡ Some q → (r ≡ q) ⊎ (o ≡ Some q)
 if_some true r q o e = inl (cc e)
 if_some false r q o e = inr e
 
@@ -74,7 +74,7 @@ pick_some : (b : Bool) (xs ys : List ℕ) → (y : List ℕ) × ((if b then Some
 pick_some true xs ys = (xs, refl)
 pick_some false xs ys = (ys, refl)
 
-source_known : (a : Reader (Bor (List ℕ))) → has_failed a ≡ false → (y : List ℕ) × (source_of (λ (s : Bor (List ℕ)). Some s.now) a ≡ Some y)
+pub source_known : (a : Reader (Bor (List ℕ))) → has_failed a ≡ false → (y : List ℕ) × (source_of (λ (s : Bor (List ℕ)). Some s.now) a ≡ Some y)
 source_known a h = rw h (pick_some _ _ _)
 
 left-step : (s s2 : State) (xs ys : List ℕ) (p : Read) (f : List (List ℕ)) → next_record default_config s [] [] xs ≡ Some p

@@ -1,3 +1,4 @@
 pub mod LeftFacts
 pub mod FieldFacts
 pub mod NumberFacts
+pub mod AsciiFacts

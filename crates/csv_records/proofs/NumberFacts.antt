@@ -1,14 +1,16 @@
 -- What the bytes of a number say, and what parsing them gives.
-use Rattle.std.proofs.Common.{◌≡◌, ◌≢◌, ◌==◌, ◌<◌, ◌≤◌, ◌+◌, ◌^◌, ◌∙◌, ℕ, zero, suc, ℤ, pos, neg_ℤ, Bool, true, false, List, [], ◌∷◌, Option, Some, None, Result, Ok, Err, option_map, nat_lt, length, get_or, refl, sym, ap, subst, arith, inl, inr}
+use Rattle.std.proofs.Common.{◌≡◌, ◌≢◌, ◌==◌, ◌<◌, ◌≤◌, ◌+◌, ◌^◌, ◌*◌, ◌-◌, ℕ, zero, suc, ℤ, pos, neg_ℤ, true, false, List, [], ◌∷◌, Some, None, Result, Ok, Err, option_map, nat_lt, length, length-take, take, take_all, get_or, refl, sym, ap, subst, arith, inl, inr}
 use Rattle.std.proofs.lemmas.Bool.{cases_Bool, eqb-true}
 use Rattle.std.proofs.lemmas.Bool.Decides.{nat_tests}
-use Rattle.std.proofs.lemmas.Str.{IsUtf8-from_is_utf8, is_utf8-from_IsUtf8, IsUtf8-from_ascii}
-use Rattle.std.proofs.lemmas.Str.Parse.{IsNumeralModel, numerals_by_value, tells_all_ascii_digits, parse_signed_minus, parse_signed_plain}
+use Rattle.std.proofs.lemmas.Str.{IsUtf8-from_is_utf8, is_utf8-from_IsUtf8, IsUtf8-from_ascii, digit_value_digit}
+use Rattle.std.proofs.lemmas.Str.Parse.{IsNumeralModel, numerals_by_value, tells_all_ascii_digits, tells_digits, digits_value_short, not_in_digits, digit_from_value, parse_signed_minus, parse_signed_plain}
 use Rattle.std.proofs.lemmas.Fmt.{IsAscii-from_digits}
+use Rattle.std.proofs.lemmas.Int.Digits.{digits_value_more}
+use Rattle.std.specs.Char.{digit_value}
 use Rattle.std.specs.Int.{w64}
 use Rattle.std.specs.Result.{OkIff, result_ok}
 use Rattle.std.specs.Str.{is_utf8, IsUtf8, IsAscii, all_ascii_digits}
-use Rattle.std.specs.Str.Parse.{digits_value, ParsesSigned}
+use Rattle.std.specs.Str.Parse.{digits_value, AllDigits, ParsesSigned}
 use Rattle.olap_meaning.specs.Records.{digits_below, number}
 
 pub text_yes : (bytes : List ℕ) → IsUtf8 bytes → true ≡ is_utf8 bytes
@@ -83,3 +85,42 @@ number_parsed r (c ∷ cs) plus h = elim (cases_Bool (c == 45)) [
 pub number_of_text : {E : Type 0} (r : Result ℤ E) (text field : List ℕ) → text ≡ field → (get_or field 0 0 == 43) ≡ false → ParsesSigned w64 10 text r → result_ok r ≡ number field
 number_of_text r text field same first h =
     number_parsed r field (λ e. let both : (43 == 43) ≡ false = rw e at first in cc) (subst (λ bytes. ParsesSigned w64 10 bytes r) same h)
+
+digits : IsNumeralModel (AllDigits 10) (digits_value 10)
+digits = numerals_by_value _ tells_digits
+
+-- a few digits spell a small number
+pub few_digits : (ds : List ℕ) → AllDigits 10 ds → length ds ≤ 18 → digits_value 10 ds < 10 ^ 18
+few_digits ds h few = digits_value_short digits ds 18 h few
+
+-- digits are the number that they spell
+pub number_of_digits : (field : List ℕ) → 0 < length field → AllDigits 10 field → digits_value 10 field < 2 ^ 63 → number field ≡ Some (pos (digits_value 10 field))
+number_of_digits [] some h small = absurd (omega arith)
+number_of_digits (c ∷ cs) some h small = elim (cases_Bool (c == 45)) [
+  | inl holds ↦ absurd (not_in_digits digits (c ∷ cs) 45 h (λ r. omega (arith, r)) 0 (omega arith) (eqb-true c 45 holds))
+  | inr fails ↦
+      let all : all_ascii_digits (c ∷ cs) ≡ true = own.from (c ∷ cs) h in
+      let below : nat_lt (digits_value 10 (c ∷ cs)) (2 ^ 63) ≡ true = grind (arith, nat_tests) in
+      rw (fails, all, below) refl
+]
+
+-- the digits so far spell a small number
+pub small_so_far : (field : List ℕ) (i value : ℕ) → length field ≤ 18 → AllDigits 10 (take i field) → value ≡ digits_value 10 (take i field) → value < 10 ^ 18
+small_so_far field i value few h spelled =
+    let short : length (take i field) ≤ 18 = simp length-take (omega arith) in
+    rw spelled (few_digits (take i field) h short)
+
+-- one digit more
+pub one_more : (field : List ℕ) (i value digit : ℕ) → i < length field → digit_value (get_or field i 0) < 10 → digit ≡ get_or field i 0 - 48 → value ≡ digits_value 10 (take i field)
+    → value * 10 + digit ≡ digits_value 10 (take (i + 1) field)
+one_more field i value digit h small is spelled =
+    let worth = digit_value_digit (get_or field i 0) (digit_from_value (get_or field i 0) small) in
+    let same : digit ≡ digit_value (get_or field i 0) = omega arith in
+    rw (digits_value_more 10 field i h, spelled, same) refl
+
+pub all_digits : (field : List ℕ) (i : ℕ) → length field ≤ i → AllDigits 10 (take i field) → 0 < length field → length field ≤ 18 → number field ≡ Some (pos (digits_value 10 (take i field)))
+all_digits field i whole h some few =
+    let all : take i field ≡ field = take_all i field whole in
+    let own_digits : AllDigits 10 field = rw all at h in
+    let small = few_digits field own_digits few in
+    rw all (number_of_digits field some own_digits (omega arith))

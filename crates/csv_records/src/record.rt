@@ -5,7 +5,7 @@ ghost use Rattle.std.specs.Str.{is_utf8};
 ghost use Rattle.olap_meaning.specs.Records.{column_place, is_csv};
 ghost use Rattle.csv_records.specs.Files.{file_records};
 
-use crate::fields::is_text;
+use crate::fields::{is_ascii, is_text};
 use csv::{ByteRecord, ErrorKind, Reader, ReaderBuilder};
 use olap_meaning::OutOfMemory;
 use std::alloc::Global;
@@ -15,15 +15,21 @@ use std::marker::Model;
 #[derive(Drop)]
 pub struct Record {
     row: ByteRecord,
+    // It is known that its bytes are ASCII.
+    is_ascii: bool,
 }
 
 impl Model for Record {
-    ghost use Rattle.std.specs.Prelude.{ℕ, List};
+    ghost use Rattle.std.specs.Prelude.{◌≡◌, true, ℕ, List};
+    ghost use Rattle.std.specs.List.{list_all};
+    ghost use Rattle.std.specs.Str.{is_utf8};
     ghost use Rattle.csv.specs.Records.{fields_of};
 
     ghost Value = { List (List ℕ) };
 
     ghost view = { λ a. fields_of a.row };
+
+    ghost invariant = { λ a. a.is_ascii ≡ true → list_all is_utf8 (fields_of a.row) ≡ true };
 }
 
 impl Record {
@@ -33,6 +39,7 @@ impl Record {
     {
         Record {
             row: ByteRecord::new(alloc),
+            is_ascii: false,
         }
     }
 
@@ -84,6 +91,12 @@ impl Record {
     pub fn is_text(&self) -> bool
         ensures { result ≡ list_all is_utf8 self.now }
     {
+        self.is_ascii || self.has_text_fields()
+    }
+
+    fn has_text_fields(&self) -> bool
+        ensures { result ≡ list_all is_utf8 self.now }
+    {
         for i in 0..self.len() {
             if !is_text(self.field(i)) {
                 return false;
@@ -97,17 +110,19 @@ impl Record {
 #[derive(Drop)]
 pub struct Rows<'a> {
     reader: Reader<&'a [u8]>,
+    // It is known that the bytes that are left are ASCII, as they mostly are: one look at the file saves a look at each field.
+    is_ascii: bool,
 }
 
 impl<'a> Model for Rows<'a> {
-    ghost use Rattle.std.specs.Prelude.{ℕ, List};
-    ghost use Rattle.csv_records.specs.Left.{left_of, Streams};
+    ghost use Rattle.std.specs.Prelude.{◌≡◌, true, ℕ, List};
+    ghost use Rattle.csv_records.specs.Left.{left_of, HasAsciiLeft, Streams};
 
     ghost Value = { List (List (List ℕ)) };
 
     ghost view = { λ a. left_of a.reader };
 
-    ghost invariant = { λ a. Streams a.reader };
+    ghost invariant = { λ a. Streams a.reader × (a.is_ascii ≡ true → HasAsciiLeft a.reader) };
 }
 
 impl<'a> Rows<'a> {
@@ -115,11 +130,12 @@ impl<'a> Rows<'a> {
     pub fn new(alloc: Global, bytes: &'a [u8]) -> Rows<'a>
         ensures { result ≡ file_records bytes.entry.now }
     {
+        let is_ascii = is_ascii(bytes);
         let reader = ReaderBuilder::new()
             .has_headers(false)
             .flexible(true)
             .from_reader(alloc, bytes);
-        Rows { reader }
+        Rows { reader, is_ascii }
     }
 
     /// Reads the next record, and says whether there was one.
@@ -127,8 +143,15 @@ impl<'a> Rows<'a> {
         ensures taken { IfOk result (λ found. found ≡ true → self.old ≡ row.new ∷ self.new) }
         ensures end { IfOk result (λ found. found ≡ false → self.old ≡ []) }
     {
+        let is_ascii = self.is_ascii;
+        self.is_ascii = false;
+        row.is_ascii = false;
         let error = match self.reader.read_byte_record(&mut row.row) {
-            Ok(found) => return Ok(found),
+            Ok(found) => {
+                self.is_ascii = is_ascii & found;
+                row.is_ascii = is_ascii & found;
+                return Ok(found);
+            }
             Err(error) => error,
         };
         // The settings refuse no record: the error is of memory, or of a reader underneath, which is a slice here.

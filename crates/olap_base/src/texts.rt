@@ -1,5 +1,5 @@
 //! How values and names are written.
-ghost use Rattle.std.specs.Prelude.{◌≡◌, ◌++◌, ◌∷◌, [], IfOk, OnOk, string_bytes};
+ghost use Rattle.std.specs.Prelude.{◌≡◌, ◌++◌, IfOk, OnOk, string_bytes};
 ghost use Rattle.olap_meaning.specs.Texts.{plain_text, name_text, name_character, sign};
 
 use olap_meaning::{CellValue, OutOfMemory, Text};

@@ -3,3 +3,11 @@ pub mod Texts
 pub mod Records
 pub mod FileQuery
 pub mod Commands
+pub mod Catalog
+pub mod Covering
+pub mod History
+pub mod Worth
+pub mod Legal
+pub mod Laws
+pub mod Equivalents
+pub mod Growth

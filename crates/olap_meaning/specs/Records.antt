@@ -1,8 +1,8 @@
 -- Records of a CSV file. A record is a list of fields, a field is the list of its bytes, and the first record of a file
 -- is its header. Which records a file has, its reader says.
-use Rattle.std.specs.Prelude.{ℕ, ◌+◌, ◌==◌, ◌&&◌, ◌^◌, List, [], ◌∷◌, not, Bool, Option, Some, None, ℤ, pos, neg_ℤ, nat_lt, length, bytes_eq, option_map, slice_get, unwrap_or, is_some, if◌then◌else◌}
+use Rattle.std.specs.Prelude.{ℕ, ◌+◌, ◌==◌, ◌&&◌, ◌^◌, List, [], ◌∷◌, Bool, Option, Some, None, ℤ, pos, neg_ℤ, nat_lt, length, bytes_eq, option_map, slice_get, unwrap_or, is_some, if◌then◌else◌}
 use Rattle.std.specs.List.{list_all, position_from}
-use Rattle.std.specs.Option.{option_and_then, option_map_or}
+use Rattle.std.specs.Option.{option_and_then}
 use Rattle.std.specs.Str.{is_utf8, all_ascii_digits}
 use Rattle.std.specs.Str.Parse.{digits_value}
 

@@ -4,17 +4,27 @@
 //! name; the crates above name them again through `olap_base`.
 #![tactic(auto)]
 
-ghost use Rattle.std.specs.Prelude.{◌≡◌, ◌++◌, ◌∷◌, [], length, slice_get, OnOk, OnErr, IfOk, option_copied};
-
+mod cells;
+mod ids;
+pub mod laws;
 mod list;
+mod regions;
+pub mod tables;
 mod text;
 
+pub use cells::{Allowed, Cell, CellSource, Header, LevelRef, Member, Who};
+pub use ids::{ColumnId, CubeId, HierarchyId, LeafId, MeasureId, ValueId, Version};
 pub use list::List;
+pub use regions::{Region, RegionBox, RegionDim};
 use std::alloc::{AllocError, AllocFailed};
+pub use tables::Row;
 pub use text::Text;
 
 /// The greatest number of fact rows, over all cubes.
 pub const ROW_LIMIT: u32 = 8_000_000;
+
+/// The greatest version of a cube.
+pub const VERSION_LIMIT: u32 = 100_000;
 
 /// Want of memory. It is a fault of its own wherever a call takes memory.
 #[derive(Clone, Copy, Debug, PartialEq, Eq)]

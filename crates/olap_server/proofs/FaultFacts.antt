@@ -11,9 +11,6 @@ pub missed_or_not : (answer : CellFault) (missing : Option (List ℕ)) (name : L
 missed_or_not answer missing name found (inl told) = inr (rw found told)
 missed_or_not answer missing name found (inr none) = inl none
 
-pub tells : (answer : CellFault) (found : Option FileFault) (fault : FileFault) → found ≡ Some fault → answer ≡ told_fault fault → TellsFault answer found
-tells answer found fault is told = rw is told
-
 first_of : (o p : Option FileFault) (P : FileFault → Type 0) → IsSomeAnd o P → IsSomeAnd (option_or o p) P
 first_of None p P h = absurd h
 first_of (Some fault) p P h = h

@@ -1,9 +1,8 @@
 -- Where columns stand, and what stands there.
-use Rattle.std.proofs.Common.{◌≡◌, ◌<◌, ◌≤◌, ◌+◌, ◌∙◌, ℕ, zero, suc, Bool, true, false, List, [], ◌∷◌, Option, Some, None, map, length, slice_get, slice_index_or, unwrap_or, refl, sym, ap, arith, cond, inl, inr, bytes_eq, ◌==◌, get_or, drop, is_some, take, ◌++◌, ◌&&◌, not}
+use Rattle.std.proofs.Common.{◌≡◌, ◌<◌, ◌+◌, ◌∙◌, ℕ, zero, suc, Bool, true, false, List, [], ◌∷◌, Option, Some, map, length, slice_get, refl, sym, ap, arith, cond, inl, inr, bytes_eq, ◌==◌, get_or, drop, is_some, take, ◌++◌, ◌&&◌, not}
 use Rattle.std.proofs.lemmas.List.{take_more, drop_more, map-append}
 use Rattle.std.proofs.lemmas.Bool.{cases_Bool, eqb-true}
 use Rattle.std.specs.List.{position_from, list_all}
-use Rattle.std.specs.Option.{option_and_then}
 use Rattle.olap_meaning.specs.Records.{column_place, field_in, is_csv, missing_column}
 
 -- a place that is found lies in the list

@@ -1,5 +1,5 @@
 -- Words two by two.
-use Rattle.std.proofs.Common.{◌≡◌, ◌<◌, ◌+◌, ◌*◌, ◌/◌, ◌%◌, ◌∙◌, ◌++◌, ℕ, zero, suc, Bool, true, false, List, [], ◌∷◌, Option, Some, None, map, length, drop, get_or, nat_eq, is_some, option_map, IsSome, refl, sym, ap, arith, append_assoc, append-nil}
+use Rattle.std.proofs.Common.{◌≡◌, ◌<◌, ◌+◌, ◌*◌, ◌/◌, ◌%◌, ◌∙◌, ◌++◌, ℕ, suc, true, List, [], ◌∷◌, Option, Some, None, map, length, drop, get_or, nat_eq, is_some, option_map, IsSome, refl, sym, ap, arith, append_assoc, append-nil}
 use Rattle.std.proofs.lemmas.Bool.{eqb-true}
 use Rattle.std.proofs.lemmas.List.{drop_more, drop_all}
 use Rattle.olap_meaning.specs.Commands.{pairs_of}

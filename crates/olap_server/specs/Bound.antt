@@ -1,5 +1,5 @@
 -- A query and the header of the file that it is asked of.
-use Rattle.std.specs.Prelude.{◌≡◌, ℕ, List, Option, Some, map, length}
+use Rattle.std.specs.Prelude.{◌≡◌, ℕ, List, Some, map}
 use Rattle.olap_meaning.specs.FileQuery.{FileQuery}
 use Rattle.olap_meaning.specs.Records.{column_place}
 

@@ -1,6 +1,6 @@
 //! A query over the header of a file: where its columns stand, and what it takes from a record.
-ghost use Rattle.std.specs.Prelude.{◌≡◌, ◌⊎◌, ◌<◌, ◌≤◌, ◌+◌, ◌==◌, Some, None, true, length, map, option_map, IfOk, IfErr, IfSome, IfNone, IsTrue, slice_get};
-ghost use Rattle.olap_meaning.specs.Records.{column_place, field_in, is_csv, number, missing_column};
+ghost use Rattle.std.specs.Prelude.{◌≡◌, ◌⊎◌, ◌<◌, Some, None, true, length, map, IfOk, IfErr};
+ghost use Rattle.olap_meaning.specs.Records.{column_place, field_in, number, missing_column};
 ghost use Rattle.olap_meaning.specs.FileQuery.{header_fault, record_fault, is_asked};
 ghost use Rattle.olap_server.specs.Faults.{TellsFault, MissesColumn};
 
@@ -36,9 +36,11 @@ fn place_filters(
     header: &Record,
     pairs: &[(Text, Text)],
 ) -> Result<Vec<usize>, CellFault>
-    ensures places { IfOk result (λ v. map (λ place. Some place) v.items ≡ map (λ pair. column_place pair.0 header.now) pairs.now) }
+    ensures places { IfOk result (λ v.
+        map (λ place. Some place) v.items ≡ map (λ pair. column_place pair.0 header.now) pairs.now) }
     ensures all_there { IfOk result (λ _. missing_column (map (λ pair. pair.0) pairs.now) header.now ≡ None) }
-    ensures fault { IfErr result (λ e. (e ≡ CellFault.OutOfMemory) ⊎ MissesColumn e (missing_column (map (λ pair. pair.0) pairs.now) header.now)) }
+    ensures fault { IfErr result (λ e. (e ≡ CellFault.OutOfMemory)
+        ⊎ MissesColumn e (missing_column (map (λ pair. pair.0) pairs.now) header.now)) }
 {
     let mut places = Vec::new(alloc);
     for pair in pairs {
@@ -60,7 +62,8 @@ impl<'a> BoundQuery<'a> {
     ) -> Result<BoundQuery<'a>, CellFault>
         ensures bound { IfOk result (λ b. b ≡ record { query = query.entry; header = header }) }
         ensures sound { IfOk result (λ _. header_fault query.entry header ≡ None) }
-        ensures fault { IfErr result (λ e. (e ≡ CellFault.OutOfMemory) ⊎ TellsFault e (header_fault query.entry header)) }
+        ensures fault { IfErr result (λ e. (e ≡ CellFault.OutOfMemory)
+            ⊎ TellsFault e (header_fault query.entry header)) }
     {
         if !header.is_csv(&header) {
             return Err(CellFault::Unbuilt);

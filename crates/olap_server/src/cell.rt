@@ -71,8 +71,13 @@ pub fn cell_of_csv(
     aggregator: Aggregator,
     pairs: &[(Text, Text)],
 ) -> Result<CellValue, CellFault>
-    ensures value { IfOk result (λ v. answer_of (record { column = column.now; aggregator = aggregator; pairs = pairs.now }) (file_records bytes.now) ≡ Ok v) }
-    ensures fault { IfErr result (λ e. (e ≡ CellFault.OutOfMemory) ⊎ IsErrAnd (answer_of (record { column = column.now; aggregator = aggregator; pairs = pairs.now }) (file_records bytes.now)) (λ fault. e ≡ told_fault fault)) }
+    ensures value { IfOk result (λ v.
+        answer_of (record { column = column.now; aggregator = aggregator; pairs = pairs.now }) (file_records bytes.now) ≡ Ok v) }
+
+    // A fault is the file's first, from the header down.
+    ensures fault { IfErr result (λ e. (e ≡ CellFault.OutOfMemory) ⊎ IsErrAnd
+        (answer_of (record { column = column.now; aggregator = aggregator; pairs = pairs.now }) (file_records bytes.now))
+        (λ fault. e ≡ told_fault fault)) }
 {
     let query = Query::new(column, aggregator, pairs);
     let mut rows = Rows::new(alloc, bytes);
@@ -88,9 +93,13 @@ pub fn cell_of_csv(
 
 // The tally of the records that are left and that the query asks for. One record is held at a time.
 fn fold_rows(alloc: Global, bound: &BoundQuery<'_>, rows: &mut Rows<'_>) -> Result<Tally, CellFault>
-    ensures tally { IfOk result (λ t. t ≡ record { aggregator = bound.now.query.aggregator; values = asked_values bound.now.query bound.now.header rows.old }) }
+    ensures tally { IfOk result (λ t. t ≡ record {
+      aggregator = bound.now.query.aggregator;
+      values = asked_values bound.now.query bound.now.header rows.old;
+    }) }
     ensures sound { IfOk result (λ _. first_fault bound.now.query bound.now.header 1 rows.old ≡ None) }
-    ensures fault { IfErr result (λ e. (e ≡ CellFault.OutOfMemory) ⊎ TellsFault e (first_fault bound.now.query bound.now.header 1 rows.old)) }
+    ensures fault { IfErr result (λ e. (e ≡ CellFault.OutOfMemory)
+        ⊎ TellsFault e (first_fault bound.now.query bound.now.header 1 rows.old)) }
 {
     let mut tally = Tally::new(alloc, bound.aggregator());
     let mut row = Record::new(alloc);

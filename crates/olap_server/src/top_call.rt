@@ -23,6 +23,7 @@ pub fn run<D: Depot, O: Sink>(
     depot: &mut D,
     output: &mut O,
 ) -> Status
+    // The status has its cause, and its text was written.
     ensures told { result ≢ Status.Sink → IsTold (map string_bytes words.now) (record {
       files = D.files depot.old;
       faults_before = D.faults depot.old;
@@ -94,7 +95,8 @@ fn reply_to_command<D: Depot>(alloc: Global, command: &CellCommand<'_>, depot: &
 
 // What is to be said of the command's file.
 fn reply_to_file(alloc: Global, command: &CellCommand<'_>, bytes: &[u8]) -> Reply
-    ensures { AnswerTells (answer_of command.now.query (file_records bytes.now)) command.now.file result.status result.text ⊎ (result ≡ no_memory) }
+    ensures { AnswerTells (answer_of command.now.query (file_records bytes.now)) command.now.file result.status result.text
+        ⊎ (result ≡ no_memory) }
 {
     match cell_of_csv(
         alloc,
@@ -110,7 +112,8 @@ fn reply_to_file(alloc: Global, command: &CellCommand<'_>, bytes: &[u8]) -> Repl
 
 // What is to be said of a fault.
 fn reply_to_fault(alloc: Global, file: &str, fault: &CellFault) -> Reply
-    ensures { IsSaid (fault.now ≢ CellFault.OutOfMemory) Status.Schema (line (codes "FACT " ++ name_text file.now ++ codes " " ++ refusal_text fault.now)) result }
+    ensures { IsSaid (fault.now ≢ CellFault.OutOfMemory) Status.Schema
+        (line (codes "FACT " ++ name_text file.now ++ codes " " ++ refusal_text fault.now)) result }
 {
     match fault {
         CellFault::OutOfMemory => no_memory(),
@@ -123,7 +126,9 @@ fn reply_to_fault(alloc: Global, file: &str, fault: &CellFault) -> Reply
 
 // A reply of a text, where there was memory for it.
 fn made_reply(status: Status, text: Result<Text, OutOfMemory>) -> Reply
-    ensures { MatchResult text (λ t. result ≡ record { status = status; text = t }) (λ _. result ≡ no_memory) }
+    ensures { MatchResult text
+        (λ t. result ≡ record { status = status; text = t })
+        (λ _. result ≡ no_memory) }
 {
     match text {
         Ok(text) => Reply::made(status, text),
@@ -158,7 +163,8 @@ fn column_text(alloc: Global, column: &str) -> Result<Text, OutOfMemory>
 
 #[tactic(auto, using(std::proofs::Common::append_assoc))]
 fn refusal_line(alloc: Global, file: &str, fault: &CellFault) -> Result<Text, OutOfMemory>
-    ensures { IfOk result (λ t. t ≡ line (codes "FACT " ++ name_text file.now ++ codes " " ++ refusal_text fault.now)) }
+    ensures { IfOk result (λ t.
+        t ≡ line (codes "FACT " ++ name_text file.now ++ codes " " ++ refusal_text fault.now)) }
 {
     let name = name_text(alloc, file)?;
     let told = refusal_text(alloc, fault)?;

@@ -149,7 +149,7 @@ fn commands_over_the_sample_file(rt: HostRuntime) -> Result<(), Fail> {
     Ok(())
 }
 
-const FILES: [(&[u8], &str, Status, &str); 21] = [
+const FILES: [(&[u8], &str, Status, &str); 23] = [
     (
         TIME,
         "cell f quarter sum",
@@ -236,6 +236,18 @@ const FILES: [(&[u8], &str, Status, &str); 21] = [
     (b"v\n", "cell f v count", Status::Done, "\n"),
     (b"v\n\"\"\n", "cell f v count", Status::Done, "0\n"),
     (b"v\n1\n2\n", "cell f v avg", Status::Done, "1.50\n"),
+    (
+        b"v,w\n1,\xC3\xA9\n2,e\n",
+        "cell f v sum w é",
+        Status::Done,
+        "1\n",
+    ),
+    (
+        b"v\n999999999999999999\n1000000000000000000\n",
+        "cell f v sum",
+        Status::Done,
+        "1999999999999999999\n",
+    ),
 ];
 
 #[test]

@@ -1,5 +1,5 @@
 //! Where files come from.
-ghost use Rattle.std.specs.Prelude.{◌≡◌, ◌<◌, ◌≤◌, OnOk, OnErr, IfOk, IfSome, IsErrOf, Some, None, ℕ, List, Option};
+ghost use Rattle.std.specs.Prelude.{◌≡◌, ◌<◌, ◌≤◌, IfOk, IfSome, IsErrOf, Some, None, ℕ, List, Option};
 ghost use Rattle.outside.specs.Told.{file_named};
 
 use olap_base::List;

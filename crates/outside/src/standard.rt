@@ -1,6 +1,5 @@
 //! The real outside: a folder's files, and the standard output. These few lines are the trusted edge: a contract can not
 //! say what a file holds or where printed bytes go.
-ghost use Rattle.std.specs.Prelude.{◌≡◌};
 
 use crate::depot::{Depot, DepotRefusal};
 use crate::fault_count::FaultCount;

@@ -1,6 +1,5 @@
-use Rattle.std.proofs.Common.{◌≡◌, ◌<◌, ◌∙◌, ◌&&◌, ◌+◌, Some, true, false, map, drop, length, sym, ap, arith, bytes_eq}
-use Rattle.std.specs.List.{list_all}
-use Rattle.olap_meaning.specs.Records.{column_place, field_in}
+use Rattle.std.proofs.Common.{◌≡◌, ◌∙◌, Some, true, false, map, length, sym, ap, arith, bytes_eq}
+use Rattle.olap_meaning.specs.Records.{column_place}
 use Rattle.olap_server.proofs.PlaceFacts.{place_of_item, place_within, asked_from, not_true, not_false}
 use Rattle.olap_server.proofs.bound_query.BoundQuery.asks_for.Goals as goal
 

@@ -1,4 +1,4 @@
-use Rattle.std.proofs.Common.{◌≡◌, ◌<◌, true, length, arith}
+use Rattle.std.proofs.Common.{◌≡◌, true, arith}
 use Rattle.olap_meaning.specs.Records.{is_csv}
 use Rattle.olap_server.proofs.PlaceFacts.{place_within, csv_width}
 use Rattle.olap_server.proofs.bound_query.BoundQuery.value.Goals as goal

@@ -1,7 +1,7 @@
 use Rattle.std.proofs.Common.{◌≡◌, ◌∙◌, true, false, sym}
 use Rattle.std.specs.Str.{is_utf8}
 use Rattle.csv_records.proofs.FieldFacts.{list_all_drop}
-use Rattle.csv_records.proofs.record.Record.is_text.Goals as goal
+use Rattle.csv_records.proofs.record.Record.has_text_fields.Goals as goal
 
 pub returns-then-not-is_text : goal.returns-then-not-is_text
 returns-then-not-is_text c =

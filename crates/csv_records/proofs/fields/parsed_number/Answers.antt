@@ -1,6 +1,6 @@
 use Rattle.std.proofs.Common.{◌∙◌}
 use Rattle.csv_records.proofs.NumberFacts.{number_of_no_text, number_of_text}
-use Rattle.csv_records.proofs.fields.number.Goals as goal
+use Rattle.csv_records.proofs.fields.parsed_number.Goals as goal
 
 pub returns-in_default : goal.returns-in_default
 returns-in_default c = number_of_no_text c.args.field.now c.in_default.ensures.cases.0

@@ -1,0 +1,11 @@
+pub mod Positions
+pub mod Versions
+pub mod Loads
+pub mod Fresh
+pub mod ReachUp
+pub mod Steps
+pub mod ByPosition
+pub mod Growing
+pub mod Sources
+pub mod Examples
+pub mod Legality

@@ -1,0 +1,105 @@
+//! Laws of the definitions alone: each is the contract of a function with an empty body.
+
+ghost use Rattle.olap_meaning.specs.Equivalents.{FloorIsGreatest, LiveIsByPosition, AwaitedIsByPosition, ExactSourceIsGreatest};
+ghost use Rattle.olap_meaning.specs.Growth.{LegalGrows, VersionGrows, FloorGrows, ExactSourceGrows, AwaitedLoadGrows};
+ghost use Rattle.olap_meaning.specs.Laws.{PrefixesAreLegal, VersionsRise, AnswersAreFresh, AnswersAreServed, FlushesShutOff, OthersServeOn, RegionsReachUp, LoadsAreNotDoubled, LoadsEndOnce, CallsRise, SomeAnswerIsLegal};
+
+/// A prefix of a legal history is legal.
+pub fn prefixes_are_legal()
+    ensures { PrefixesAreLegal }
+{}
+
+/// The versions of a cube only rise.
+pub fn versions_rise()
+    ensures { VersionsRise }
+{}
+
+/// No answer is older than the version at the latest flush that covers the cell.
+pub fn answers_are_fresh()
+    ensures { AnswersAreFresh }
+{}
+
+/// Each cell of an answer is worth the aggregate over one recorded version, from loads that are live for it.
+pub fn answers_are_served()
+    ensures { AnswersAreServed }
+{}
+
+/// A flush shuts off what it covers.
+pub fn flushes_shut_off()
+    ensures { FlushesShutOff }
+{}
+
+/// A flush leaves what it does not cover.
+pub fn others_serve_on()
+    ensures { OthersServeOn }
+{}
+
+/// A flush reaches the cells above it.
+pub fn regions_reach_up()
+    ensures { RegionsReachUp }
+{}
+
+/// No cell is loaded a second time while a load for it flies, unless it was flushed.
+pub fn loads_are_not_doubled()
+    ensures { LoadsAreNotDoubled }
+{}
+
+/// A load is delivered or dropped once.
+pub fn loads_end_once()
+    ensures { LoadsEndOnce }
+{}
+
+/// The call numbers of a seat rise.
+pub fn calls_rise()
+    ensures { CallsRise }
+{}
+
+/// The floor is the greatest version at a flush that covers the cell.
+pub fn floor_is_greatest()
+    ensures { FloorIsGreatest }
+{}
+
+/// What is live, position by position.
+pub fn live_is_by_position()
+    ensures { LiveIsByPosition }
+{}
+
+/// What is awaited, position by position.
+pub fn awaited_is_by_position()
+    ensures { AwaitedIsByPosition }
+{}
+
+/// The exact source is the greatest live load with just the cell's columns.
+pub fn exact_source_is_greatest()
+    ensures { ExactSourceIsGreatest }
+{}
+
+/// One more entry, and the version.
+pub fn version_grows()
+    ensures { VersionGrows }
+{}
+
+/// One more entry, and the floor.
+pub fn floor_grows()
+    ensures { FloorGrows }
+{}
+
+/// One more entry, and the exact source of a cell.
+pub fn exact_source_grows()
+    ensures { ExactSourceGrows }
+{}
+
+/// One more entry, and the load that is awaited for a cell.
+pub fn awaited_load_grows()
+    ensures { AwaitedLoadGrows }
+{}
+
+/// A legal history goes on by a legal step.
+pub fn legal_grows()
+    ensures { LegalGrows }
+{}
+
+/// Some legal history ends with an answer.
+pub fn some_answer_is_legal()
+    ensures { SomeAnswerIsLegal }
+{}

@@ -1,0 +1,4 @@
+pub mod EntryFacts
+pub mod StepFacts
+pub mod Appearances
+pub mod Fields

@@ -1,0 +1,11 @@
+use Rattle.std.proofs.Common.{◌∙◌, sym, arith, true, false}
+use Rattle.olap_plain.proofs.Fields.{counts_on}
+use Rattle.olap_plain.proofs.catalogs.count_values.Goals as goal
+use Rattle.olap_plain.proofs.catalogs.count_values.Goals.{then-new, else-new}
+
+pub loop-i-preserved : goal.loop-i-preserved
+loop-i-preserved c =
+    elim c.if-new.branch [
+      | then-new w ↦ record { counted = counts_on c.args.field c.args.records.now c.loop-i.i c.index-records-i.result c.loop-i.count c.if-new.count true c.loop-i-test.true c.index-records-i.is (sym w.if-new.true ∙ c.adds_value-new.ensures) (w.count-is) c.loop-i.invariant.counted; within = omega arith }
+      | else-new w ↦ record { counted = counts_on c.args.field c.args.records.now c.loop-i.i c.index-records-i.result c.loop-i.count c.if-new.count false c.loop-i-test.true c.index-records-i.is (sym w.if-new.false ∙ c.adds_value-new.ensures) (w.count-is ∙ omega arith) c.loop-i.invariant.counted; within = omega arith }
+    ]

@@ -1,0 +1,13 @@
+//! The definitions as plain, slow code, for tests: later crates compare their faster bodies with these.
+//!
+//! Each body walks whole lists each time, and its contract is the definition of `olap_meaning` that it computes.
+#![tactic(auto)]
+
+ghost use Rattle.std.specs.Prelude.{◌≡◌};
+
+pub mod catalogs;
+mod entries;
+pub mod history;
+pub mod steps;
+
+pub use entries::PlainEntry;
