@@ -5,6 +5,4 @@
 #[cfg(test)]
 mod cell;
 #[cfg(test)]
-mod definitions;
-#[cfg(test)]
 mod standard;

@@ -1,4 +1,4 @@
-//! Small histories worked by hand, on the plain bodies of the definitions.
+//! A catalog of one dimension, a history over it, and what the definitions say of both.
 use olap_meaning::tables::{
     Catalog, Column, Cube, Dimension, Hierarchy, Measure, Record, Row, Setting,
 };
