@@ -232,7 +232,7 @@ fn entry(alloc: Global, step: Step) -> Result<PlainEntry, OutOfMemory> {
 }
 
 /// The steps of a small history, and among them steps that are not legal where they stand.
-const STEPS: [(bool, Step); 34] = [
+const STEPS: [(bool, Step); 36] = [
     // The base rows: as the first version, of leaves that there are, within the limit.
     (false, Step::Append(1, 2, 0, 1)),
     (false, Step::Append(1, 1, 3, 1)),
@@ -274,6 +274,9 @@ const STEPS: [(bool, Step); 34] = [
     (false, Step::Answer(1, 6, Asked::Year, 12)),
     (true, Step::Saw(1, 6)),
     (true, Step::Start(2, 2, Asked::Year)),
+    // No answer from that load of an older version, after a flush of the second quarter.
+    (true, Step::Flush(7, RegionDim::Measures, 1, Some(1))),
+    (false, Step::Answer(2, 2, Asked::Second, 5)),
 ];
 
 fn no_memory(_fault: OutOfMemory) -> Fail {
@@ -304,7 +307,7 @@ fn a_small_history_is_legal_step_by_step(rt: HostRuntime) -> Result<(), Fail> {
             history.push(next)?;
         }
     }
-    assert_eq!(rt; history.len(), 16);
+    assert_eq!(rt; history.len(), 17);
     assert!(rt; is_legal(&setting, history.as_slice()));
     Ok(())
 }
