@@ -1,4 +1,5 @@
 //! A catalog of one dimension, a history over it, and what the definitions say of both.
+use olap_meaning::schema::Schema;
 use olap_meaning::tables::{
     Catalog, Column, Cube, Dimension, Hierarchy, Measure, Record, Row, Setting,
 };
@@ -13,6 +14,7 @@ use olap_plain::catalogs::{
 use olap_plain::history::{awaited, exact_source, floor, live};
 use olap_plain::steps::{is_legal, legal_step};
 use std::alloc::Global;
+use std::process::Abort;
 use std::test::Fail;
 
 fn text(alloc: Global, s: &str) -> Result<Text, OutOfMemory> {
@@ -37,37 +39,77 @@ fn column(alloc: Global, name: &str, field: u32) -> Result<Column, OutOfMemory> 
     })
 }
 
-/// One dimension of time with two levels, and one cube with the sum of a fact column.
-fn setting(alloc: Global) -> Result<Setting, OutOfMemory> {
+fn records(alloc: Global) -> Result<List<Record>, OutOfMemory> {
     let mut records = List::new(alloc);
-    records.push(leaf(alloc, "a", "2024", "Q1")?)?;
-    records.push(leaf(alloc, "b", "2024", "Q2")?)?;
-    records.push(leaf(alloc, "c", "2023", "Q1")?)?;
+    for (key, year, quarter) in [
+        ("a", "2024", "Q1"),
+        ("b", "2024", "Q2"),
+        ("c", "2023", "Q1"),
+    ] {
+        records.push(leaf(alloc, key, year, quarter)?)?;
+    }
+    Ok(records)
+}
+
+fn dimensions(alloc: Global) -> Result<List<Dimension>, OutOfMemory> {
+    let records = records(alloc)?;
+    let name = text(alloc, "Time")?;
     let mut dimensions = List::new(alloc);
-    dimensions.push(Dimension {
-        name: text(alloc, "Time")?,
-        records,
-    })?;
+    dimensions.push(Dimension { name, records })?;
+    Ok(dimensions)
+}
+
+fn columns(alloc: Global) -> Result<List<Column>, OutOfMemory> {
     let mut columns = List::new(alloc);
-    columns.push(column(alloc, "Year", 0)?)?;
-    columns.push(column(alloc, "Quarter", 1)?)?;
+    for (name, field) in [("Year", 0), ("Quarter", 1)] {
+        columns.push(column(alloc, name, field)?)?;
+    }
+    Ok(columns)
+}
+
+fn measures(alloc: Global) -> Result<List<Measure>, OutOfMemory> {
+    let name = text(alloc, "Units")?;
+    let column = text(alloc, "units")?;
     let mut measures = List::new(alloc);
     measures.push(Measure {
-        name: text(alloc, "Units")?,
-        column: text(alloc, "units")?,
+        name,
+        column,
         aggregator: Aggregator::Sum,
     })?;
-    let mut uses = List::new(alloc);
-    uses.push(0)?;
+    Ok(measures)
+}
+
+fn cubes(alloc: Global) -> Result<List<Cube>, OutOfMemory> {
+    let measures = measures(alloc)?;
+    let name = text(alloc, "Sales")?;
+    let mut dimensions = List::new(alloc);
+    dimensions.push(0)?;
     let mut cubes = List::new(alloc);
     cubes.push(Cube {
-        name: text(alloc, "Sales")?,
-        dimensions: uses,
+        name,
+        dimensions,
         measures,
     })?;
+    Ok(cubes)
+}
+
+fn no_schema(alloc: Global) -> Schema {
+    Schema {
+        dimensions: List::new(alloc),
+        cubes: List::new(alloc),
+        aggregates: List::new(alloc),
+    }
+}
+
+/// One dimension of time with two levels, and one cube with the sum of a fact column.
+fn setting(alloc: Global) -> Result<Setting, OutOfMemory> {
+    let dimensions = dimensions(alloc)?;
+    let columns = columns(alloc)?;
+    let cubes = cubes(alloc)?;
     let hierarchies: List<Hierarchy> = List::new(alloc);
     Ok(Setting {
         catalog: Catalog {
+            schema: no_schema(alloc),
             dimensions,
             columns,
             hierarchies,
@@ -294,91 +336,123 @@ fn small_history(alloc: Global, length: usize) -> Result<Vec<PlainEntry>, OutOfM
     Ok(history)
 }
 
-#[test]
-fn a_small_history_is_legal_step_by_step(rt: HostRuntime) -> Result<(), Fail> {
-    let alloc = rt.alloc();
-    let setting = setting(alloc).map_err(no_memory)?;
+// Whether each step is legal where it stands, exactly as the table says; and so is the history of the legal ones.
+fn tell_steps(rt: &impl Abort, alloc: Global, setting: &Setting) -> Result<(), Fail> {
     let mut history = Vec::new(alloc);
     for (legal, step) in STEPS {
         let next = entry(alloc, step).map_err(no_memory)?;
-        let is = legal_step(&setting, history.as_slice(), &next);
+        let is = legal_step(setting, history.as_slice(), &next);
         assert_eq!(rt; is, legal, "after {}", history.len());
         if legal {
             history.push(next)?;
         }
     }
     assert_eq!(rt; history.len(), 17);
-    assert!(rt; is_legal(&setting, history.as_slice()));
+    assert!(rt; is_legal(setting, history.as_slice()));
     Ok(())
 }
 
 #[test]
-fn floors_and_sources_follow_the_flushes(rt: HostRuntime) -> Result<(), Fail> {
-    let alloc = rt.alloc();
-    let year = year(alloc).map_err(no_memory)?;
-    let first = quarter(alloc, 0).map_err(no_memory)?;
-    let second = quarter(alloc, 1).map_err(no_memory)?;
-    // After so many entries: the floors of the year, the first and the second quarter.
-    for (n, of_year, of_first, of_second) in [
-        (5, 0, 0, 0),
-        (6, 1, 1, 0),
-        (12, 1, 1, 0),
-        (13, 2, 2, 0),
-    ] {
-        let history = small_history(alloc, n).map_err(no_memory)?;
-        let before = history.as_slice();
-        assert_eq!(rt; floor(before, &year), of_year, "year after {n}");
-        assert_eq!(rt; floor(before, &first), of_first, "first after {n}");
-        assert_eq!(rt; floor(before, &second), of_second, "second after {n}");
-    }
-    // The exact sources of the year and the second quarter, and whether the load at 12 is awaited and live for the year.
-    for (n, of_year, of_second, is_awaited, is_live) in [
-        (2, None, None, false, false),
-        (3, Some(2), None, false, false),
-        (6, None, None, false, false),
-        (7, None, Some(5), false, false),
-        (12, None, Some(5), true, false),
-        (13, None, Some(5), false, false),
-        (14, None, Some(5), false, false),
-    ] {
-        let history = small_history(alloc, n).map_err(no_memory)?;
-        let before = history.as_slice();
-        assert_eq!(rt; exact_source(before, &year), of_year, "year after {n}");
-        assert_eq!(rt;
-            exact_source(before, &second),
-            of_second,
-            "second after {n}"
-        );
-        assert_eq!(rt; awaited(before, 12, &year), is_awaited, "awaited after {n}");
-        assert_eq!(rt; live(before, 12, &year), is_live, "live after {n}");
+fn a_small_history_is_legal_step_by_step(rt: HostRuntime) -> Result<(), Fail> {
+    let setting = setting(rt.alloc()).map_err(no_memory)?;
+    tell_steps(&rt, rt.alloc(), &setting)
+}
+
+// The floor of a cell after so many entries.
+fn floor_after(alloc: Global, n: usize, of: Asked) -> Result<usize, OutOfMemory> {
+    let history = small_history(alloc, n)?;
+    let cell = cell_of(alloc, of)?;
+    Ok(floor(history.as_slice(), &cell))
+}
+
+// The exact source of a cell after so many entries.
+fn source_after(alloc: Global, n: usize, of: Asked) -> Result<Option<u64>, OutOfMemory> {
+    let history = small_history(alloc, n)?;
+    let cell = cell_of(alloc, of)?;
+    Ok(exact_source(history.as_slice(), &cell))
+}
+
+// Whether the load at 12 is awaited, and whether it is live, for the year after so many entries.
+fn load_after(alloc: Global, n: usize) -> Result<(bool, bool), OutOfMemory> {
+    let history = small_history(alloc, n)?;
+    let year = year(alloc)?;
+    let before = history.as_slice();
+    Ok((awaited(before, 12, &year), live(before, 12, &year)))
+}
+
+/// After so many entries, the floor of a cell.
+const FLOORS: [(usize, Asked, usize); 12] = [
+    (5, Asked::Year, 0),
+    (5, Asked::First, 0),
+    (5, Asked::Second, 0),
+    (6, Asked::Year, 1),
+    (6, Asked::First, 1),
+    (6, Asked::Second, 0),
+    (12, Asked::Year, 1),
+    (12, Asked::First, 1),
+    (12, Asked::Second, 0),
+    (13, Asked::Year, 2),
+    (13, Asked::First, 2),
+    (13, Asked::Second, 0),
+];
+
+/// After so many entries, the exact source of a cell.
+const SOURCES: [(usize, Asked, Option<u64>); 14] = [
+    (2, Asked::Year, None),
+    (2, Asked::Second, None),
+    (3, Asked::Year, Some(2)),
+    (3, Asked::Second, None),
+    (6, Asked::Year, None),
+    (6, Asked::Second, None),
+    (7, Asked::Year, None),
+    (7, Asked::Second, Some(5)),
+    (12, Asked::Year, None),
+    (12, Asked::Second, Some(5)),
+    (13, Asked::Year, None),
+    (13, Asked::Second, Some(5)),
+    (14, Asked::Year, None),
+    (14, Asked::Second, Some(5)),
+];
+
+#[test]
+fn floors_follow_the_flushes(rt: HostRuntime) -> Result<(), Fail> {
+    for (n, of, floor) in FLOORS {
+        let is = floor_after(rt.alloc(), n, of).map_err(no_memory)?;
+        assert_eq!(rt; is, floor, "after {n}");
     }
     Ok(())
 }
 
 #[test]
-fn values_are_numbered_by_first_appearance(rt: HostRuntime) -> Result<(), Fail> {
-    let alloc = rt.alloc();
-    let setting = setting(alloc).map_err(no_memory)?;
-    let catalog = &setting.catalog;
+fn sources_follow_the_flushes(rt: HostRuntime) -> Result<(), Fail> {
+    for (n, of, source) in SOURCES {
+        let is = source_after(rt.alloc(), n, of).map_err(no_memory)?;
+        assert_eq!(rt; is, source, "after {n}");
+    }
+    Ok(())
+}
+
+#[test]
+fn a_load_is_awaited_and_not_live_after_a_flush(rt: HostRuntime) -> Result<(), Fail> {
+    for (n, is_awaited) in [(2, false), (7, false), (12, true), (13, false), (14, false)] {
+        let is = load_after(rt.alloc(), n).map_err(no_memory)?;
+        assert_eq!(rt; is, (is_awaited, false), "after {n}");
+    }
+    Ok(())
+}
+
+// The names of the levels, and one of them in another case.
+fn names(alloc: Global) -> Result<List<Text>, OutOfMemory> {
     let mut names = List::new(alloc);
     for name in ["YEAR", "Quarter", "Year"] {
-        names
-            .push(text(alloc, name).map_err(no_memory)?)
-            .map_err(no_memory)?;
+        names.push(text(alloc, name)?)?;
     }
-    assert_eq!(rt; value_count(catalog, ColumnId(1)), 2);
-    assert_eq!(rt; value_number(catalog, ColumnId(0), "2023"), Some(1));
-    assert_eq!(rt; value_number(catalog, ColumnId(1), "q1"), None);
-    for (leaf, number) in [(0, Some(0)), (1, Some(1)), (2, Some(0)), (3, None)] {
-        assert_eq!(rt; leaf_value(catalog, ColumnId(1), LeafId(leaf)), number);
-    }
-    let second = quarter(alloc, 1).map_err(no_memory)?;
-    let year = year(alloc).map_err(no_memory)?;
-    for (leaf, in_year, in_second) in [(0, true, false), (1, true, true), (2, false, false)] {
-        let row = row(alloc, leaf, 5).map_err(no_memory)?;
-        assert_eq!(rt; row_in(catalog, &year, &row), in_year);
-        assert_eq!(rt; row_in(catalog, &second, &row), in_second);
-    }
+    Ok(names)
+}
+
+#[test]
+fn exact_names_go_before_others(rt: HostRuntime) -> Result<(), Fail> {
+    let names = names(rt.alloc()).map_err(no_memory)?;
     for (name, place) in [
         ("Year", Some(2)),
         ("year", Some(0)),
@@ -387,8 +461,52 @@ fn values_are_numbered_by_first_appearance(rt: HostRuntime) -> Result<(), Fail> 
     ] {
         assert_eq!(rt; match_of(name, names.as_slice()), place);
     }
+    Ok(())
+}
+
+fn tell_values(rt: &impl Abort, catalog: &Catalog) {
+    assert_eq!(rt; value_count(catalog, ColumnId(1)), 2);
+    assert_eq!(rt; value_number(catalog, ColumnId(0), "2023"), Some(1));
+    assert_eq!(rt; value_number(catalog, ColumnId(1), "q1"), None);
+    for (leaf, number) in [(0, Some(0)), (1, Some(1)), (2, Some(0)), (3, None)] {
+        assert_eq!(rt; leaf_value(catalog, ColumnId(1), LeafId(leaf)), number);
+    }
     for cube in catalog.cubes.as_slice() {
         assert_eq!(rt; fact_column_count(cube), 1);
     }
+}
+
+#[test]
+fn values_are_numbered_by_first_appearance(rt: HostRuntime) -> Result<(), Fail> {
+    let setting = setting(rt.alloc()).map_err(no_memory)?;
+    tell_values(&rt, &setting.catalog);
     Ok(())
+}
+
+// Whether a row of a leaf is in a cell.
+fn is_in(alloc: Global, catalog: &Catalog, of: Asked, leaf: u32) -> Result<bool, OutOfMemory> {
+    let cell = cell_of(alloc, of)?;
+    let row = row(alloc, leaf, 5)?;
+    Ok(row_in(catalog, &cell, &row))
+}
+
+fn tell_rows(rt: &impl Abort, alloc: Global, catalog: &Catalog) -> Result<(), Fail> {
+    for (leaf, of, is) in [
+        (0, Asked::Year, true),
+        (0, Asked::Second, false),
+        (1, Asked::Year, true),
+        (1, Asked::Second, true),
+        (2, Asked::Year, false),
+        (2, Asked::Second, false),
+    ] {
+        let is_in = is_in(alloc, catalog, of, leaf).map_err(no_memory)?;
+        assert_eq!(rt; is_in, is);
+    }
+    Ok(())
+}
+
+#[test]
+fn rows_are_in_the_cells_of_their_leaves(rt: HostRuntime) -> Result<(), Fail> {
+    let setting = setting(rt.alloc()).map_err(no_memory)?;
+    tell_rows(&rt, rt.alloc(), &setting.catalog)
 }

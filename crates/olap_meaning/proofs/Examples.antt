@@ -87,6 +87,7 @@ leaf key year quarter = record { key = key; fields = year ∷ quarter ∷ [] }
 -- four days in three quarters of two years, and two stores; the hierarchy of stores has no all member
 abbrev pub catalog : Catalog
 catalog = record {
+  schema = record { dimensions = []; cubes = []; aggregates = [] };
   dimensions =
       (record { name = codes "Time"; records = leaf (codes "a") (codes "2024") (codes "Q1") ∷ leaf (codes "b") (codes "2024") (codes "Q2") ∷ leaf (codes "c") (codes "2023") (codes "Q1") ∷ leaf (codes "d") (codes "2024") (codes "Q1") ∷ [] })
       ∷ (record { name = codes "Store"; records = (record { key = codes "x"; fields = codes "Rome" ∷ [] }) ∷ (record { key = codes "y"; fields = codes "Bern" ∷ [] }) ∷ [] }) ∷ [];

@@ -9,3 +9,4 @@ pub mod Growing
 pub mod Sources
 pub mod Examples
 pub mod Legality
+pub mod Appearances

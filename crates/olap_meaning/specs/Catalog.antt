@@ -116,18 +116,27 @@ member_name catalog cube (member.At h (value ∷ rest)) =
     (slice_get catalog.hierarchies h))
     []
 
+-- the cube that a name means
+abbrev pub find_cube : Catalog → List ℕ → Option ℕ
+find_cube catalog name = match_of name (map (λ cube. cube.name) catalog.cubes)
+
+-- the leaf with exactly this primary key
+abbrev pub find_leaf : Catalog → ℕ → List ℕ → Option ℕ
+find_leaf catalog dimension key = position (λ leaf. bytes_eq key leaf.key) (records catalog dimension)
+
 -- the full name of a hierarchy: its own where that is its dimension's, else the dimension's name, a dot, and its own
 abbrev pub full_name : Catalog → Hierarchy → List ℕ
 full_name catalog hierarchy =
     let dimension = option_map_or (λ d. d.name) (slice_get catalog.dimensions hierarchy.dimension) [] in
     if bytes_eq hierarchy.name dimension then hierarchy.name else dimension ++ codes "." ++ hierarchy.name
 
+-- the hierarchies of a dimension, in the schema's order
+abbrev pub hierarchies_in : Catalog → ℕ → List ℕ
+hierarchies_in catalog dimension = map (λ h. h.0) (filter (λ h. h.1.dimension == dimension) (enumerate_from 0 catalog.hierarchies))
+
 -- the hierarchies of a cube: those of its dimensions, in the order of its uses, and those of one dimension in the schema's order
 abbrev pub hierarchies_of : Catalog → ℕ → List ℕ
-hierarchies_of catalog cube = flat_map of_dimension (option_map_or (λ c. c.dimensions) (slice_get catalog.cubes cube) [])
-  where
-    of_dimension : ℕ → List ℕ
-    of_dimension d = map (λ h. h.0) (filter (λ h. h.1.dimension == d) (enumerate_from 0 catalog.hierarchies))
+hierarchies_of catalog cube = option_map_or (λ c. flat_map (hierarchies_in catalog) c.dimensions) (slice_get catalog.cubes cube) []
 
 -- what the first name of a path may mean: the measures, or a hierarchy of the cube
 abbrev pub roots : Catalog → ℕ → List LevelRef
@@ -167,10 +176,12 @@ named_below catalog cube (name ∷ names) members found = and_then (λ next. nam
 abbrev pub find_root : Catalog → ℕ → List ℕ → Option LevelRef
 find_root catalog cube name = option_and_then (slice_get (roots catalog cube)) (match_of name (map (root_name catalog) (roots catalog cube)))
 
+-- the member that the names after a root lead to: the root's default member where there are none
+abbrev pub member_from : Catalog → ℕ → List ℕ → List (List ℕ) → Option LevelRef → Result Member (List ℕ)
+member_from catalog cube name names None = Err name
+member_from catalog cube name names (Some root) =
+    and_then (named_below catalog cube names (first_members catalog cube root)) (ok_or (default_member catalog cube root) name)
+
 -- the member that a path of names means in a cube: the default member of a root alone; else as the names lead on; or the first name without a match
 abbrev pub find_member : Catalog → ℕ → List ℕ → List (List ℕ) → Result Member (List ℕ)
-find_member catalog cube name names = from_root (find_root catalog cube name)
-  where
-    from_root : Option LevelRef → Result Member (List ℕ)
-    from_root None = Err name
-    from_root (Some root) = and_then (named_below catalog cube names (first_members catalog cube root)) (ok_or (default_member catalog cube root) name)
+find_member catalog cube name names = member_from catalog cube name names (find_root catalog cube name)

@@ -4,6 +4,7 @@ pub mod Records
 pub mod FileQuery
 pub mod Commands
 pub mod Catalog
+pub mod Schema
 pub mod Covering
 pub mod History
 pub mod Worth

@@ -9,6 +9,7 @@ mod ids;
 pub mod laws;
 mod list;
 mod regions;
+pub mod schema;
 pub mod tables;
 mod text;
 

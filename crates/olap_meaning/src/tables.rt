@@ -1,6 +1,7 @@
 //! A catalog as plain data: a schema, and the table of each of its dimensions as a list of records.
 ghost use Rattle.std.specs.Prelude.{◌≡◌};
 
+use crate::schema::Schema;
 use crate::{Aggregator, ColumnId, LeafId, List, Text};
 
 /// A record of a dimension's table: its primary key, and its fields.
@@ -57,9 +58,10 @@ pub struct Row {
     pub values: List<Option<i64>>,
 }
 
-/// A catalog.
+/// A catalog: its schema, and what the schema and the tables of its dimensions give.
 #[derive(Drop)]
 pub struct Catalog {
+    pub schema: Schema,
     pub dimensions: List<Dimension>,
     pub columns: List<Column>,
     pub hierarchies: List<Hierarchy>,

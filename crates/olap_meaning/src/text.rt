@@ -36,6 +36,12 @@ impl Text {
         Text { inner }
     }
 
+    pub fn into_string(self) -> String
+        ensures { string_bytes result ≡ self }
+    {
+        self.inner
+    }
+
     pub fn as_str(&self) -> &str
         ensures { result.now ≡ self.now }
     {

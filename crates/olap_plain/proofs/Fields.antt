@@ -10,7 +10,7 @@ use Rattle.olap_meaning.specs.Catalog.{first_appearances, field_texts}
 use Rattle.std.proofs.lemmas.List.Folds.{list_any-append}
 use Rattle.std.proofs.lemmas.Bool.{or_from}
 use Rattle.olap_meaning.proofs.Loads.{some_and}
-use Rattle.olap_plain.proofs.Appearances.{count_push, number_here, number_none}
+use Rattle.olap_meaning.proofs.Appearances.{count_push, number_here, number_none}
 
 -- a test of what a function gives, element by element
 pub any-filter_map : {A B : Type 0} (test : B → Bool) (h : A → Option B) (xs : List A) → list_any test (filter_map h xs) ≡ list_any (λ x. is_some_and test (h x)) xs

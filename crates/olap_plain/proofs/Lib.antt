@@ -1,4 +1,3 @@
 pub mod EntryFacts
 pub mod StepFacts
-pub mod Appearances
 pub mod Fields

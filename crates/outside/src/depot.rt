@@ -2,7 +2,7 @@
 ghost use Rattle.std.specs.Prelude.{◌≡◌, ◌<◌, ◌≤◌, IfOk, IfSome, IsErrOf, Some, None, ℕ, List, Option};
 ghost use Rattle.outside.specs.Told.{file_named};
 
-use olap_base::List;
+use olap_meaning::List;
 use std::alloc::Global;
 use std::fmt;
 

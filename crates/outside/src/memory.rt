@@ -6,7 +6,7 @@ ghost use Rattle.outside.specs.Told.{TakesFront, file_named};
 use crate::depot::{Depot, DepotRefusal};
 use crate::fault_count::FaultCount;
 use crate::sink::{Failed, Sink};
-use olap_base::{List, Text};
+use olap_meaning::{List, Text};
 use std::alloc::Global;
 use std::marker::Model;
 

@@ -4,7 +4,7 @@
 use crate::depot::{Depot, DepotRefusal};
 use crate::fault_count::FaultCount;
 use crate::sink::{Failed, Sink};
-use olap_base::List;
+use olap_meaning::List;
 use std::alloc::Global;
 use std::io::{ErrorKind, Write};
 use std::rt::Files;

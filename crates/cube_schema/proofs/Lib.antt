@@ -1,0 +1,4 @@
+pub mod JsonFacts
+pub mod LimitFacts
+pub mod ListFacts
+pub mod StepFacts

@@ -1,0 +1,89 @@
+//! A schema from the bytes of its file.
+ghost use Rattle.std.specs.Prelude.{◌≡◌, ◌⊎◌, [], Ok, Err, IfOk, IfErr};
+ghost use Rattle.olap_meaning.specs.Schema.{IsWithinLimits};
+ghost use Rattle.serde_json.specs.View.{view};
+ghost use Rattle.cube_schema.specs.declared.fault.SchemaFault.TheVariants.{OutOfMemory as NoMemory};
+ghost use Rattle.cube_schema.specs.Schemas.{aggregates_at, cubes_at, dimensions_at, schema_in, schema_of};
+
+use crate::cubes::read_cubes;
+use crate::dimensions::read_dimensions;
+use crate::fault::SchemaFault;
+use crate::fields::{check_count, check_filled, check_object, find_list, read_json};
+use crate::place::{SchemaKey, SchemaNode, SchemaPlace};
+use olap_meaning::List;
+use olap_meaning::schema::{
+    CUBE_LIMIT, DIMENSION_LIMIT, Schema, SchemaAggregate, SchemaCube, SchemaDimension,
+};
+use serde_json::Value;
+use std::alloc::Global;
+
+// The dimensions of a schema.
+#[tactic(auto, unfolding(crate::specs::Schemas::dimensions_at))]
+fn top_dimensions(alloc: Global, value: &Value) -> Result<List<SchemaDimension>, SchemaFault>
+    ensures ok { IfOk result (λ dimensions. dimensions_at (view value.now) ≡ Ok dimensions) }
+    ensures err { IfErr result (λ fault. (fault ≡ NoMemory) ⊎ (dimensions_at (view value.now) ≡ Err fault)) }
+{
+    let node = SchemaNode::Schema;
+    let key = SchemaKey::Dimensions;
+    let items = find_list(node, key, value)?;
+    check_count(SchemaPlace::Key { node, key }, items.len(), DIMENSION_LIMIT)?;
+    read_dimensions(alloc, items)
+}
+
+// The cubes of a schema, over its dimensions.
+#[tactic(auto, unfolding(crate::specs::Schemas::cubes_at))]
+fn top_cubes(
+    alloc: Global,
+    dimensions: &[SchemaDimension],
+    value: &Value,
+) -> Result<List<SchemaCube>, SchemaFault>
+    ensures ok { IfOk result (λ cubes. cubes_at dimensions.now (view value.now) ≡ Ok cubes) }
+    ensures err { IfErr result (λ fault. (fault ≡ NoMemory) ⊎ (cubes_at dimensions.now (view value.now) ≡ Err fault)) }
+{
+    let node = SchemaNode::Schema;
+    let key = SchemaKey::Cubes;
+    let items = find_list(node, key, value)?;
+    check_count(SchemaPlace::Key { node, key }, items.len(), CUBE_LIMIT)?;
+    check_filled(SchemaNode::Cube { cube: 0 }, items)?;
+    read_cubes(alloc, dimensions, items)
+}
+
+// The aggregate tables of a schema: none yet.
+#[tactic(auto, unfolding(crate::specs::Schemas::aggregates_at))]
+fn top_aggregates(alloc: Global, value: &Value) -> Result<List<SchemaAggregate>, SchemaFault>
+    ensures ok { IfOk result (λ aggregates. aggregates_at (view value.now) ≡ Ok aggregates) }
+    ensures err { IfErr result (λ fault. aggregates_at (view value.now) ≡ Err fault) }
+{
+    match value.get(SchemaKey::Aggregates.text()) {
+        Some(_) => Err(SchemaFault::Aggregates),
+        None => Ok(List::new(alloc)),
+    }
+}
+
+// The schema that a JSON value is.
+#[tactic(auto, unfolding(crate::specs::Schemas::schema_in))]
+fn read_value(alloc: Global, value: &Value) -> Result<Schema, SchemaFault>
+    ensures ok { IfOk result (λ schema. schema_in (view value.now) ≡ Ok schema) }
+    ensures err { IfErr result (λ fault. (fault ≡ NoMemory) ⊎ (schema_in (view value.now) ≡ Err fault)) }
+{
+    check_object(SchemaNode::Schema, value)?;
+    let dimensions = top_dimensions(alloc, value)?;
+    let cubes = top_cubes(alloc, dimensions.as_slice(), value)?;
+    let aggregates = top_aggregates(alloc, value)?;
+    Ok(Schema {
+        dimensions,
+        cubes,
+        aggregates,
+    })
+}
+
+/// The schema of a file's bytes, or its first fault.
+#[tactic(auto, unfolding(crate::specs::Schemas::schema_of))]
+pub fn read_schema(alloc: Global, bytes: &[u8]) -> Result<Schema, SchemaFault>
+    ensures ok { IfOk result (λ schema. schema_of bytes.now ≡ Ok schema) }
+    ensures err { IfErr result (λ fault. (fault ≡ NoMemory) ⊎ (schema_of bytes.now ≡ Err fault)) }
+    ensures limits { IfOk result (λ schema. IsWithinLimits schema) }
+{
+    let value = read_json(alloc, bytes)?;
+    read_value(alloc, &value)
+}

@@ -1,0 +1,126 @@
+//! Cubes that grow by batches.
+ghost use Rattle.std.specs.Prelude.{◌≡◌, ◌+◌, All, IfOk, OnOk, length};
+ghost use Rattle.fact_versions.specs.Facts.{IsAlike, batches_of, rows_of_batches};
+
+use crate::batches::{Line, batch_of, no_memory, read_lines};
+use fact_batches::{Batch, Steps};
+use fact_versions::{AppendFault, Facts, Snapshot};
+use olap_meaning::{CubeId, OutOfMemory, VERSION_LIMIT, Version};
+use std::alloc::Global;
+use std::marker::Brand;
+use std::sync::Arc;
+use std::sync::ledger::{Blank, Ledger};
+use std::test::Fail;
+
+fn refused(_fault: AppendFault) -> Fail {
+    Fail::from("a batch was refused")
+}
+
+fn shared(alloc: Global, lines: &[Line]) -> Result<Arc<Batch>, Fail>
+    ensures { IfOk result (λ batch. (batch.value.dimensions ≡ 2) × (batch.value.columns ≡ 1)) }
+{
+    let batch = batch_of(alloc, lines).map_err(no_memory)?;
+    Ok(Arc::new(alloc, batch)?)
+}
+
+/// All rows of a snapshot.
+fn snapshot_lines<L: Ledger>(
+    alloc: Global,
+    snapshot: &Snapshot,
+    steps: &mut Steps<L>,
+) -> Result<Vec<Line>, OutOfMemory>
+    ensures cost { OnOk result (steps.new ≡ steps.old + rows_of_batches snapshot.now) }
+{
+    let mut lines = Vec::new(alloc);
+    for i in 0..snapshot.pieces() {
+        read_lines(&mut lines, &snapshot.piece(i, steps))?;
+    }
+    Ok(lines)
+}
+
+/// Two cubes, of which the second has grown by some batches.
+fn grown(alloc: Global, batches: &[&[Line]]) -> Result<Facts, Fail>
+    ensures { IfOk result (λ facts. length facts.cubes ≡ 2) }
+{
+    let mut facts = Facts::new(alloc, 2, 5).map_err(no_memory)?;
+    for lines in batches {
+        let batch = shared(alloc, lines)?;
+        if let Err(fault) = facts.append(CubeId(1), batch) {
+            return Err(refused(fault));
+        }
+    }
+    Ok(facts)
+}
+
+fn version_lines<L: Ledger>(
+    alloc: Global,
+    snapshot: &Snapshot,
+    blank: Blank,
+) -> Result<Vec<Line>, OutOfMemory>
+    requires name { blank.name ≡ L.name }
+    requires parts { blank.parts ≡ L.parts }
+    requires one { blank.parts ≡ 1 }
+{
+    let mut steps: Steps<L> = Steps::new(blank);
+    snapshot_lines(alloc, snapshot, &mut steps)
+}
+
+const FIVE: [Line; 5] = [
+    (0, 1, Some(5)),
+    (2, 0, None),
+    (1, 1, Some(-1)),
+    (1, 2, Some(8)),
+    (3, 3, Some(0)),
+];
+
+#[test]
+fn a_snapshot_is_the_first_batches(rt: HostRuntime) -> Result<(), Fail> {
+    let alloc = rt.alloc();
+    let cube = CubeId(1);
+    let facts = grown(alloc, &[&FIVE[..3], &FIVE[3..]])?;
+    for (version, rows) in [(0, 0), (1, 3), (2, 5)] {
+        assert!(rt; version <= facts.version(cube).0);
+        let snapshot = facts.snapshot(cube, Version(version)).map_err(no_memory)?;
+        assert_eq!(rt; snapshot.version(), Version(version));
+        assert_eq!(rt; snapshot.pieces(), version);
+        assert_eq!(rt; snapshot.rows(), rows);
+        let lines = version_lines::<Brand>(alloc, &snapshot, Blank::new(1)).map_err(no_memory)?;
+        assert_eq!(rt; lines.as_slice(), &FIVE[..rows as usize]);
+    }
+    Ok(())
+}
+
+#[test]
+fn rows_above_the_limit_are_refused(rt: HostRuntime) -> Result<(), Fail> {
+    let alloc = rt.alloc();
+    let mut facts = Facts::new(alloc, 2, 5).map_err(no_memory)?;
+    let batch = shared(alloc, &FIVE[..3])?;
+    let again = shared(alloc, &FIVE[..3])?;
+    let version = facts.append(CubeId(0), batch).map_err(refused)?;
+    assert_eq!(rt; version, Version(1));
+    assert_eq!(rt;
+        facts.append(CubeId(1), again),
+        Err(AppendFault::TooManyRows { total: 6, limit: 5 })
+    );
+    assert_eq!(rt; facts.version(CubeId(0)), Version(1));
+    assert_eq!(rt; facts.version(CubeId(1)), Version(0));
+    Ok(())
+}
+
+#[test]
+fn versions_above_the_limit_are_refused(rt: HostRuntime) -> Result<(), Fail> {
+    let alloc = rt.alloc();
+    let mut facts = Facts::new(alloc, 1, 5).map_err(no_memory)?;
+    let empty = shared(alloc, &[])?;
+    for _ in 0..VERSION_LIMIT {
+        facts
+            .append(CubeId(0), Arc::try_clone(&empty)?)
+            .map_err(refused)?;
+    }
+    assert_eq!(rt;
+        facts.append(CubeId(0), empty),
+        Err(AppendFault::TooManyVersions { limit: 100_000 })
+    );
+    assert_eq!(rt; facts.version(CubeId(0)), Version(100_000));
+    Ok(())
+}

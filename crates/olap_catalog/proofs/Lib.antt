@@ -1,0 +1,13 @@
+pub mod SeenFacts
+pub mod FieldFacts
+pub mod RecordFacts
+pub mod ColumnFacts
+pub mod LayoutFacts
+pub mod PartFacts
+pub mod ValueFacts
+pub mod MemberFacts
+pub mod HierarchyFacts
+pub mod RootFacts
+pub mod StepFacts
+pub mod WalkFacts
+pub mod MeasureFacts

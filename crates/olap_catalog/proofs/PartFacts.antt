@@ -1,0 +1,148 @@
+-- The parts of a catalog fit together, by how a schema lays them out.
+use Rattle.std.proofs.Common.{◌≡◌, ◌∙◌, ◌+◌, ◌≤◌, ◌&&◌, ◌++◌, ℕ, suc, Bool, true, List, [], ◌∷◌, Some, refl, sym, ap, map, slice_get, length, flat_map, nat_lt, nat_le, nat_eq, arith}
+use Rattle.std.specs.List.{list_all, AllByRecursion as Each}
+use Rattle.std.proofs.lemmas.List.Elements.{recursion_from_All}
+use Rattle.std.proofs.lemmas.List.{append_assoc, length-append, length-map}
+use Rattle.std.proofs.lemmas.List.Folds.{list_all-append}
+use Rattle.std.proofs.lemmas.Bool.Decides.{nat_tests}
+use Rattle.olap_meaning.specs.declared.schema.SchemaDimension.{SchemaDimension}
+use Rattle.olap_meaning.specs.declared.schema.SchemaHierarchy.{SchemaHierarchy}
+use Rattle.olap_meaning.specs.declared.schema.SchemaLevel.{SchemaLevel}
+use Rattle.olap_meaning.specs.declared.schema.TheConstants.{MEASURE_LIMIT}
+use Rattle.olap_meaning.specs.declared.schema.Schema.{Schema}
+use Rattle.olap_meaning.specs.declared.schema.SchemaCube.{SchemaCube}
+use Rattle.olap_meaning.specs.declared.tables.Column.{Column}
+use Rattle.olap_meaning.specs.declared.tables.Hierarchy.{Hierarchy}
+use Rattle.olap_meaning.specs.declared.tables.Cube.{Cube}
+use Rattle.olap_meaning.specs.History.{is_some_and}
+use Rattle.olap_meaning.specs.Schema.{columns_from, all_columns, levels_of, numbers_from, hierarchies_from, all_hierarchies, cube_over, hierarchies_in, IsWithinLimits, IsWithinCube}
+use Rattle.olap_catalog.specs.Tables.{TableOf, have_fields}
+use Rattle.olap_catalog.specs.Parts.{is_column, is_level, has_levels, has_few_measures, AreParts, Names}
+use Rattle.olap_catalog.specs.Roots.{hierarchies_among, full_name_in, measure_names, root_names_in}
+use Rattle.olap_catalog.proofs.LayoutFacts.{columns_append, length_columns}
+
+pub both : (a b c d : Bool) → a ≡ c → b ≡ d → (a && b) ≡ (c && d)
+both a b c d e f = ap (λ x. x && b) e ∙ ap (λ x. c && x) f
+
+-- the item behind some others
+pub item_behind : {A : Type 0} (xs ys : List A) (y : A) → slice_get (xs ++ y ∷ ys) (length xs) ≡ Some y
+item_behind [] ys y = refl
+item_behind (x ∷ xs) ys y = item_behind xs ys y
+
+pub length_snoc : {A : Type 0} (xs : List A) (x : A) → length (xs ++ x ∷ []) ≡ suc (length xs)
+length_snoc xs x = let e = length-append xs (x ∷ []) in omega arith
+
+columned_levels : (before after : List TableOf) (t : TableOf) (field : ℕ) (levels : List SchemaLevel) → field + length levels ≤ t.levels
+    → list_all (is_column (before ++ t ∷ after)) (columns_from (length before) field levels) ≡ true
+columned_levels before after t field [] fits = refl
+columned_levels before after t field (level ∷ levels) fits =
+    let here : nat_lt field t.levels ≡ true = grind (arith, nat_tests) in
+    both _ _ true true (ap (is_some_and (λ (x : TableOf). nat_lt field x.levels)) (item_behind before after t) ∙ here)
+    (columned_levels before after t (suc field) levels (omega arith))
+
+-- each column is a field of its table
+pub columned_all : (before after : List TableOf) (dimensions : List SchemaDimension) → map (λ t. t.levels) after ≡ map (λ d. length (levels_of d)) dimensions
+    → list_all (is_column (before ++ after)) (all_columns (length before) dimensions) ≡ true
+columned_all before after [] e = refl
+columned_all before [] (d ∷ ds) e = absurd (cc e)
+columned_all before (t ∷ after) (d ∷ ds) e =
+    let count : t.levels ≡ length (levels_of d) = cc e in
+    let more : map (λ x. x.levels) after ≡ map (λ x. length (levels_of x)) ds = cc e in
+    list_all-append (is_column (before ++ t ∷ after)) (columns_from (length before) 0 (levels_of d)) (all_columns (suc (length before)) ds)
+    ∙ both _ _ true true (columned_levels before after t 0 (levels_of d) (omega arith))
+    (ap (λ n. list_all (is_column (before ++ t ∷ after)) (all_columns n ds)) (sym (length_snoc before t))
+    ∙ ap (λ ts. list_all (is_column ts) (all_columns (length (before ++ t ∷ [])) ds)) (sym (append_assoc before (t ∷ []) after))
+    ∙ columned_all (before ++ t ∷ []) after ds more)
+
+leveled_one : (columns before after : List Column) (d field : ℕ) (levels : List SchemaLevel) → columns ≡ before ++ (columns_from d field levels ++ after)
+    → list_all (is_level columns d) (numbers_from (length before) levels) ≡ true
+leveled_one columns before after d field [] e = refl
+leveled_one columns before after d field (level ∷ levels) e =
+    let own : Column = record { name = level.name; dimension = d; field = field } in
+    let same : nat_eq d d ≡ true = grind (arith, nat_tests) in
+    both _ _ true true
+    (ap (λ cs. is_level cs d (length before)) e ∙ ap (is_some_and (λ (c : Column). nat_eq c.dimension d)) (item_behind before (columns_from d (suc field) levels ++ after) own) ∙ same)
+    (ap (λ n. list_all (is_level columns d) (numbers_from n levels)) (sym (length_snoc before own))
+    ∙ leveled_one columns (before ++ own ∷ []) after d (suc field) levels (e ∙ sym (append_assoc before (own ∷ []) (columns_from d (suc field) levels ++ after))))
+
+leveled_some : (columns before after : List Column) (d field : ℕ) (hs : List SchemaHierarchy) → columns ≡ before ++ (columns_from d field (flat_map (λ h. h.levels) hs) ++ after)
+    → list_all (has_levels columns) (hierarchies_from d (length before) hs) ≡ true
+leveled_some columns before after d field [] e = refl
+leveled_some columns before after d field (h ∷ hs) e =
+    let own = columns_from d field h.levels in
+    let later = columns_from d (field + length h.levels) (flat_map (λ (x : SchemaHierarchy). x.levels) hs) in
+    let split : columns ≡ before ++ (own ++ (later ++ after)) =
+    e ∙ ap (λ cs. before ++ (cs ++ after)) (columns_append d field h.levels (flat_map (λ (x : SchemaHierarchy). x.levels) hs)) ∙ ap (λ cs. before ++ cs) (append_assoc own later after) in
+    let next : length before + length h.levels ≡ length (before ++ own) = let k = length-append before own in let m = length_columns d field h.levels in omega arith in
+    both _ _ true true (leveled_one columns before (later ++ after) d field h.levels split)
+    (ap (λ n. list_all (has_levels columns) (hierarchies_from d n hs)) next
+    ∙ leveled_some columns (before ++ own) after d (field + length h.levels) hs (split ∙ sym (append_assoc before own (later ++ after))))
+
+-- each hierarchy's levels are columns of its dimension
+pub leveled_all : (columns before : List Column) (place : ℕ) (dimensions : List SchemaDimension) → columns ≡ before ++ all_columns place dimensions
+    → list_all (has_levels columns) (all_hierarchies place (length before) dimensions) ≡ true
+leveled_all columns before place [] e = refl
+leveled_all columns before place (d ∷ ds) e =
+    let own = columns_from place 0 (levels_of d) in
+    let next : length before + length (levels_of d) ≡ length (before ++ own) = let k = length-append before own in let m = length_columns place 0 (levels_of d) in omega arith in
+    list_all-append (has_levels columns) (hierarchies_from place (length before) d.hierarchies) (all_hierarchies (suc place) (length before + length (levels_of d)) ds)
+    ∙ both _ _ true true (leveled_some columns before (all_columns (suc place) ds) place 0 d.hierarchies e)
+    (ap (λ n. list_all (has_levels columns) (all_hierarchies (suc place) n ds)) next
+    ∙ leveled_all columns (before ++ own) (suc place) ds (e ∙ sym (append_assoc before own (all_columns (suc place) ds))))
+
+-- there are as many columns as levels
+pub length_all_columns : (place : ℕ) (ds : List SchemaDimension) → length (all_columns place ds) ≡ length (flat_map levels_of ds)
+length_all_columns place [] = refl
+length_all_columns place (d ∷ ds) =
+    length-append (columns_from place 0 (levels_of d)) (all_columns (suc place) ds)
+    ∙ ap (λ n. n + length (all_columns (suc place) ds)) (length_columns place 0 (levels_of d)) ∙ ap (λ n. length (levels_of d) + n) (length_all_columns (suc place) ds)
+    ∙ sym (length-append (levels_of d) (flat_map levels_of ds))
+
+length_hierarchies : (d column : ℕ) (hs : List SchemaHierarchy) → length (hierarchies_from d column hs) ≡ length hs
+length_hierarchies d column [] = refl
+length_hierarchies d column (h ∷ hs) = let e = length_hierarchies d (column + length h.levels) hs in omega arith
+
+-- and as many hierarchies as the dimensions have
+pub length_all_hierarchies : (place column : ℕ) (ds : List SchemaDimension) → length (all_hierarchies place column ds) ≡ length (flat_map (λ d. d.hierarchies) ds)
+length_all_hierarchies place column [] = refl
+length_all_hierarchies place column (d ∷ ds) =
+    length-append (hierarchies_from place column d.hierarchies) (all_hierarchies (suc place) (column + length (levels_of d)) ds)
+    ∙ ap (λ n. n + length (all_hierarchies (suc place) (column + length (levels_of d)) ds)) (length_hierarchies place column d.hierarchies)
+    ∙ ap (λ n. length d.hierarchies + n) (length_all_hierarchies (suc place) (column + length (levels_of d)) ds)
+    ∙ sym (length-append d.hierarchies (flat_map (λ x. x.hierarchies) ds))
+
+few_measures_in : (ds : List SchemaDimension) (cubes : List SchemaCube) → Each IsWithinCube cubes → list_all has_few_measures (map (cube_over ds) cubes) ≡ true
+few_measures_in ds [] within = refl
+few_measures_in ds (cube ∷ cubes) within =
+    let few = within.0.measures in
+    let here : nat_le (length cube.measures) MEASURE_LIMIT ≡ true = grind (arith, nat_tests) in
+    both _ _ true true here (few_measures_in ds cubes within.1)
+
+-- the parts that a schema and its tables give fit together
+pub parts_fit : (schema : Schema) (tables : List TableOf) (columns : List Column) (hierarchies : List Hierarchy) (cubes : List Cube) (full_names : List (List ℕ)) (roots : List (List ℕ)) (names : Names) → IsWithinLimits schema
+    → list_all (λ t. have_fields t.levels t.records) tables ≡ true → map (λ t. t.levels) tables ≡ map (λ d. length (levels_of d)) schema.dimensions → columns ≡ all_columns 0 schema.dimensions → hierarchies ≡ all_hierarchies 0 0 schema.dimensions
+    → cubes ≡ map (cube_over schema.dimensions) schema.cubes → full_names ≡ map (full_name_in schema.dimensions) hierarchies → roots ≡ map (λ cube. flat_map (hierarchies_among hierarchies) cube.dimensions) cubes
+    → names.cubes ≡ map (λ cube. cube.name) cubes → names.measures ≡ map measure_names cubes → names.roots ≡ map (root_names_in full_names) roots
+    → AreParts schema tables columns hierarchies cubes full_names roots names
+parts_fit schema tables columns hierarchies cubes full_names roots names limits even whole c h k named rooted cubes_named measures_named roots_named =
+    let paired : length tables ≡ length schema.dimensions =
+    sym (length-map tables (λ (t : TableOf). t.levels)) ∙ ap length whole ∙ length-map schema.dimensions (λ (d : SchemaDimension). length (levels_of d)) in
+    let few_c : length columns ≡ length (flat_map levels_of schema.dimensions) = ap length c ∙ length_all_columns 0 schema.dimensions in
+    let few_h : length hierarchies ≡ length (hierarchies_in schema) = ap length h ∙ length_all_hierarchies 0 0 schema.dimensions in
+    let few_k : length cubes ≡ length schema.cubes = ap length k ∙ length-map schema.cubes (cube_over schema.dimensions) in
+    record {
+      paired = paired;
+      even = even;
+      columned = ap (list_all (is_column tables)) c ∙ columned_all [] tables schema.dimensions whole;
+      leveled = ap (list_all (has_levels columns)) h ∙ leveled_all columns [] 0 schema.dimensions c;
+      named = named;
+      rooted = rooted;
+      cubes_named = cubes_named;
+      measures_named = measures_named;
+      roots_named = roots_named;
+      few_tables = omega (arith, limits.dimensions);
+      few_columns = omega (arith, limits.levels);
+      few_hierarchies = omega (arith, limits.hierarchies);
+      few_cubes = omega (arith, limits.cubes);
+      few_measures = ap (list_all has_few_measures) k ∙ few_measures_in schema.dimensions schema.cubes (recursion_from_All IsWithinCube schema.cubes limits.each);
+    }

@@ -1,0 +1,10 @@
+use Rattle.std.proofs.Common.{◌≡◌, true}
+use Rattle.std.specs.List.{list_all}
+use Rattle.olap_catalog.specs.Tables.{have_fields}
+use Rattle.olap_catalog.proofs.catalog.numbered.Given as goal
+
+abbrev pub invariant-loop-table : goal.invariant-loop-table
+invariant-loop-table l = record {
+  same : l.numbered ≡ l.yielded;
+  even : list_all (λ t. have_fields t.levels t.records) l.yielded ≡ true;
+}

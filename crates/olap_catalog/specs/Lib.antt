@@ -1,0 +1,6 @@
+pub mod Tables
+pub mod Roots
+pub mod Parts
+pub mod Columns
+pub mod Names
+pub mod Members

@@ -1,0 +1,31 @@
+-- The hierarchies of a cube and their full names, from the parts that a catalog keeps.
+use Rattle.std.specs.Prelude.{ℕ, List, [], ◌∷◌, ◌++◌, ◌==◌, map, filter, slice_get, bytes_eq, codes, if◌then◌else◌}
+use Rattle.std.specs.List.{enumerate_from}
+use Rattle.std.specs.Option.{option_map_or}
+use Rattle.olap_meaning.specs.declared.schema.SchemaDimension.{SchemaDimension}
+use Rattle.olap_meaning.specs.declared.tables.Hierarchy.{Hierarchy}
+use Rattle.olap_meaning.specs.declared.tables.Cube.{Cube}
+
+-- the hierarchies of a dimension among some, by their places
+abbrev pub hierarchies_among : List Hierarchy → ℕ → List ℕ
+hierarchies_among hierarchies dimension = map (λ h. h.0) (filter (λ h. h.1.dimension == dimension) (enumerate_from 0 hierarchies))
+
+-- a hierarchy's name where it is its dimension's, else the dimension's name, a dot, and its own
+abbrev pub joined_name : List ℕ → List ℕ → List ℕ
+joined_name dimension hierarchy = if bytes_eq hierarchy dimension then hierarchy else dimension ++ codes "." ++ hierarchy
+
+-- the full name of a hierarchy over some dimensions
+abbrev pub full_name_in : List SchemaDimension → Hierarchy → List ℕ
+full_name_in dimensions hierarchy = joined_name (option_map_or (λ d. d.name) (slice_get dimensions hierarchy.dimension) []) hierarchy.name
+
+-- the names of a cube's measures
+abbrev pub measure_names : Cube → List (List ℕ)
+measure_names cube = map (λ measure. measure.name) cube.measures
+
+-- the full name of a hierarchy by its place
+abbrev pub name_at : List (List ℕ) → ℕ → List ℕ
+name_at full_names h = option_map_or (λ name. name) (slice_get full_names h) []
+
+-- what the first name of a path may be: Measures, or one of some hierarchies' full names
+abbrev pub root_names_in : List (List ℕ) → List ℕ → List (List ℕ)
+root_names_in full_names hierarchies = codes "Measures" ∷ map (name_at full_names) hierarchies

@@ -1,0 +1,22 @@
+//! Catalogs: a schema with the tables of its dimensions, and what its names, members and values mean.
+//!
+//! Contracts see a catalog as the plain catalog of the definitions: records, columns, hierarchies and cubes as lists.
+#![tactic(auto)]
+
+mod catalog;
+mod cubes;
+mod dimension;
+mod fault;
+mod field;
+mod layout;
+mod lookups;
+mod members;
+mod names;
+mod paths;
+mod shared;
+mod table;
+mod values;
+
+pub use catalog::{Catalog, build_catalog};
+pub use fault::NameFault;
+pub use table::Table;

@@ -1,0 +1,102 @@
+//! Looking up what a catalog holds. No look-up takes memory.
+ghost use Rattle.std.specs.Prelude.{◌≡◌, ◌<◌, length, slice_get, Some, IfSome};
+ghost use Rattle.olap_meaning.specs.Catalog as meaning;
+ghost use Rattle.olap_catalog.specs.Columns.{column_texts, column_leaves};
+
+use crate::catalog::Catalog;
+use crate::field::FieldColumn;
+use olap_meaning::schema::Schema;
+use olap_meaning::tables::{Column, Cube};
+use olap_meaning::{ColumnId, CubeId, LeafId, ValueId};
+
+impl Catalog {
+    /// The schema that it was built from.
+    pub fn schema(&self) -> &Schema
+        ensures { result.now ≡ self.now.schema }
+    {
+        &self.schema
+    }
+
+    /// How many values a column has.
+    pub fn value_count(&self, column: ColumnId) -> u32
+        requires { column < length self.now.columns }
+        ensures { result ≡ length (meaning.values self.now column) }
+    {
+        self.field_of(column).count()
+    }
+
+    /// The number of a value, by exactly its text, None where the column has no such value.
+    pub fn find_value(&self, column: ColumnId, text: &str) -> Option<ValueId>
+        requires { column < length self.now.columns }
+        ensures found { result ≡ meaning.value_number self.now column text.now }
+        ensures known { IfSome result (λ value. value < length (meaning.values self.now column)) }
+    {
+        self.field_of(column).number(text)
+    }
+
+    /// The text of a value.
+    pub fn value_name(&self, column: ColumnId, value: ValueId) -> &str
+        requires known { column < length self.now.columns }
+        requires there { value < length (meaning.values self.now column) }
+        ensures { Some result.now ≡ slice_get (meaning.values self.now column) value }
+    {
+        self.field_of(column).name(value)
+    }
+
+    /// The value of a leaf in a column of its dimension.
+    pub fn leaf_value(&self, column: ColumnId, leaf: LeafId) -> ValueId
+        requires known { column < length self.now.columns }
+        requires there { leaf < column_leaves self.now column }
+        ensures { Some result ≡ meaning.leaf_value self.now column leaf }
+    {
+        let _ = &self.columns;
+        self.field_of(column).value_at(leaf)
+    }
+
+    /// How many leaves a dimension has: one for each record of its table, and none where the schema has no such dimension.
+    pub fn leaf_count(&self, dimension: u32) -> u32
+        ensures { result ≡ length (meaning.records self.now dimension) }
+    {
+        match self.tables.get(dimension as usize) {
+            None => 0,
+            Some(table) => table.len(),
+        }
+    }
+
+    /// The leaf with exactly this primary key, None where there is none.
+    pub fn find_leaf(&self, dimension: u32, key: &str) -> Option<LeafId>
+        ensures found { result ≡ meaning.find_leaf self.now dimension key.now }
+        ensures known { IfSome result (λ leaf. leaf < length (meaning.records self.now dimension)) }
+    {
+        match self.tables.get(dimension as usize) {
+            None => None,
+            Some(table) => table.find_key(key),
+        }
+    }
+
+    /// A cube: its name, the dimensions that it uses, and its measures.
+    pub fn cube(&self, cube: CubeId) -> &Cube
+        requires { cube < length self.now.cubes }
+        ensures { slice_get self.now.cubes cube ≡ Some result.now }
+    {
+        &self.cubes.as_slice()[cube.0 as usize]
+    }
+
+    /// A column of the schema: its level's name, and which field of which dimension's records it is.
+    pub fn column(&self, column: ColumnId) -> &Column
+        requires { column < length self.now.columns }
+        ensures { slice_get self.now.columns column ≡ Some result.now }
+    {
+        &self.columns.as_slice()[column.0 as usize]
+    }
+
+    // The texts of a column.
+    pub(crate) fn field_of(&self, column: ColumnId) -> &FieldColumn
+        requires { column < length self.now.columns }
+        ensures { result.now ≡ column_texts self.now column }
+    {
+        let at = self.column(column);
+        let table = &self.tables.as_slice()[at.dimension as usize];
+        table.column(at.field).unwrap()
+    }
+}
