@@ -1,0 +1,4 @@
+pub mod CellFacts
+pub mod GroupFacts
+pub mod Places
+pub mod RowFacts

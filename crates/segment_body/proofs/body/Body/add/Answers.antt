@@ -1,0 +1,23 @@
+use Rattle.std.proofs.Common.{refl}
+use Rattle.olap_meaning.specs.declared.TheConstants.{ROW_LIMIT}
+use Rattle.segment_body.specs.Groups.{rows_of}
+use Rattle.segment_body.proofs.GroupFacts.{added, groups_fit}
+use Rattle.segment_body.proofs.body.Body.add.Goals as goal
+
+pub add_row-requires : goal.add_row-requires
+add_row-requires c =
+    groups_fit c.self.inside.aggregator (rows_of c.self.inside.groups.items c.self.inside.places.items) c.self.inside.groups.items ROW_LIMIT c.self.invariant.grouped (rw (← c.self.view_is) at c.requires.room)
+
+pub invariant_of-self-2 : goal.invariant_of-self-2
+invariant_of-self-2 c =
+    let allowed = rw (← c.self.view_is) at c.requires.allowed in
+    let room = rw (← c.self.view_is) at c.requires.room in
+    let more = added c.self.inside.header c.self.inside.aggregator c.self.inside.groups.items c.self.inside.places.items c.self.invariant c.args.values.now c.args.value c.add_row.new.groups.items c.in_ok-place.place c.in_ok-place.ensures.ok allowed room in
+    rw (c.and-self-inside.ensures, more.rows_are) more.held
+
+pub returns-clause-ok : goal.returns-clause-ok
+returns-clause-ok c =
+    let allowed = rw (← c.self.view_is) at c.requires.allowed in
+    let room = rw (← c.self.view_is) at c.requires.room in
+    let more = added c.self.inside.header c.self.inside.aggregator c.self.inside.groups.items c.self.inside.places.items c.self.invariant c.args.values.now c.args.value c.add_row.new.groups.items c.in_ok-place.place c.in_ok-place.ensures.ok allowed room in
+    rw (← c.self.view_is, c.and-self-inside.ensures, more.rows_are) refl

@@ -1,0 +1,2 @@
+pub mod BodyOf
+pub mod Groups

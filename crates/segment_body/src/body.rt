@@ -1,0 +1,121 @@
+//! The cells of a segment.
+ghost use Rattle.std.specs.Prelude.{◌≡◌, ◌<◌, ◌≤◌, ◌++◌, ◌∷◌, [], IfOk, OnOk, OnErr, IfSome, IfNone, IsTrue, length, map, filter, is_some};
+ghost use Rattle.std.specs.List.{list_all};
+ghost use Rattle.olap_meaning.specs.Covering.{just_covers};
+ghost use Rattle.olap_meaning.specs.Legal.{rise};
+ghost use Rattle.olap_meaning.specs.Values.{aggregate};
+ghost use Rattle.segment_header.specs.Headers.{are_allowed, is_header};
+ghost use Rattle.segment_body.specs.BodyOf.{body_row_in, different_values, has_row, numbers_at};
+
+use crate::group::{Group, add_row};
+use crate::search::{place_in, place_of};
+use measure_folds::Tally;
+use olap_meaning::{Aggregator, Cell, CellValue, Header, OutOfMemory, ROW_LIMIT, ValueId};
+use std::alloc::Global;
+use std::marker::Model;
+use traces::Trace;
+
+/// The rows of a load, summed up by their values on the header's columns.
+#[derive(Drop)]
+pub struct Body {
+    alloc: Global,
+    header: Header,
+    aggregator: Aggregator,
+    groups: Vec<Group>,
+    places: Trace<(usize, Option<i64>)>,
+}
+
+impl Model for Body {
+    ghost use Rattle.segment_body.specs.BodyOf.{BodyOf};
+
+    ghost Value = { BodyOf };
+
+    ghost use Rattle.segment_body.specs.Groups.{AreHeld, rows_of};
+
+    ghost view = { λ a. record { header = a.header; aggregator = a.aggregator; rows = rows_of a.groups.items a.places.items } };
+
+    ghost invariant = { λ a. AreHeld a.header a.aggregator a.groups.items a.places.items (rows_of a.groups.items a.places.items) };
+}
+
+impl Body {
+    /// The body of no row.
+    pub fn new(alloc: Global, header: Header, aggregator: Aggregator) -> Result<Body, OutOfMemory>
+        requires { IsTrue (is_header header) }
+        ensures { IfOk result (λ body. body ≡ record { header = header; aggregator = aggregator; rows = [] }) }
+    {
+        Ok(Body {
+            alloc,
+            header,
+            aggregator,
+            groups: Vec::new(alloc),
+            places: Trace::new(),
+        })
+    }
+
+    /// Adds a row, by its values on the header's columns and the measure's number, where NULL is None.
+    pub fn add(&mut self, values: &[ValueId], value: Option<i64>) -> Result<(), OutOfMemory>
+        requires allowed { IsTrue (are_allowed self.old.header values.now) }
+        requires room { length self.old.rows < ROW_LIMIT }
+        ensures ok { OnOk result (self.new ≡ record self.old { rows = self.old.rows ++ (values.now, value) ∷ [] }) }
+        ensures err { OnErr result (self.new ≡ self.old) }
+    {
+        let place = add_row(self.alloc, &mut self.groups, self.aggregator, values, value)?;
+        self.places = self.places.and(&(place, value));
+        Ok(())
+    }
+
+    /// The tally of the rows that have some values, None where there are none. It takes no memory.
+    pub fn get(&self, values: &[ValueId]) -> Option<&Tally>
+        ensures found { is_some result ≡ has_row self.now.rows values.now }
+        ensures none { IfNone result (numbers_at self.now.rows values.now ≡ []) }
+        ensures tally { IfSome result (λ t. t.now ≡ record { aggregator = self.now.aggregator; values = numbers_at self.now.rows values.now }) }
+    {
+        match place_of(self.groups.as_slice(), values) {
+            None => None,
+            Some(place) => Some(&self.groups[place].tally),
+        }
+    }
+
+    /// What a cell of the header's columns is worth over the rows. It takes no memory.
+    pub fn value(&self, cell: &Cell) -> CellValue
+        requires covered { IsTrue (just_covers self.now.header cell.now) }
+        requires rising { IsTrue (rise (map (λ pair. pair.0) cell.now.at)) }
+        ensures { result ≡ aggregate self.now.aggregator (map (λ row. row.1) (filter (body_row_in self.now.header cell.now) self.now.rows)) }
+    {
+        match place_in(self.groups.as_slice(), cell.at.as_slice()) {
+            None => CellValue::Empty,
+            Some(place) => self.groups[place].tally.finish(),
+        }
+    }
+
+    /// How many different lists of values the rows have. It takes no memory.
+    pub fn groups(&self) -> u64
+        ensures count { result ≡ length (different_values self.now.rows) }
+        ensures limit { length self.now.rows ≤ ROW_LIMIT }
+    {
+        self.groups.len() as u64
+    }
+
+    /// Which cells the body holds. It takes no memory.
+    pub fn header(&self) -> &Header
+        ensures value { result.now ≡ self.now.header }
+        ensures well_formed { IsTrue (is_header self.now.header) }
+        ensures allowed { IsTrue (list_all (λ row. are_allowed self.now.header row.0) self.now.rows) }
+    {
+        &self.header
+    }
+
+    /// What the measure is summed up by. It takes no memory.
+    pub fn aggregator(&self) -> Aggregator
+        ensures { result ≡ self.now.aggregator }
+    {
+        self.aggregator
+    }
+}
+
+fn may_be_shared<T: Send + Sync>() {}
+
+// Threads may share bodies.
+fn bodies_may_be_shared() {
+    may_be_shared::<Body>();
+}

@@ -1,0 +1,11 @@
+//! What a segment holds: which cells its header covers, and which values it allows.
+#![tactic(auto)]
+
+mod columns;
+mod header;
+mod values;
+
+pub use columns::{allows_at, are_columns, names_column};
+pub use header::{covers, is_allowed, is_header, same_columns};
+pub use olap_meaning::{Allowed, Header};
+pub use values::{allows, holds, is_set};

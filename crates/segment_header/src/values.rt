@@ -1,0 +1,48 @@
+//! The values that a column allows.
+ghost use Rattle.std.specs.Prelude.{◌≡◌, IsTrue};
+ghost use Rattle.olap_meaning.specs.Covering.{among};
+ghost use Rattle.olap_meaning.specs.Covering as covering;
+ghost use Rattle.olap_meaning.specs.Legal.{rise};
+ghost use Rattle.segment_header.specs.Headers as headers;
+
+use olap_meaning::{Allowed, ValueId};
+
+/// Whether a value is one of a set, by binary search.
+pub fn holds(values: &[ValueId], value: ValueId) -> bool
+    requires { IsTrue (rise values.now) }
+    ensures { result ≡ among values.now value }
+{
+    values.binary_search(&value).is_ok()
+}
+
+/// Whether a value is one of those that a column allows.
+pub fn allows(allowed: &Allowed, value: ValueId) -> bool
+    requires { IsTrue (headers.is_set allowed.now) }
+    ensures { result ≡ covering.allows allowed.now value }
+{
+    match allowed {
+        Allowed::Any => true,
+        Allowed::Set(values) => holds(values.as_slice(), value),
+    }
+}
+
+fn are_rising(values: &[ValueId]) -> bool
+    ensures { result ≡ rise values.now }
+{
+    for i in 1..values.len() {
+        if values[i - 1] >= values[i] {
+            return false;
+        }
+    }
+    true
+}
+
+/// Whether allowed values are any value, or a set that rises and is not empty.
+pub fn is_set(allowed: &Allowed) -> bool
+    ensures { result ≡ headers.is_set allowed.now }
+{
+    match allowed {
+        Allowed::Any => true,
+        Allowed::Set(values) => !values.is_empty() && are_rising(values.as_slice()),
+    }
+}

@@ -1,0 +1,215 @@
+//! Rows by year, quarter, customer and units, and what the cells over them are worth.
+ghost use Rattle.std.specs.Prelude.{◌≤◌, IfOk, IsTrue, length, map};
+ghost use Rattle.olap_meaning.specs.Legal.{rise};
+
+use crate::headers::{no_memory, years_and_quarters};
+use olap_meaning::CellValue::{Empty, Hundredths, Whole};
+use olap_meaning::{
+    Aggregator, Cell, CellValue, ColumnId, CubeId, List, MeasureId, OutOfMemory, ValueId,
+};
+use segment_body::Body;
+use segment_header::{covers, is_allowed, same_columns};
+use std::alloc::Global;
+use std::test::Fail;
+
+/// The body of rows, each a year, a quarter and a number, but for those that its header does not allow.
+fn body_of(
+    alloc: Global,
+    aggregator: Aggregator,
+    rows: &[(u32, u32, Option<i64>)],
+) -> Result<Body, OutOfMemory>
+    requires { length rows.now ≤ 100 }
+{
+    let mut body = Body::new(alloc, years_and_quarters(alloc)?, aggregator)?;
+    for (year, quarter, number) in rows {
+        let values = [ValueId(*year), ValueId(*quarter)];
+        if is_allowed(body.header(), &values) {
+            body.add(&values, *number)?;
+        }
+    }
+    Ok(body)
+}
+
+/// The cell of a year and a quarter.
+fn cell(alloc: Global, year: u32, quarter: u32) -> Result<Cell, OutOfMemory>
+    ensures { IfOk result (λ c. IsTrue (rise (map (λ pair. pair.0) c.at))) }
+{
+    let mut at = List::new(alloc);
+    at.push((ColumnId(0), ValueId(year)))?;
+    at.push((ColumnId(1), ValueId(quarter)))?;
+    Ok(Cell {
+        cube: CubeId(0),
+        measure: MeasureId(0),
+        at,
+    })
+}
+
+/// What a year's quarter is worth, None where the body's header does not cover it.
+fn worth(
+    alloc: Global,
+    body: &Body,
+    year: u32,
+    quarter: u32,
+) -> Result<Option<CellValue>, OutOfMemory> {
+    let cell = cell(alloc, year, quarter)?;
+    if covers(body.header(), &cell) && same_columns(body.header(), &cell) {
+        Ok(Some(body.value(&cell)))
+    } else {
+        Ok(None)
+    }
+}
+
+/// How many rows a body has at a year and a quarter, None where there is no tally of them.
+fn rows_at(body: &Body, year: u32, quarter: u32) -> Option<u32> {
+    match body.get(&[ValueId(year), ValueId(quarter)]) {
+        None => None,
+        Some(tally) => Some(tally.rows()),
+    }
+}
+
+/// What four rows are worth in the year 0 by its quarters, and then in the year 1.
+fn worths(
+    alloc: Global,
+    aggregator: Aggregator,
+    rows: &[(u32, u32, Option<i64>); 4],
+) -> Result<[Option<CellValue>; 4], OutOfMemory> {
+    let body = body_of(alloc, aggregator, rows)?;
+    Ok([
+        worth(alloc, &body, 0, 0)?,
+        worth(alloc, &body, 0, 1)?,
+        worth(alloc, &body, 1, 0)?,
+        worth(alloc, &body, 1, 1)?,
+    ])
+}
+
+/// An aggregator with what it makes of the cells of `worths`.
+#[derive(Clone, Copy)]
+struct Case {
+    aggregator: Aggregator,
+    worths: [CellValue; 4],
+}
+
+const UNITS: [(u32, u32, Option<i64>); 4] = [
+    (0, 0, Some(5)),
+    (0, 0, Some(7)),
+    (0, 1, Some(3)),
+    (1, 0, None),
+];
+
+const CUSTOMERS: [(u32, u32, Option<i64>); 4] = [
+    (0, 0, Some(10)),
+    (0, 0, Some(11)),
+    (0, 1, Some(10)),
+    (1, 0, Some(12)),
+];
+
+#[test]
+fn cells_are_worth_their_rows(rt: HostRuntime) -> Result<(), Fail> {
+    for case in [
+        Case {
+            aggregator: Aggregator::Sum,
+            worths: [Whole(12), Whole(3), Empty, Empty],
+        },
+        Case {
+            aggregator: Aggregator::Count,
+            worths: [Whole(2), Whole(1), Whole(0), Empty],
+        },
+        Case {
+            aggregator: Aggregator::Avg,
+            worths: [Hundredths(600), Hundredths(300), Empty, Empty],
+        },
+        Case {
+            aggregator: Aggregator::Min,
+            worths: [Whole(5), Whole(3), Empty, Empty],
+        },
+        Case {
+            aggregator: Aggregator::Max,
+            worths: [Whole(7), Whole(3), Empty, Empty],
+        },
+    ] {
+        let worths = worths(rt.alloc(), case.aggregator, &UNITS).map_err(no_memory)?;
+        assert_eq!(rt; worths, case.worths.map(Some));
+    }
+    Ok(())
+}
+
+#[test]
+fn customers_are_counted_once(rt: HostRuntime) -> Result<(), Fail> {
+    let worths = worths(rt.alloc(), Aggregator::DistinctCount, &CUSTOMERS).map_err(no_memory)?;
+    assert_eq!(rt;
+        worths,
+        [Some(Whole(2)), Some(Whole(1)), Some(Whole(1)), Some(Empty)]
+    );
+    Ok(())
+}
+
+/// What is seen of a body: its groups, and in the quarters 0, 1 and 2 of the year 0 how many rows there are, None where
+/// there is no tally of them, and what they are worth, None where the header does not cover them.
+#[derive(Clone, Copy, Debug, PartialEq)]
+struct Seen {
+    groups: u64,
+    rows: [Option<u32>; 3],
+    worths: [Option<CellValue>; 3],
+}
+
+fn seen_in(alloc: Global, body: &Body) -> Result<Seen, OutOfMemory> {
+    Ok(Seen {
+        groups: body.groups(),
+        rows: [
+            rows_at(body, 0, 0),
+            rows_at(body, 0, 1),
+            rows_at(body, 0, 2),
+        ],
+        worths: [
+            worth(alloc, body, 0, 0)?,
+            worth(alloc, body, 0, 1)?,
+            worth(alloc, body, 0, 2)?,
+        ],
+    })
+}
+
+#[test]
+fn rows_of_one_group_are_tallied_together(rt: HostRuntime) -> Result<(), Fail> {
+    let rows = [
+        (0, 0, Some(1)),
+        (0, 1, Some(2)),
+        (0, 0, Some(4)),
+        (0, 1, None),
+        (0, 2, Some(9)),
+        (0, 0, Some(-8)),
+    ];
+    let body = body_of(rt.alloc(), Aggregator::Sum, &rows).map_err(no_memory)?;
+    let expected = Seen {
+        groups: 2,
+        rows: [Some(3), Some(2), None],
+        worths: [Some(Whole(-3)), Some(Whole(2)), None],
+    };
+    assert_eq!(rt; seen_in(rt.alloc(), &body).map_err(no_memory)?, expected);
+    Ok(())
+}
+
+#[test]
+fn groups_are_the_different_values(rt: HostRuntime) -> Result<(), Fail> {
+    let body = body_of(rt.alloc(), Aggregator::Max, &UNITS).map_err(no_memory)?;
+    assert_eq!(rt; (body.groups(), body.aggregator()), (3, Aggregator::Max));
+    Ok(())
+}
+
+#[test]
+fn a_body_of_no_row_has_no_group(rt: HostRuntime) -> Result<(), Fail> {
+    let expected = Seen {
+        groups: 0,
+        rows: [None, None, None],
+        worths: [Some(Empty), Some(Empty), None],
+    };
+    for aggregator in [
+        Aggregator::Sum,
+        Aggregator::Count,
+        Aggregator::DistinctCount,
+    ] {
+        let body = body_of(rt.alloc(), aggregator, &[]).map_err(no_memory)?;
+        assert_eq!(rt; seen_in(rt.alloc(), &body).map_err(no_memory)?, expected);
+        assert_eq!(rt; body.header().columns.len(), 2);
+    }
+    Ok(())
+}
