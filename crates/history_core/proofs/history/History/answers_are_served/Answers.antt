@@ -1,0 +1,4 @@
+use Rattle.history_core.proofs.history.History.answers_are_served.Goals as goal
+
+pub returns : goal.returns
+returns c = c.answers_are_served.ensures c.args.self.now.setting c.args.self.now.entries c.is_legal.ensures

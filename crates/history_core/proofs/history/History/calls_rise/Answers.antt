@@ -1,0 +1,4 @@
+use Rattle.history_core.proofs.history.History.calls_rise.Goals as goal
+
+pub returns : goal.returns
+returns c = c.calls_rise.ensures c.args.self.now.setting c.args.self.now.entries c.is_legal.ensures
