@@ -1,0 +1,10 @@
+use Rattle.std.proofs.Common.{◌≡◌, ◌+◌, ◌++◌, length, take}
+use Rattle.segment_load.specs.Loads.{body_rows, rows_in}
+use Rattle.segment_load.proofs.job.add_pieces.Given as goal
+
+-- the pieces so far are added and counted
+abbrev pub invariant-loop-i : goal.invariant-loop-i
+invariant-loop-i g l = record {
+  added : l.body ≡ record l.initial.body { rows = l.initial.body.rows ++ body_rows l.reader.catalog l.reader.header (rows_in (take l.i l.snapshot)) };
+  counted : l.steps ≡ l.initial.steps + length (rows_in (take l.i l.snapshot));
+}

@@ -1,0 +1,5 @@
+use Rattle.segment_load.proofs.LawFacts.{body_value-body_of}
+use Rattle.segment_load.proofs.laws.loads_are_worth.Goals as goal
+
+pub returns : goal.returns
+returns c = body_value-body_of

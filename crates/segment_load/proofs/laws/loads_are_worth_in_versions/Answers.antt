@@ -1,0 +1,5 @@
+use Rattle.segment_load.proofs.LawFacts.{body_value-version}
+use Rattle.segment_load.proofs.laws.loads_are_worth_in_versions.Goals as goal
+
+pub returns : goal.returns
+returns c = body_value-version

@@ -1,0 +1,11 @@
+//! Jobs that load a segment: each folds the rows of a snapshot into the body of a header.
+#![tactic(auto)]
+
+mod copies;
+mod job;
+pub mod laws;
+mod places;
+mod reader;
+mod shared;
+
+pub use job::{Delivery, LoadJob, run_load};
