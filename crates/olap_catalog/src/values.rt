@@ -1,11 +1,11 @@
 //! Looking up what a catalog holds. No look-up takes memory.
-ghost use Rattle.std.specs.Prelude.{◌≡◌, ◌<◌, length, slice_get, Some, IfSome};
+ghost use Rattle.std.specs.Prelude.{◌≡◌, ◌<◌, ◌≤◌, length, slice_get, Some, IfSome};
 ghost use Rattle.olap_meaning.specs.Catalog as meaning;
 ghost use Rattle.olap_catalog.specs.Columns.{column_texts, column_leaves};
 
 use crate::catalog::Catalog;
 use crate::field::FieldColumn;
-use olap_meaning::schema::Schema;
+use olap_meaning::schema::{CUBE_LIMIT, LEVEL_LIMIT, Schema};
 use olap_meaning::tables::{Column, Cube};
 use olap_meaning::{ColumnId, CubeId, LeafId, ValueId};
 
@@ -15,6 +15,22 @@ impl Catalog {
         ensures { result.now ≡ self.now.schema }
     {
         &self.schema
+    }
+
+    /// How many cubes there are.
+    pub fn cube_count(&self) -> u32
+        ensures count { result ≡ length self.now.cubes }
+        ensures limit { length self.now.cubes ≤ CUBE_LIMIT }
+    {
+        self.cubes.len() as u32
+    }
+
+    /// How many columns there are: one for each level of the schema.
+    pub fn column_count(&self) -> u32
+        ensures count { result ≡ length self.now.columns }
+        ensures limit { length self.now.columns ≤ LEVEL_LIMIT }
+    {
+        self.columns.len() as u32
     }
 
     /// How many values a column has.

@@ -3,13 +3,13 @@ ghost use Rattle.std.specs.Prelude.{◌≡◌, ◌≤◌, ◌+◌, ◌++◌, IfE
 ghost use Rattle.segment_header.specs.Headers.{is_header};
 ghost use Rattle.segment_load.specs.Loads.{are_batches, body_of, body_rows, header_measure, is_loadable, rows_in};
 
-use crate::copies::copy_header;
 use crate::reader::RowReader;
 use fact_batches::Steps;
 use fact_versions::Snapshot;
 use olap_catalog::Catalog;
 use olap_meaning::{Aggregator, Header, OutOfMemory, ROW_LIMIT, ValueId, Who};
 use segment_body::Body;
+use segment_header::copy_header;
 use std::alloc::Global;
 use std::marker::Model;
 use std::sync::Arc;

@@ -1,7 +1,6 @@
 //! Jobs that load a segment: each folds the rows of a snapshot into the body of a header.
 #![tactic(auto)]
 
-mod copies;
 mod job;
 pub mod laws;
 mod places;

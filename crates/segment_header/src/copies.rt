@@ -1,7 +1,7 @@
-//! Copies of headers.
+//! Copies of headers and cells.
 ghost use Rattle.std.specs.Prelude.{◌≡◌, IfOk};
 
-use olap_meaning::{Allowed, ColumnId, Header, List, OutOfMemory};
+use olap_meaning::{Allowed, Cell, ColumnId, Header, List, OutOfMemory};
 use std::alloc::Global;
 
 fn copy_allowed(alloc: Global, allowed: &Allowed) -> Result<Allowed, OutOfMemory>
@@ -30,12 +30,24 @@ fn copy_columns(
 }
 
 /// A copy of a header.
-pub(crate) fn copy_header(alloc: Global, header: &Header) -> Result<Header, OutOfMemory>
+pub fn copy_header(alloc: Global, header: &Header) -> Result<Header, OutOfMemory>
     ensures { IfOk result (λ copy. copy ≡ header.now) }
 {
     Ok(Header {
         cube: header.cube,
         measure: header.measure,
         columns: copy_columns(alloc, header.columns.as_slice())?,
+    })
+}
+
+/// A copy of a cell.
+pub fn copy_cell(alloc: Global, cell: &Cell) -> Result<Cell, OutOfMemory>
+    ensures { IfOk result (λ copy. copy ≡ cell.now) }
+{
+    let at = Vec::from_slice(alloc, cell.at.as_slice())?;
+    Ok(Cell {
+        cube: cell.cube,
+        measure: cell.measure,
+        at: List::from_vec(at),
     })
 }

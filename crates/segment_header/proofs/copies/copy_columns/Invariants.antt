@@ -1,5 +1,5 @@
 use Rattle.std.proofs.Common.{◌≡◌, take}
-use Rattle.segment_load.proofs.copies.copy_columns.Given as goal
+use Rattle.segment_header.proofs.copies.copy_columns.Given as goal
 
 abbrev pub invariant-loop-column : goal.invariant-loop-column
 invariant-loop-column l = l.copy ≡ take l.column-index l.columns
