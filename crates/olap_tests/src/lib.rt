@@ -7,4 +7,6 @@ mod cell;
 #[cfg(test)]
 mod faults;
 #[cfg(test)]
+mod sources;
+#[cfg(test)]
 mod standard;

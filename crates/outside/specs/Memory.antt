@@ -1,5 +1,5 @@
 -- What the objects in memory hold, and which of their calls are to fail.
-use Rattle.std.specs.Prelude.{ℕ, ◌==◌, List, Bool, true, Option, None, Some, nat_le, not, ◌&&◌, length}
+use Rattle.std.specs.Prelude.{ℕ, ◌==◌, ◌+◌, ◌-◌, ◌^◌, List, Bool, true, Option, None, Some, nat_le, not, ◌&&◌, length, min, max}
 use Rattle.std.specs.List.{list_any}
 
 -- the number of the next call, from 0, and the numbers of those that are to fail
@@ -10,6 +10,10 @@ pub record Planned : Type 0 where
 -- the next call is to fail
 abbrev pub fails_next : Planned → Bool
 fails_next plan = list_any (λ n. n == plan.next) plan.failing
+
+-- the plan once one call more has come; the number of the next call stays within 64 bits
+abbrev pub counted : Planned → Planned
+counted plan = record { next = min (plan.next + 1) (2 ^ 64 - 1); failing = plan.failing }
 
 -- what a sink in memory has taken, its plan, how many bytes it still takes where that is limited, and its faults
 pub record Filled : Type 0 where
@@ -26,6 +30,36 @@ has_room (Some room) size = nat_le size room
 -- the plan lets the next write pass
 abbrev pub lets_pass : Filled → List ℕ → Bool
 lets_pass sink bytes = not (fails_next sink.plan) && has_room sink.room (length bytes)
+
+-- what a source in memory has left, its plan, how many bytes it still gives, and how many one call gives at most, where those are limited, and its faults
+pub record Supplied : Type 0 where
+  pub left : List ℕ
+  pub plan : Planned
+  pub room : Option ℕ
+  pub most : Option ℕ
+  pub faults : ℕ
+
+-- as many as this, or the limit where that is less
+abbrev pub at_most : Option ℕ → ℕ → ℕ
+at_most None size = size
+at_most (Some limit) size = min limit size
+
+-- how many of so many bytes one call gives: a limit of 0 counts as 1
+abbrev pub in_one : Option ℕ → ℕ → ℕ
+in_one None size = size
+in_one (Some most) size = min size (max most 1)
+
+-- how many bytes the next read into a piece of this size would give if its room had no end
+abbrev pub wanted : Supplied → ℕ → ℕ
+wanted source size = in_one source.most (min size (length source.left))
+
+-- how many bytes the next read into a piece of this size gives, if it does not fail
+abbrev pub given : Supplied → ℕ → ℕ
+given source size = at_most source.room (wanted source size)
+
+-- the plan lets the next read pass, and there is room for its first byte if it would give one
+abbrev pub lets_read : Supplied → ℕ → Bool
+lets_read source size = not (fails_next source.plan) && has_room source.room (min 1 (wanted source size))
 
 -- what a depot in memory holds, its plan, and its counts
 pub record Stored : Type 0 where

@@ -9,6 +9,10 @@ with_bytes taken bytes = option_map (λ held. held ++ bytes) taken
 abbrev pub TakesFront : Option (List ℕ) → Option (List ℕ) → List ℕ → Type 0
 TakesFront before after bytes = (n : ℕ) × (after ≡ with_bytes before (take n bytes))
 
+-- these bytes were taken off the front of what was left, and no others
+abbrev pub TakenOff : Option (List ℕ) → Option (List ℕ) → List ℕ → Type 0
+TakenOff before after bytes = before ≡ option_map (λ rest. bytes ++ rest) after
+
 -- the bytes of the file of this name: the first, where two have one name
 abbrev pub file_named : List (List ℕ × List ℕ) → List ℕ → Option (List ℕ)
 file_named [] name = None

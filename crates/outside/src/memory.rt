@@ -1,12 +1,15 @@
 //! Objects in memory, which tell what they hold and fail as they were told to.
 ghost use Rattle.std.specs.Prelude.{◌≡◌, ◌+◌, ◌-◌, ◌^◌, ◌<◌, ◌≤◌, ◌++◌, ◌↔◌, [], IsTrue, OnOk, OnErr, IfOk, IfErr, IsErrOf, None, Some, min, option_map, option_copied};
-ghost use Rattle.outside.specs.Memory.{fails_next, lets_pass, has_room};
+ghost use Rattle.outside.specs.Memory.{fails_next, lets_pass, has_room, at_most};
 ghost use Rattle.outside.specs.Told.{TakesFront, file_named};
+
+mod source;
 
 use crate::depot::{Depot, DepotRefusal};
 use crate::fault_count::FaultCount;
 use crate::sink::{Failed, Sink};
 use olap_meaning::{List, Text};
+pub use source::MemorySource;
 use std::alloc::Global;
 use std::marker::Model;
 
@@ -96,6 +99,7 @@ impl MemorySink {
 
 // How many of so many bytes there is room for.
 fn fitting(room: Option<u64>, size: usize) -> usize
+    ensures value { result ≡ at_most room size }
     ensures bound { result ≤ size }
     ensures whole { result ≡ size → IsTrue (has_room room size) }
 {

@@ -1,12 +1,13 @@
-//! The real outside: a folder's files, and the standard output. These few lines are the trusted edge: a contract can not
-//! say what a file holds or where printed bytes go.
+//! The real outside: a folder's files, and the standard input and output. These few lines are the trusted edge: a
+//! contract can not say what a file or the input holds, or where printed bytes go.
 
 use crate::depot::{Depot, DepotRefusal};
 use crate::fault_count::FaultCount;
 use crate::sink::{Failed, Sink};
+use crate::source::Source;
 use olap_meaning::List;
 use std::alloc::Global;
-use std::io::{ErrorKind, Write};
+use std::io::{ErrorKind, Input, Read, Write};
 use std::rt::Files;
 use std::{fs, io};
 
@@ -41,6 +42,46 @@ impl<'a, R: Print> Sink for StdSink<'a, R> {
                 Err(Failed)
             }
         }
+    }
+}
+
+/// The standard input. It tells nothing of what is left.
+#[derive(Drop)]
+pub struct StdSource<'a, R> {
+    rt: &'a R,
+    faults: FaultCount,
+}
+
+impl<'a, R: Input> StdSource<'a, R> {
+    pub fn new(rt: &'a R) -> StdSource<'a, R> {
+        StdSource {
+            rt,
+            faults: FaultCount::new(),
+        }
+    }
+}
+
+// How often a read is tried that a signal cuts short each time.
+const TRIES: u32 = 64;
+
+impl<'a, R: Input> Source for StdSource<'a, R> {
+    ghost use Rattle.std.specs.Prelude.{None};
+
+    ghost left = { λ _. None };
+
+    ghost faults = { λ s. s.faults.count };
+
+    fn read(&mut self, into: &mut [u8]) -> Result<usize, Failed> {
+        let mut reader = self.rt.reader();
+        for _ in 0..TRIES {
+            match reader.read(into) {
+                Ok(n) => return Ok(n),
+                Err(e) if e.kind() == ErrorKind::Interrupted => {}
+                Err(_) => break,
+            }
+        }
+        self.faults = self.faults.risen();
+        Err(Failed)
     }
 }
 

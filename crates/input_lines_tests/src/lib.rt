@@ -1,0 +1,7 @@
+//! Tests of the reader of lines.
+#![tactic(auto)]
+
+#[cfg(test)]
+mod long;
+#[cfg(test)]
+mod short;

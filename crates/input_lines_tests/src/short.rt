@@ -1,0 +1,108 @@
+//! Short inputs, cut in many ways.
+use input_lines::{LineReader, Next};
+use olap_meaning::{List, OutOfMemory};
+use outside::{Calls, Failed, MemorySource, Source};
+use std::alloc::{AllocError, Global};
+use std::test::Fail;
+
+// More answers than any of the inputs here has.
+const MOST_ANSWERS: u32 = 20;
+
+// What a reader answers: each line with a bar behind it, an exclamation mark for a failure, a dot at the end.
+fn answers<S: Source>(
+    alloc: Global,
+    reader: &mut LineReader,
+    source: &mut S,
+) -> Result<Vec<u8>, AllocError> {
+    let mut told = Vec::new(alloc);
+    for _ in 0..MOST_ANSWERS {
+        match reader.next(source) {
+            Ok(Next::Line) => {
+                told.extend_from_slice(reader.line())?;
+                told.push(b'|')?;
+            }
+            Ok(Next::TooLong) => told.push(b'#')?,
+            Ok(Next::End) => {
+                told.push(b'.')?;
+                return Ok(told);
+            }
+            Err(Failed) => told.push(b'!')?,
+        }
+    }
+    Ok(told)
+}
+
+// A source of these bytes, of which one read gives at most so many, and one call fails.
+fn source(
+    alloc: Global,
+    bytes: &[u8],
+    most: Option<usize>,
+    failing: Option<u64>,
+) -> Result<MemorySource, OutOfMemory> {
+    let bytes = List::from_vec(Vec::from_slice(alloc, bytes)?);
+    let mut numbers = List::new(alloc);
+    if let Some(number) = failing {
+        numbers.push(number)?;
+    }
+    Ok(MemorySource::new(bytes, Calls::failing(numbers), None, most))
+}
+
+// An input, and what a reader of it answers.
+const INPUTS: [(&[u8], &[u8]); 14] = [
+    (b"", b"."),
+    (b"\n", b"|."),
+    (b"\r\n", b"|."),
+    (b"a\n", b"a|."),
+    (b"a\r\n", b"a|."),
+    (b"a", b"a|."),
+    (b"a\r", b"a\r|."),
+    (b"\r", b"\r|."),
+    (b"a\rb\n", b"a\rb|."),
+    (b"a\r\r\n", b"a\r|."),
+    (b"a\n\nb\n", b"a||b|."),
+    (b"ab\ncd", b"ab|cd|."),
+    (b"\n\r\n\n", b"|||."),
+    (b"ab\r\ncd\n\r\ne\r", b"ab|cd||e\r|."),
+];
+
+#[test]
+fn lines_are_the_same_however_the_input_is_cut(rt: HostRuntime) -> Result<(), Fail> {
+    let alloc = rt.alloc();
+    for (input, told) in &INPUTS {
+        for most in 0..15 {
+            let mut reader = LineReader::new(alloc)?;
+            let mut source = source(alloc, *input, Some(most), None)?;
+            let given = answers(alloc, &mut reader, &mut source)?;
+            assert_eq!(rt; given.as_slice(), *told);
+        }
+    }
+    Ok(())
+}
+
+// An input, how many bytes one read gives, which read fails, and what a reader answers.
+const FAILURES: [(&[u8], Option<usize>, u64, &[u8]); 7] = [
+    // In the middle of a line.
+    (b"abcd\nef", Some(2), 1, b"!abcd|ef|."),
+    // Between the CR and the LF.
+    (b"a\r\nb\n", Some(2), 1, b"!a|b|."),
+    // At the first read.
+    (b"a\n", None, 0, b"!a|."),
+    // The read behind the one that brings an LF: its line is given before.
+    (b"abcd\nef", Some(2), 3, b"abcd|!ef|."),
+    (b"a\nb\nc", None, 1, b"a|b|!c|."),
+    // The read that would show the end.
+    (b"abcd\nef", Some(2), 4, b"abcd|!ef|."),
+    (b"a\n", None, 1, b"a|!."),
+];
+
+#[test]
+fn a_failure_loses_nothing(rt: HostRuntime) -> Result<(), Fail> {
+    let alloc = rt.alloc();
+    for (input, most, failing, told) in &FAILURES {
+        let mut reader = LineReader::new(alloc)?;
+        let mut source = source(alloc, *input, *most, Some(*failing))?;
+        let given = answers(alloc, &mut reader, &mut source)?;
+        assert_eq!(rt; given.as_slice(), *told);
+    }
+    Ok(())
+}

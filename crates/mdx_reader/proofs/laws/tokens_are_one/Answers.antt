@@ -1,0 +1,5 @@
+use Rattle.mdx_reader.proofs.Once.{spells_once}
+use Rattle.mdx_reader.proofs.laws.tokens_are_one.Goals as goal
+
+pub returns : goal.returns
+returns c = λ text first second a b. spells_once b a

@@ -1,0 +1,4 @@
+pub mod Tokens
+pub mod Queries
+pub mod Lexer
+pub mod Parser

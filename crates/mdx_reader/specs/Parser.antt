@@ -1,0 +1,40 @@
+-- What is taken off the front of a list of tokens.
+use Rattle.std.specs.Prelude.{◌≡◌, ◌≢◌, ◌++◌, ℕ, Bool, true, false, List, [], ◌∷◌, Option, Some, None}
+use Rattle.mdx_reader.specs.declared.tokens.Sign.{Sign}
+use Rattle.mdx_reader.specs.declared.tokens.Sign.TheVariants.{CloseBrace}
+use Rattle.mdx_reader.specs.declared.tokens.Token.{Token}
+use Rattle.mdx_reader.specs.declared.tokens.Token.TheVariants as token
+use Rattle.mdx_reader.specs.declared.cell_query.CellQuery.{CellQuery}
+use Rattle.mdx_reader.specs.Queries.{path_tokens, query_tokens}
+
+-- the token stood in front, or it did not
+abbrev pub Took : Token → List Token → List Token → Bool → Type 0
+Took t old new true = old ≡ t ∷ new
+Took t old new false = (others : List Token) → ¬ old ≡ t ∷ others
+
+-- a sign stood in front, or none did
+abbrev pub TookSign : List Token → List Token → Option Sign → Type 0
+TookSign old new (Some sign) = old ≡ token.Sign sign ∷ new
+TookSign old new None = (sign : Sign) (others : List Token) → ¬ old ≡ token.Sign sign ∷ others
+
+-- a name stood in front, or none did
+abbrev pub TookName : List Token → List Token → Option (List ℕ) → Type 0
+TookName old new (Some name) = old ≡ token.Name name ∷ new
+TookName old new None = (name : List ℕ) (others : List Token) → ¬ old ≡ token.Name name ∷ others
+
+-- a path with a closing brace behind it, and then others
+abbrev pub IsPathThen : List Token → List (List ℕ) → List Token → Type 0
+IsPathThen tokens path others = (path ≢ []) × (tokens ≡ path_tokens path ++ token.Sign CloseBrace ∷ others)
+
+-- a path and its closing brace stood in front, or none did
+abbrev pub TookPath : List Token → List Token → Option (List (List ℕ)) → Type 0
+TookPath old new (Some path) = IsPathThen old path new
+TookPath old new None = (path : List (List ℕ)) (others : List Token) → ¬ IsPathThen old path others
+
+-- the tokens are those of a query of one cell
+abbrev pub AreTokensOf : List Token → CellQuery → Type 0
+AreTokensOf tokens query = (query.path ≢ []) × (tokens ≡ query_tokens query)
+
+-- the tokens are those of no query of one cell
+abbrev pub AreTokensOfNone : List Token → Type 0
+AreTokensOfNone tokens = (query : CellQuery) → ¬ AreTokensOf tokens query

@@ -1,0 +1,13 @@
+//! Laws of the definitions alone: each is the contract of a function with an empty body.
+ghost use Rattle.mdx_reader.specs.Queries.{CellQueriesAreOne};
+ghost use Rattle.mdx_reader.specs.Tokens.{TokensAreOne};
+
+/// No text spells two lists of tokens.
+pub fn tokens_are_one()
+    ensures { TokensAreOne }
+{}
+
+/// No text writes two queries of one cell.
+pub fn cell_queries_are_one()
+    ensures { CellQueriesAreOne }
+{}
