@@ -1,0 +1,108 @@
+-- The loads that a look starts.
+use Rattle.std.proofs.Common.{◌≡◌, refl, sym, subst, ℕ, suc, ◌+◌, ◌≤◌, List, [], ◌∷◌, ◌++◌, length, map, Bool, true, false, not, ◌&&◌, Option, Some, None, is_some, option_to_list, filter, arith, All}
+use Rattle.std.specs.List.{list_all}
+use Rattle.std.proofs.lemmas.Bool.{and_from, and_parts, both_ways, false_from_ne_true}
+use Rattle.std.proofs.lemmas.List.Elements.{All-cons, All-nil}
+use Rattle.olap_meaning.specs.declared.cells.Cell.{Cell}
+use Rattle.olap_meaning.specs.declared.cells.Who.{Who}
+use Rattle.olap_meaning.specs.declared.tables.Setting.{Setting}
+use Rattle.olap_meaning.specs.History.{Entry, awaited, awaited_load, exact_source, flushed_after, flying, load_just_covers}
+use Rattle.olap_meaning.specs.Legal.{Legal}
+use Rattle.fact_versions.specs.Facts.{FactsOf}
+use Rattle.cache_manager.specs.declared.kept.Flight.{Flight}
+use Rattle.cache_manager.specs.declared.kept.Kept.{Kept}
+use Rattle.cache_manager.specs.declared.starts.Planned.{Planned}
+use Rattle.cache_manager.specs.Cache.{CacheOf}
+use Rattle.cache_manager.specs.Groups.{firsts, is_known, wanting}
+use Rattle.cache_manager.specs.Answers.{HasSource, SomeWants}
+use Rattle.cache_manager.proofs.Answering.{source_is}
+use Rattle.cache_manager.specs.Jobs.{IsJobOf, NoneFlies}
+use Rattle.cache_manager.specs.Kept.{IsManager}
+use Rattle.cache_manager.specs.Plans.{AreLegalSteps, ArePlanned}
+use Rattle.cache_manager.proofs.Grouping.{contains_at}
+use Rattle.cache_manager.proofs.Planning.{all_jobs, all_started, planned_steps, step_of}
+use Rattle.cache_manager.proofs.Serving.{none_latest}
+use Rattle.cache_manager.proofs.Wanting.{steps_legal}
+
+-- where no load flies, none is awaited
+pub idle_unawaited : (entries : List Entry) (cell : Cell) → NoneFlies entries → awaited_load entries cell ≡ None
+idle_unawaited entries cell none = none_latest (length entries) (λ j. awaited entries j cell)
+    (λ j l. false_from_ne_true _ (λ h. both_ways _ (none j) (and_parts (flying entries j) (load_just_covers entries j cell) (and_parts (flying entries j && load_just_covers entries j cell) (not (flushed_after entries j cell)) h).0).0))
+
+-- other room
+pub refit :
+    (setting : Setting) (entries : List Entry) (spare left : ℕ) (facts : FactsOf) (held : List Kept) (places free : ℕ) (flights : List Flight) → IsManager setting entries spare facts held places flights → length flights ≤ left → length flights ≤ free
+    → IsManager setting entries left facts held free flights
+refit setting entries spare left facts held places free flights is room place = record {
+  facts_are = is.facts_are;
+  kept_are = is.kept_are;
+  kept_all = is.kept_all;
+  flights_are = is.flights_are;
+  flights_all = is.flights_all;
+  unflushed = is.unflushed;
+  ends_fit = room;
+  places_fit = place;
+}
+
+module _ (cache : CacheOf) (who : Who) (wanted : List Cell) (plans : List Planned) (legal : Legal cache.setting cache.entries) (known : list_all (is_known cache.setting.catalog) wanted ≡ true) (unserved : list_all (λ cell. not (is_some (exact_source cache.entries cell))) wanted ≡ true) (idle : NoneFlies cache.entries) (are : ArePlanned cache who wanted (length cache.entries + 1) (firsts [] wanted) plans) where
+  pub all_legal : AreLegalSteps cache.setting cache.entries (map step_of plans)
+  all_legal =
+      subst (λ (steps : List Entry). AreLegalSteps cache.setting cache.entries steps) (sym (planned_steps cache who wanted (length cache.entries + 1) (firsts [] wanted) plans are))
+      (steps_legal cache.setting cache.entries who wanted cache.entries [] wanted legal (λ cube. refl) (λ cell here none apart. (none, idle_unawaited cache.entries cell idle)) known unserved (λ k c at. contains_at wanted k c at))
+
+  pub jobs_started : All (IsJobOf (record { setting = cache.setting; entries = cache.entries ++ map step_of plans })) (map (λ p. p.job) plans)
+  jobs_started =
+      all_jobs cache who wanted plans cache.entries [] (length cache.entries + 1) (firsts [] wanted) legal all_legal are (omega arith) (λ cube. refl) (λ cube. refl) (All-nil (IsJobOf (record { setting = cache.setting; entries = cache.entries })))
+
+  pub manager_started :
+      (facts : FactsOf) (held : List Kept) (spare left places free : ℕ) (flights : List Flight) → IsManager cache.setting cache.entries spare facts held places flights → length flights + length plans ≤ left → length flights + length plans ≤ free
+      → IsManager cache.setting (cache.entries ++ map step_of plans) left facts held free (flights ++ map (λ p. p.flight) plans)
+  manager_started facts held spare left places free flights is room place =
+      all_started cache who wanted facts held free left plans cache.entries flights (length cache.entries + 1) (firsts [] wanted) legal all_legal are (omega arith)
+      (refit cache.setting cache.entries spare left facts held places free flights is (omega (arith, room)) (omega (arith, place))) room place
+
+-- where no cell wants a source, each has one
+pub none_wanted : (entries : List Entry) (cells : List Cell) → length (wanting entries cells) ≡ 0 → list_all (λ cell. is_some (exact_source entries cell)) cells ≡ true
+none_wanted entries [] none = refl
+none_wanted entries (cell ∷ cells) none = by (is_some (exact_source entries cell)) refl none (none_wanted entries cells)
+  where
+    by : (b : Bool) → is_some (exact_source entries cell) ≡ b → length (wanting entries (cell ∷ cells)) ≡ 0 → (length (wanting entries cells) ≡ 0 → list_all (λ c. is_some (exact_source entries c)) cells ≡ true) → list_all (λ c. is_some (exact_source entries c)) (cell ∷ cells) ≡ true
+    by true e few rest = and_from _ _ e (rest (rw e at few))
+    by false e few rest = let more : length (cell ∷ wanting entries cells) ≡ 0 = rw e at few in absurd (omega (arith, more))
+
+pub all_served : (cache : CacheOf) (cells : List Cell) → list_all (λ cell. is_some (exact_source cache.entries cell)) cells ≡ true → All (HasSource cache) cells
+all_served cache [] served = All-nil (HasSource cache)
+all_served cache (cell ∷ cells) served =
+    All-cons (HasSource cache) cell cells (option_to_list (exact_source cache.entries cell), source_is cache.setting.catalog cache.entries cell (and_parts _ _ served).0) (all_served cache cells (and_parts _ _ served).1)
+
+-- what holds of all cells holds of those that a test keeps, and so does the test
+pub kept_all : (p keep : Cell → Bool) (cells : List Cell) → list_all p cells ≡ true → list_all p (filter keep cells) ≡ true
+kept_all p keep [] all = refl
+kept_all p keep (cell ∷ cells) all = by (keep cell) refl (kept_all p keep cells (and_parts _ _ all).1)
+  where
+    by : (b : Bool) → keep cell ≡ b → list_all p (filter keep cells) ≡ true → list_all p (filter keep (cell ∷ cells)) ≡ true
+    by true e rest = rw e (and_from _ _ (and_parts _ _ all).0 rest)
+    by false e rest = rw e rest
+
+pub kept_pass : (keep : Cell → Bool) (cells : List Cell) → list_all keep (filter keep cells) ≡ true
+kept_pass keep [] = refl
+kept_pass keep (cell ∷ cells) = by (keep cell) refl (kept_pass keep cells)
+  where
+    by : (b : Bool) → keep cell ≡ b → list_all keep (filter keep cells) ≡ true → list_all keep (filter keep (cell ∷ cells)) ≡ true
+    by true e rest = rw e (and_from _ _ e rest)
+    by false e rest = rw e rest
+
+unserved_none : (o : Option ℕ) → is_some o ≡ false → o ≡ None
+unserved_none None h = refl
+unserved_none (Some j) h = absurd (cc)
+
+-- where cells want a source, some cell has none
+pub some_wants : (cache : CacheOf) (cells : List Cell) → (length (wanting cache.entries cells) ≡ 0 → ⊥) → SomeWants cache cells
+some_wants cache [] many = absurd (many refl)
+some_wants cache (cell ∷ cells) many = by (is_some (exact_source cache.entries cell)) refl (some_wants cache cells)
+  where
+    by : (b : Bool) → is_some (exact_source cache.entries cell) ≡ b → ((length (wanting cache.entries cells) ≡ 0 → ⊥) → SomeWants cache cells) → SomeWants cache (cell ∷ cells)
+    by true e rest =
+        let later = rest (λ few. many (rw e few)) in
+        (later.0, (suc later.1.0, omega (arith, later.1.1), later.1.2), later.2)
+    by false e rest = (cell, (0, omega arith, refl), record { exact = unserved_none (exact_source cache.entries cell) e; rolled = λ loads rolled. rolled })

@@ -1,0 +1,151 @@
+-- What is prepared for some loads, and the manager and the jobs after they are started.
+use Rattle.std.proofs.Common.{◌≡◌, refl, sym, ◌∙◌, ap, subst, ℕ, suc, ◌+◌, ◌≤◌, List, [], ◌∷◌, ◌++◌, append_assoc, length, map, filter, Bool, true, false, ◌==◌, inl, inr, arith, All}
+use Rattle.std.specs.List.{list_any}
+use Rattle.std.proofs.lemmas.Bool.{both_ways, false_from_ne_true, or_cases, or_left, or_right}
+use Rattle.std.proofs.lemmas.List.{append-nil, length_push}
+use Rattle.std.proofs.lemmas.List.Elements.{All-push, All-weaker, filter-append}
+use Rattle.olap_meaning.specs.declared.cells.Cell.{Cell}
+use Rattle.olap_meaning.specs.declared.cells.Who.{Who}
+use Rattle.olap_meaning.specs.History.{Entry, Start, Load, ends, load_at, rows_of, version}
+use Rattle.olap_meaning.specs.Legal.{Legal}
+use Rattle.olap_meaning.proofs.Growing.{legal_grows, version_grows}
+use Rattle.fact_versions.specs.Facts.{FactsOf}
+use Rattle.history_core.specs.Entries.{entry_of}
+use Rattle.segment_load.specs.Loads.{JobOf, rows_in}
+use Rattle.cache_manager.specs.declared.kept.Flight.{Flight}
+use Rattle.cache_manager.specs.declared.kept.Kept.{Kept}
+use Rattle.cache_manager.specs.declared.starts.Planned.{Planned}
+use Rattle.cache_manager.specs.Cache.{CacheOf}
+use Rattle.cache_manager.specs.Groups.{load_for}
+use Rattle.cache_manager.specs.Jobs.{IsJobOf, IsOwn, actor, entries_of, numbers_from}
+use Rattle.cache_manager.specs.Kept.{IsManager}
+use Rattle.cache_manager.specs.Plans.{AreLegalSteps, ArePlanned, IsPlanned}
+use Rattle.cache_manager.proofs.Moves.{starts}
+use Rattle.cache_manager.proofs.Pushes.{any_none, load_last, load_on, recorded, rows_on, unended}
+
+-- the step that was prepared
+abbrev pub step_of : Planned → Entry
+step_of planned = entry_of planned.start
+
+any_of_filter : {A : Type 0} (keep test : A → Bool) (xs : List A) → list_any test (filter keep xs) ≡ true → list_any test xs ≡ true
+any_of_filter keep test [] h = h
+any_of_filter keep test (x ∷ xs) h = by (keep x) refl h (any_of_filter keep test xs)
+  where
+    by : (b : Bool) → keep x ≡ b → list_any test (filter keep (x ∷ xs)) ≡ true → (list_any test (filter keep xs) ≡ true → list_any test xs ≡ true) → list_any test (x ∷ xs) ≡ true
+    by true e k rest = elim (or_cases (test x) (list_any test (filter keep xs)) (rw e at k)) [ inl here ↦ or_left _ _ here | inr there ↦ or_right _ _ (rest there) ]
+    by false e k rest = or_right _ _ (rest (rw e at k))
+
+-- what no entry ends, no entry of a seat ends
+unended_by : (entries : List Entry) (j seat : ℕ) → list_any (ends j) entries ≡ false → list_any (ends j) (entries_of entries seat) ≡ false
+unended_by entries j seat none = false_from_ne_true _ (λ h. both_ways _ none (any_of_filter _ (ends j) entries h))
+
+module _ (cache : CacheOf) (who : Who) (wanted : List Cell) where
+  abbrev load_of : Cell → Load
+  load_of cell = load_for who cache.entries wanted cell
+
+  pub planned_steps : (n : ℕ) (cells : List Cell) (plans : List Planned) → ArePlanned cache who wanted n cells plans → map step_of plans ≡ map Start (map load_of cells)
+  planned_steps n [] [] are = refl
+  planned_steps n [] (p ∷ ps) are = absurd are
+  planned_steps n (c ∷ cs) [] are = absurd are
+  planned_steps n (c ∷ cs) (p ∷ ps) are = ap (λ (e : Entry). e ∷ map step_of ps) are.0.start ∙ ap (λ (es : List Entry). Start (load_of c) ∷ es) (planned_steps (suc n) cs ps are.1)
+
+  pub planned_numbers : (n : ℕ) (cells : List Cell) (plans : List Planned) → ArePlanned cache who wanted n cells plans → map (λ job. job.load) (map (λ p. p.job) plans) ≡ numbers_from n (length (map load_of cells))
+  planned_numbers n [] [] are = refl
+  planned_numbers n [] (p ∷ ps) are = absurd are
+  planned_numbers n (c ∷ cs) [] are = absurd are
+  planned_numbers n (c ∷ cs) (p ∷ ps) are = ap (λ (m : ℕ). m ∷ map (λ job. job.load) (map (λ p. p.job) ps)) are.0.load ∙ ap (λ (ns : List ℕ). n ∷ ns) (planned_numbers (suc n) cs ps are.1)
+
+  -- the manager after the loads are started
+  pub all_started :
+      (facts : FactsOf) (held : List Kept) (places left : ℕ) (plans : List Planned) (entries : List Entry) (flights : List Flight) (n : ℕ) (cells : List Cell) → Legal cache.setting entries → AreLegalSteps cache.setting entries (map step_of plans)
+      → ArePlanned cache who wanted n cells plans → n ≡ suc (length entries) → IsManager cache.setting entries left facts held places flights → length flights + length plans ≤ left → length flights + length plans ≤ places
+      → IsManager cache.setting (entries ++ map step_of plans) left facts held places (flights ++ map (λ p. p.flight) plans)
+  all_started facts held places left [] entries flights n cells legal steps are number is room place = rw (append-nil entries, append-nil flights) is
+  all_started facts held places left (p ∷ ps) entries flights n [] legal steps are number is room place = absurd are
+  all_started facts held places left (p ∷ ps) entries flights n (c ∷ cs) legal steps are number is room place =
+      let first : IsManager cache.setting (entries ++ step_of p ∷ []) left facts held places (flights ++ p.flight ∷ []) =
+      subst (λ (e : Entry). IsManager cache.setting (entries ++ e ∷ []) left facts held places (flights ++ p.flight ∷ [])) (sym are.0.start)
+      (starts cache.setting entries facts held places flights legal left left (load_of c) p.flight is (omega (arith, room)) (omega (arith, place))
+      (ap (λ (f : Flight). f.load) are.0.flight ∙ number) (ap (λ (f : Flight). f.version) are.0.flight)) in
+      rw (← append_assoc entries (step_of p ∷ []) (map step_of ps), ← append_assoc flights (p.flight ∷ []) (map (λ q. q.flight) ps))
+      (all_started facts held places left ps (entries ++ step_of p ∷ []) (flights ++ p.flight ∷ []) (suc n) cs (legal_grows cache.setting entries (step_of p) legal steps.0) steps.1 are.1
+      (let long = length_push entries (step_of p) in omega (arith, long, number)) first
+      (let more = length_push flights p.flight in omega (arith, more, room)) (let more = length_push flights p.flight in omega (arith, more, place)))
+
+  -- the cache at some entries
+  abbrev at : List Entry → CacheOf
+  at entries = record { setting = cache.setting; entries = entries }
+
+  own_on : (entries : List Entry) (load : Load) (w : Who) (j : ℕ) (own : Load) → IsOwn (at entries) w j own → IsOwn (at (entries ++ Start load ∷ [])) w j own
+  own_on entries load w j own is = record {
+    started = load_on entries (Start load) j own is.started;
+    own = is.own;
+    unended = unended_on;
+  }
+    where
+      unended_on : list_any (ends j) (entries_of (entries ++ Start load ∷ []) w.seat) ≡ false
+      unended_on = rw (filter-append (λ entry. (actor entry).seat == w.seat) entries (Start load ∷ [])) (by ((load.who).seat == w.seat) refl)
+        where
+          by : (b : Bool) → (load.who.seat == w.seat) ≡ b → list_any (ends j) (entries_of entries w.seat ++ entries_of (Start load ∷ []) w.seat) ≡ false
+          by true e = rw e (any_none (ends j) (entries_of entries w.seat) (Start load) is.unended refl)
+          by false e = rw (e, append-nil (entries_of entries w.seat)) is.unended
+
+  -- a job stays one of the cache's
+  job_on : (entries : List Entry) (load : Load) (job : JobOf) → Legal cache.setting entries → IsJobOf (at entries) job → IsJobOf (at (entries ++ Start load ∷ [])) job
+  job_on entries load job legal is =
+      let rows : rows_of (entries ++ Start load ∷ []) is.load.header.cube is.load.version ≡ rows_of entries is.load.header.cube is.load.version =
+      rows_on entries (Start load) is.load.header.cube is.load.version (recorded cache.setting entries job.load is.load legal is.flies.started) in
+      record {
+        load = is.load;
+        catalog = is.catalog;
+        flies = own_on entries load job.who job.load is.load is.flies;
+        header = is.header;
+        rows = is.rows ∙ sym rows;
+        costs = is.costs ∙ sym (ap length rows);
+      }
+
+  -- a job that was prepared is one of the cache's, once its load is started
+  job_new :
+      (entries : List Entry) (n : ℕ) (c : Cell) (p : Planned) → Legal cache.setting entries → IsPlanned cache who wanted n c p → n ≡ suc (length entries) → version entries c.cube ≡ version cache.entries c.cube
+      → rows_of entries c.cube (version cache.entries c.cube) ≡ rows_of cache.entries c.cube (version cache.entries c.cube) → IsJobOf (at (entries ++ Start (load_of c) ∷ [])) p.job
+  job_new entries n c p legal is number present same =
+      let place : p.job.load ≡ suc (length entries) = is.load ∙ number in
+      let rows : rows_in p.job.snapshot ≡ rows_of (entries ++ Start (load_of c) ∷ []) c.cube (version cache.entries c.cube) =
+      is.rows ∙ sym same ∙ sym (rows_on entries (Start (load_of c)) c.cube (version cache.entries c.cube) (omega (arith, present))) in
+      record {
+        load = load_of c;
+        catalog = is.catalog;
+        flies = record {
+          started = ap (load_at (entries ++ Start (load_of c) ∷ [])) place ∙ load_last entries (Start (load_of c));
+          own = sym is.who_is;
+          unended = unended_by (entries ++ Start (load_of c) ∷ []) p.job.load p.job.who.seat (rw place (any_none (ends (suc (length entries))) entries (Start (load_of c)) (unended cache.setting entries legal) refl));
+        };
+        header = is.header;
+        rows = rows;
+        costs = ap length rows;
+      }
+
+  -- the jobs after their loads are started
+  pub all_jobs :
+      (plans : List Planned) (entries : List Entry) (jobs : List JobOf) (n : ℕ) (cells : List Cell) → Legal cache.setting entries → AreLegalSteps cache.setting entries (map step_of plans) → ArePlanned cache who wanted n cells plans → n ≡ suc (length entries)
+      → ((cube : ℕ) → version entries cube ≡ version cache.entries cube) → ((cube : ℕ) → rows_of entries cube (version cache.entries cube) ≡ rows_of cache.entries cube (version cache.entries cube))
+      → All (IsJobOf (at entries)) jobs → All (IsJobOf (at (entries ++ map step_of plans))) (jobs ++ map (λ p. p.job) plans)
+  all_jobs [] entries jobs n cells legal steps are number present same all = rw (append-nil entries, append-nil jobs) all
+  all_jobs (p ∷ ps) entries jobs n [] legal steps are number present same all = absurd are
+  all_jobs (p ∷ ps) entries jobs n (c ∷ cs) legal steps are number present same all =
+      rw (← append_assoc entries (step_of p ∷ []) (map step_of ps), ← append_assoc jobs (p.job ∷ []) (map (λ q. q.job) ps))
+      (all_jobs ps (entries ++ step_of p ∷ []) (jobs ++ p.job ∷ []) (suc n) cs (legal_grows cache.setting entries (step_of p) legal steps.0) steps.1 are.1
+      (let long = length_push entries (step_of p) in omega (arith, long, number))
+      (λ cube. later_version cube) (λ cube. later_rows cube)
+      (subst (λ (e : Entry). All (IsJobOf (at (entries ++ e ∷ []))) (jobs ++ p.job ∷ [])) (sym are.0.start)
+      (All-push (IsJobOf (at (entries ++ Start (load_of c) ∷ []))) jobs p.job (All-weaker (IsJobOf (at entries)) (IsJobOf (at (entries ++ Start (load_of c) ∷ []))) (λ job is. job_on entries (load_of c) job legal is) jobs all) (job_new entries n c p legal are.0 number (present c.cube) (same c.cube)))))
+    where
+      later_version : (cube : ℕ) → version (entries ++ step_of p ∷ []) cube ≡ version cache.entries cube
+      later_version cube =
+          ap (λ (e : Entry). version (entries ++ e ∷ []) cube) are.0.start ∙ version_grows entries (Start (load_of c)) cube
+          ∙ (let zero_more : version entries cube + 0 ≡ version entries cube = omega arith in zero_more) ∙ present cube
+
+      later_rows : (cube : ℕ) → rows_of (entries ++ step_of p ∷ []) cube (version cache.entries cube) ≡ rows_of cache.entries cube (version cache.entries cube)
+      later_rows cube =
+          ap (λ (e : Entry). rows_of (entries ++ e ∷ []) cube (version cache.entries cube)) are.0.start
+          ∙ rows_on entries (Start (load_of c)) cube (version cache.entries cube) (omega (arith, present cube)) ∙ same cube

@@ -1,0 +1,133 @@
+-- One more entry in a history.
+use Rattle.std.proofs.Common.{◌≡◌, refl, sym, ◌∙◌, ap, ℕ, zero, suc, ◌+◌, ◌<◌, ◌≤◌, List, [], ◌∷◌, ◌++◌, length, take, take_all, Bool, true, false, cond, not, ◌||◌, ◌⊎◌, inl, inr, Option, Some, None, arith, is_some, option_and_then, filter_map, flat_map}
+use Rattle.std.specs.List.{list_any}
+use Rattle.std.proofs.lemmas.Bool.{both_ways, and_parts, and_from, or_cases, or_left, or_right, or_from, not-true, not_from_false, false_from_ne_true}
+use Rattle.std.proofs.lemmas.List.{take-append-le}
+use Rattle.std.proofs.lemmas.List.Elements.{filter_map-append}
+use Rattle.std.proofs.lemmas.List.Folds.{list_any-append}
+use Rattle.std.proofs.lemmas.List.Recursion.{is_count_by}
+use Rattle.olap_meaning.specs.declared.tables.Setting.{Setting}
+use Rattle.olap_meaning.specs.declared.tables.Row.{Row}
+use Rattle.olap_meaning.specs.History.{Entry, Start, Load, entry_at, started, load_at, ends, flying, appended, version, rows_of}
+use Rattle.olap_meaning.specs.Legal.{Legal}
+use Rattle.olap_meaning.proofs.Positions.{get_last, get_push, entry-append, entry_from-take, entry_within, after_passes}
+use Rattle.olap_meaning.proofs.Loads.{load_start, start_load}
+use Rattle.olap_meaning.proofs.Steps.{ended_flew}
+use Rattle.olap_meaning.proofs.Versions.{versions_rise}
+
+-- a load that was started
+pub some_load : (o : Option Load) → is_some o ≡ true → (load : Load) × (o ≡ Some load)
+some_load None h = absurd (cc)
+some_load (Some load) h = (load, refl)
+
+pub load_within : (history : List Entry) (j : ℕ) (load : Load) → load_at history j ≡ Some load → (1 ≤ j) × (j ≤ length history)
+load_within history j load at = entry_within history j (Start load) (load_start history j load at)
+
+pub load_on : (history : List Entry) (entry : Entry) (j : ℕ) (load : Load) → load_at history j ≡ Some load → load_at (history ++ entry ∷ []) j ≡ Some load
+load_on history entry j load at = start_load (history ++ entry ∷ []) j load (entry-append history (entry ∷ []) j (Start load) (load_start history j load at))
+
+pub load_new :
+    (history : List Entry) (entry : Entry) (j : ℕ) (load : Load) → load_at (history ++ entry ∷ []) j ≡ Some load
+    → (load_at history j ≡ Some load) ⊎ ((j ≡ suc (length history)) × (started entry ≡ Some load))
+load_new history entry zero load at = absurd (cc)
+load_new history entry (suc i) load at =
+    elim (get_push history entry i (Start load) (load_start (history ++ entry ∷ []) (suc i) load at)) [
+      | inl stood ↦ inl (start_load history (suc i) load stood)
+      | inr last ↦ inr (ap suc last.0, ap started (sym last.1))
+    ]
+
+pub load_last : (history : List Entry) (entry : Entry) → load_at (history ++ entry ∷ []) (suc (length history)) ≡ started entry
+load_last history entry = ap (option_and_then started) (get_last history entry)
+
+pub any_more : (test : Entry → Bool) (history : List Entry) (entry : Entry) → list_any test (history ++ entry ∷ []) ≡ (list_any test history || (test entry || false))
+any_more test history entry = list_any-append test history (entry ∷ [])
+
+pub any_on : (test : Entry → Bool) (history : List Entry) (entry : Entry) → list_any test history ≡ true → list_any test (history ++ entry ∷ []) ≡ true
+any_on test history entry h = any_more test history entry ∙ or_left _ _ h
+
+pub any_last : (test : Entry → Bool) (history : List Entry) (entry : Entry) → test entry ≡ true → list_any test (history ++ entry ∷ []) ≡ true
+any_last test history entry h = any_more test history entry ∙ or_right _ _ (or_left _ _ h)
+
+pub any_none : (test : Entry → Bool) (history : List Entry) (entry : Entry) → list_any test history ≡ false → test entry ≡ false → list_any test (history ++ entry ∷ []) ≡ false
+any_none test history entry h e = any_more test history entry ∙ or_from _ _ h (or_from _ _ e refl)
+
+pub any_back : (test : Entry → Bool) (history : List Entry) (entry : Entry) → list_any test (history ++ entry ∷ []) ≡ true → (list_any test history ≡ true) ⊎ (test entry ≡ true)
+any_back test history entry h = elim (or_cases _ _ (sym (any_more test history entry) ∙ h)) [
+  | inl e ↦ inl e
+  | inr e ↦ elim (or_cases _ _ e) [ inl t ↦ inr t | inr f ↦ absurd (cc) ]
+]
+
+pub flying_parts : (history : List Entry) (j : ℕ) → flying history j ≡ true → (load : Load) × (load_at history j ≡ Some load) × (list_any (ends j) history ≡ false)
+flying_parts history j h =
+    let parts = and_parts (is_some (load_at history j)) (not (list_any (ends j) history)) h in
+    let load = some_load (load_at history j) parts.0 in
+    (load.0, load.1, not-true _ parts.1)
+
+pub flying_from : (history : List Entry) (j : ℕ) (load : Load) → load_at history j ≡ Some load → list_any (ends j) history ≡ false → flying history j ≡ true
+flying_from history j load at none = and_from (is_some (load_at history j)) (not (list_any (ends j) history)) (ap is_some at) (not_from_false _ none)
+
+pub flying_on : (history : List Entry) (entry : Entry) (j : ℕ) → flying history j ≡ true → ends j entry ≡ false → flying (history ++ entry ∷ []) j ≡ true
+flying_on history entry j h e =
+    let parts = flying_parts history j h in
+    flying_from (history ++ entry ∷ []) j parts.0 (load_on history entry j parts.0 parts.1) (any_none (ends j) history entry parts.2 e)
+
+-- what flies then flew before, or was just started
+pub flying_back :
+    (history : List Entry) (entry : Entry) (j : ℕ) → flying (history ++ entry ∷ []) j ≡ true
+    → (ends j entry ≡ false) × ((flying history j ≡ true) ⊎ ((j ≡ suc (length history)) × (is_some (started entry) ≡ true)))
+flying_back history entry j h =
+    let parts = flying_parts (history ++ entry ∷ []) j h in
+    let unended : list_any (ends j) history ≡ false = false_from_ne_true _ (λ e. both_ways _ parts.2 (any_on (ends j) history entry e)) in (
+      false_from_ne_true _ (λ e. both_ways _ parts.2 (any_last (ends j) history entry e)),
+      elim (load_new history entry j parts.0 parts.1) [
+        | inl at ↦ inl (flying_from history j parts.0 at unended)
+        | inr new ↦ inr (new.0, ap is_some new.1)
+      ],
+    )
+
+-- in a legal history only loads that were started are ended
+pub unended : (setting : Setting) (history : List Entry) → Legal setting history → list_any (ends (suc (length history))) history ≡ false
+unended setting history legal = false_from_ne_true _ none
+  where
+    within : (q : ℕ) (e : Entry) (j : ℕ) → entry_at history q ≡ Some e → ends j e ≡ true → j ≤ length history
+    within zero e j at f = absurd (cc)
+    within (suc b) e j at f =
+        let flew = flying_parts (take b history) j (ended_flew setting (take b history) e j (legal b e at) f) in
+        (entry_within history j (Start flew.0) (entry_from-take b history j (Start flew.0) (load_start (take b history) j flew.0 flew.1)).0).1
+
+    none : list_any (ends (suc (length history))) history ≡ true → ⊥
+    none h =
+        let found : (q : ℕ) × (e : Entry) × (entry_at history q ≡ Some e) × (0 < q) × (ends (suc (length history)) e ≡ true) = after_passes (ends (suc (length history))) 0 history h in
+        let l : suc (length history) ≤ length history = within found.0 found.1 (suc (length history)) found.2 found.4 in
+        omega (arith, l)
+
+-- a load that is started flies
+pub starts_flying : (setting : Setting) (history : List Entry) (load : Load) → Legal setting history → flying (history ++ Start load ∷ []) (suc (length history)) ≡ true
+starts_flying setting history load legal =
+    flying_from (history ++ Start load ∷ []) (suc (length history)) load (load_last history (Start load)) (any_none (ends (suc (length history))) history (Start load) (unended setting history legal) refl)
+
+-- the version is the number of the cube's appends
+pub version-length : (history : List Entry) (cube : ℕ) → version history cube ≡ length (filter_map (appended cube) history)
+version-length history cube = sym (is_count_by (λ (entries : List Entry). length (filter_map (appended cube) entries)) (λ entry. is_some (appended cube entry)) refl step history)
+  where
+    step : (entry : Entry) (entries : List Entry) → length (filter_map (appended cube) (entry ∷ entries)) ≡ cond (is_some (appended cube entry)) (1 + length (filter_map (appended cube) entries)) (length (filter_map (appended cube) entries))
+    step entry entries = by (appended cube entry) refl
+      where
+        by : (o : Option (List Row)) → appended cube entry ≡ o → length (filter_map (appended cube) (entry ∷ entries)) ≡ cond (is_some (appended cube entry)) (1 + length (filter_map (appended cube) entries)) (length (filter_map (appended cube) entries))
+        by None e = rw e refl
+        by (Some rows) e = rw e (omega arith)
+
+pub rows_on : (history : List Entry) (entry : Entry) (cube v : ℕ) → v ≤ version history cube → rows_of (history ++ entry ∷ []) cube v ≡ rows_of history cube v
+rows_on history entry cube v l =
+    ap (λ (batches : List (List Row)). flat_map (λ rows. rows) (take v batches)) (filter_map-append (appended cube) history (entry ∷ []))
+    ∙ ap (λ (batches : List (List Row)). flat_map (λ rows. rows) batches) (take-append-le v (filter_map (appended cube) history) (filter_map (appended cube) (entry ∷ [])) (omega (arith, l, version-length history cube)))
+
+-- a load is of a version that its cube had
+pub recorded : (setting : Setting) (history : List Entry) (j : ℕ) (load : Load) → Legal setting history → load_at history j ≡ Some load → load.version ≤ version history load.header.cube
+recorded setting history zero load legal at = absurd (cc)
+recorded setting history (suc b) load legal at =
+    let start = load_start history (suc b) load at in
+    let within = entry_within history (suc b) (Start load) start in
+    let rising = versions_rise history load.header.cube b (length history) (omega (arith, within.1)) in
+    let whole = ap (λ (entries : List Entry). version entries load.header.cube) (take_all (length history) history (omega arith)) in
+    omega (arith, (legal b (Start load) start).present, rising, whole)

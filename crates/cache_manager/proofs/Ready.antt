@@ -1,0 +1,193 @@
+-- After the loads of a look were delivered, each of its cells has a source.
+use Rattle.std.proofs.Common.{◌≡◌, refl, sym, ◌∙◌, ap, subst, ℕ, zero, suc, ◌+◌, ◌<◌, ◌≤◌, List, [], ◌∷◌, ◌++◌, append_assoc, length, map, filter, Bool, true, false, not, ◌&&◌, ◌||◌, ◌⊎◌, inl, inr, Option, Some, None, is_some, option_map, option_to_list, slice_get, arith, All}
+use Rattle.std.specs.Prelude.{IsTrue}
+use Rattle.std.specs.List.{list_all, list_any}
+use Rattle.std.proofs.lemmas.Bool.{and_from, and_parts, both_ways, false_from_ne_true, not_from_false, or_cases, or_left, or_right}
+use Rattle.std.proofs.lemmas.List.{append-nil}
+use Rattle.std.proofs.lemmas.List.Elements.{All-cons, All-head, All-nil, All-tail}
+use Rattle.std.proofs.lemmas.List.Folds.{list_any-append}
+use Rattle.std.proofs.lemmas.Option.{slice_get-map}
+use Rattle.olap_meaning.specs.declared.cells.Cell.{Cell}
+use Rattle.olap_meaning.specs.declared.cells.Who.{Who}
+use Rattle.olap_meaning.specs.Covering.{header_covers, just_covers, names_column}
+use Rattle.olap_meaning.specs.History.{Entry, Start, Load, entry_at, exact_source, flushed_after, flushes, is_some_and, kept, live, load_at, load_covers, load_just_covers}
+use Rattle.olap_meaning.proofs.Loads.{live_on, load_start, some_and, start_load}
+use Rattle.olap_meaning.proofs.Positions.{after_passes, entry-append, entry_within, latest_bounds, latest_found}
+use Rattle.cache_manager.specs.Answers.{HasSource}
+use Rattle.cache_manager.specs.Cache.{CacheOf}
+use Rattle.cache_manager.specs.Groups.{alike, firsts, header_for, is_known, load_for, loads_for, wanting}
+use Rattle.cache_manager.specs.Jobs.{numbers_from}
+use Rattle.cache_manager.specs.Laws.{DeliveredLooksAreReady}
+use Rattle.cache_manager.proofs.Answering.{source_is}
+use Rattle.cache_manager.proofs.Grouping.{alike_from, alike_self, alike_told, group_covered, kept_place, known_rises, Alike}
+
+-- a load that serves a cell makes for an exact source
+serves_source : (entries : List Entry) (j : ℕ) (cell : Cell) (load : Load) → load_at entries j ≡ Some load → live entries j cell ≡ true → load_just_covers entries j cell ≡ true → is_some (exact_source entries cell) ≡ true
+serves_source entries j cell load at lives covers =
+    let within = entry_within entries j (Start load) (load_start entries j load at) in
+    let found : (m : ℕ) × (exact_source entries cell ≡ Some m) × (j ≤ m) = latest_bounds (length entries) (λ k. live entries k cell && load_just_covers entries k cell) j (and_from _ _ lives covers) within.0 within.1 in
+    ap is_some found.1
+
+-- loads stay where they are
+load_stays : (entries later : List Entry) (j : ℕ) (load : Load) → load_at entries j ≡ Some load → load_at (entries ++ later) j ≡ Some load
+load_stays entries later j load at = start_load (entries ++ later) j load (entry-append entries later j (Start load) (load_start entries j load at))
+
+-- and stay live where nothing flushes the cell
+live_stays : (entries later : List Entry) (j : ℕ) (cell : Cell) → list_any (flushes cell) later ≡ false → live entries j cell ≡ true → live (entries ++ later) j cell ≡ true
+live_stays entries [] j cell none lives = rw (append-nil entries) lives
+live_stays entries (e ∷ es) j cell none lives =
+    let here : flushes cell e ≡ false = false_from_ne_true _ (λ h. both_ways _ none (or_left _ _ h)) in
+    let rest : list_any (flushes cell) es ≡ false = false_from_ne_true _ (λ h. both_ways _ none (or_right _ _ h)) in
+    rw (← append_assoc entries (e ∷ []) es) (live_stays (entries ++ e ∷ []) es j cell rest (live_on entries e cell j here lives))
+
+-- an entry past the front of a history is one of the rest
+get_rest : {A : Type 0} (xs ys : List A) (i : ℕ) (x : A) → length xs ≤ i → slice_get (xs ++ ys) i ≡ Some x → (k : ℕ) × (slice_get ys k ≡ Some x)
+get_rest [] ys i x l at = (i, at)
+get_rest (z ∷ zs) ys zero x l at = absurd (omega (arith, l))
+get_rest (z ∷ zs) ys (suc i) x l at = get_rest zs ys i x (omega (arith, l)) at
+
+any_at : {A : Type 0} (test : A → Bool) (xs : List A) (k : ℕ) (x : A) → slice_get xs k ≡ Some x → test x ≡ true → list_any test xs ≡ true
+any_at test [] k x at t = absurd (cc)
+any_at test (y ∷ ys) zero x at t = let same : y ≡ x = cc in or_left _ _ (ap test same ∙ t)
+any_at test (y ∷ ys) (suc k) x at t = or_right _ _ (any_at test ys k x at t)
+
+-- no flush after a load of the rest, where the rest flushes nothing of a cell
+unflushed_rest : (entries rest : List Entry) (j : ℕ) (cell : Cell) → length entries ≤ j → list_any (flushes cell) rest ≡ false → flushed_after (entries ++ rest) j cell ≡ false
+unflushed_rest entries rest j cell l none = false_from_ne_true _ some
+  where
+    by : (q : ℕ) (e : Entry) → entry_at (entries ++ rest) q ≡ Some e → j < q → flushes cell e ≡ true → ⊥
+    by zero e at m f = absurd (omega (arith, m))
+    by (suc i) e at m f = let there = get_rest entries rest i e (omega (arith, l, m)) at in both_ways _ none (any_at (flushes cell) rest there.0 e there.1 f)
+
+    some : flushed_after (entries ++ rest) j cell ≡ true → ⊥
+    some h =
+        let found : (q : ℕ) × (e : Entry) × (entry_at (entries ++ rest) q ≡ Some e) × (j < q) × (flushes cell e ≡ true) = after_passes (flushes cell) j (entries ++ rest) h in
+        by found.0 found.1 found.2 found.3 found.4
+
+starts_flush_none : (cell : Cell) (loads : List Load) (later : List Entry) → list_any (flushes cell) later ≡ false → list_any (flushes cell) (map Start loads ++ later) ≡ false
+starts_flush_none cell [] later none = none
+starts_flush_none cell (load ∷ loads) later none = starts_flush_none cell loads later none
+
+get_of_rest : {A : Type 0} (xs ys : List A) (k : ℕ) (y : A) → slice_get ys k ≡ Some y → slice_get (xs ++ ys) (length xs + k) ≡ Some y
+get_of_rest [] ys k y at = let e : 0 + k ≡ k = omega arith in ap (slice_get ys) e ∙ at
+get_of_rest (x ∷ xs) ys k y at = let e : length (x ∷ xs) + k ≡ suc (length xs + k) = omega arith in ap (slice_get (x ∷ (xs ++ ys))) e ∙ get_of_rest xs ys k y at
+
+get_front : {A : Type 0} (xs ys : List A) (k : ℕ) (x : A) → slice_get xs k ≡ Some x → slice_get (xs ++ ys) k ≡ Some x
+get_front [] ys k x at = absurd (cc)
+get_front (z ∷ zs) ys zero x at = at
+get_front (z ∷ zs) ys (suc k) x at = get_front zs ys k x at
+
+-- the first cell of the group of a cell
+abbrev FirstOf : List Cell → Cell → Type 0
+FirstOf cells cell = (k : ℕ) × (first : Cell) × (slice_get cells k ≡ Some first) × (alike cell first ≡ true)
+
+-- it is one before, or one of the first cells
+abbrev FoundIn : List Cell → List Cell → Cell → Type 0
+FoundIn before all cell = (list_any (alike cell) before ≡ true) ⊎ FirstOf (firsts before all) cell
+
+first_of : (before cells : List Cell) (i : ℕ) (cell : Cell) → slice_get cells i ≡ Some cell → FoundIn before cells cell
+first_of before [] i cell at = absurd (cc)
+first_of before (d ∷ ds) i cell at = by (list_any (alike d) before) refl i at (first_of before ds) (first_of (before ++ d ∷ []) ds)
+  where
+    later : list_any (alike d) before ≡ false → FirstOf (firsts (before ++ d ∷ []) ds) cell → FoundIn before (d ∷ ds) cell
+    later e found = inr (suc found.0, found.1, rw e found.2, found.3)
+
+    here : list_any (alike d) before ≡ false → alike cell d ≡ true → FoundIn before (d ∷ ds) cell
+    here e like = inr (0, d, rw e refl, like)
+
+    by : (b : Bool) → list_any (alike d) before ≡ b → (i : ℕ) → slice_get (d ∷ ds) i ≡ Some cell
+        → ((i : ℕ) (c : Cell) → slice_get ds i ≡ Some c → FoundIn before ds c)
+        → ((i : ℕ) (c : Cell) → slice_get ds i ≡ Some c → FoundIn (before ++ d ∷ []) ds c)
+        → FoundIn before (d ∷ ds) cell
+    by true e zero at seen new = let same : d ≡ cell = cc in inl (ap (λ (c : Cell). list_any (alike c) before) (sym same) ∙ e)
+    by true e (suc i) at seen new = elim (seen i cell at) [ inl old ↦ inl old | inr found ↦ inr (found.0, found.1, rw e found.2, found.3) ]
+    by false e zero at seen new = let same : d ≡ cell = cc in here e (ap (λ (c : Cell). alike c d) (sym same) ∙ alike_self d)
+    by false e (suc i) at seen new =
+        elim (new i cell at) [
+          | inl old ↦ elim (or_cases (list_any (alike cell) before) (alike cell d || false) (sym (list_any-append (alike cell) before (d ∷ [])) ∙ old)) [
+            | inl older ↦ inl older
+            | inr like ↦ elim (or_cases (alike cell d) false like) [ inl l ↦ here e l | inr none ↦ absurd (cc) ]
+          ]
+          | inr found ↦ later e found
+        ]
+
+-- one of so many numbers
+number_at : (P : ℕ → Type 0) (first count k : ℕ) → All P (numbers_from first count) → k < count → P (first + k)
+number_at P first zero k all l = absurd (omega (arith, l))
+number_at P first (suc count) zero all l = let e : first + 0 ≡ first = omega arith in subst P (sym e) (All-head P first (numbers_from (suc first) count) all)
+number_at P first (suc count) (suc k) all l = let e : first + suc k ≡ suc first + k = omega arith in subst P (sym e) (number_at P (suc first) count k (All-tail P first (numbers_from (suc first) count) all) (omega (arith, l)))
+
+get_within : {A : Type 0} (xs : List A) (k : ℕ) (x : A) → slice_get xs k ≡ Some x → k < length xs
+get_within [] k x at = absurd (cc)
+get_within (y ∷ ys) zero x at = omega arith
+get_within (y ∷ ys) (suc k) x at = let l = get_within ys k x at in omega (arith, l)
+
+module _ (cache : CacheOf) (who : Who) (cells : List Cell) (later : List Entry) where
+  abbrev wanted : List Cell
+  wanted = wanting cache.entries cells
+
+  abbrev loads : List Load
+  loads = loads_for who cache.entries cells
+
+  abbrev final : List Entry
+  final = cache.entries ++ (map Start loads ++ later)
+
+  -- a cell that wanted a source has the load of its group
+  wanted_served :
+      (i : ℕ) (cell : Cell) → is_known cache.setting.catalog cell ≡ true → slice_get wanted i ≡ Some cell → list_any (flushes cell) later ≡ false
+      → All (λ j. IsTrue (kept final j)) (numbers_from (length cache.entries + 1) (length loads)) → is_some (exact_source final cell) ≡ true
+  wanted_served i cell known at none all = elim (first_of [] wanted i cell at) [ inl old ↦ absurd (cc) | inr found ↦ served found.0 found.1 found.2 found.3 ]
+    where
+      served : (k : ℕ) (first : Cell) → slice_get (firsts [] wanted) k ≡ Some first → alike cell first ≡ true → is_some (exact_source final cell) ≡ true
+      served k first place like =
+          let told = alike_told cell first like in
+          let back : Alike first cell = record { cube = sym told.cube; measure = sym told.measure; columns = sym told.columns } in
+          let member = kept_place (alike first) wanted i cell at (alike_from first cell back) in
+          let covers : just_covers (header_for first (filter (alike first) wanted)) cell ≡ true = group_covered first (filter (alike first) wanted) member.0 cell back (known_rises cache.setting.catalog cell known) member.1 in
+          let load : slice_get loads k ≡ Some (load_for who cache.entries wanted first) = slice_get-map (load_for who cache.entries wanted) (firsts [] wanted) k ∙ ap (option_map (load_for who cache.entries wanted)) place in
+          let start : slice_get (map Start loads) k ≡ Some (Start (load_for who cache.entries wanted first)) = slice_get-map Start loads k ∙ ap (option_map Start) load in
+          let number : length cache.entries + 1 + k ≡ suc (length cache.entries + k) = omega arith in
+          let at_final : load_at final (suc (length cache.entries + k)) ≡ Some (load_for who cache.entries wanted first) =
+          start_load final (suc (length cache.entries + k)) (load_for who cache.entries wanted first) (get_of_rest cache.entries (map Start loads ++ later) k _ (get_front (map Start loads) later k _ start)) in
+          let delivered : kept final (suc (length cache.entries + k)) ≡ true = subst (λ (j : ℕ). kept final j ≡ true) number (number_at (λ j. IsTrue (kept final j)) (length cache.entries + 1) (length loads) k all (get_within loads k _ load)) in
+          let just : load_just_covers final (suc (length cache.entries + k)) cell ≡ true = ap (is_some_and (λ (l : Load). just_covers l.header cell)) at_final ∙ covers in
+          let wide : load_covers final (suc (length cache.entries + k)) cell ≡ true =
+          ap (is_some_and (λ (l : Load). header_covers l.header cell)) at_final
+          ∙ (and_parts (header_covers (header_for first (filter (alike first) wanted)) cell) (list_all (λ column. names_column cell column.0) (header_for first (filter (alike first) wanted)).columns) covers).0 in
+          let open_still : flushed_after final (suc (length cache.entries + k)) cell ≡ false =
+          unflushed_rest cache.entries (map Start loads ++ later) (suc (length cache.entries + k)) cell (omega arith) (starts_flush_none cell loads later none) in
+          serves_source final (suc (length cache.entries + k)) cell (load_for who cache.entries wanted first) at_final
+          (and_from (kept final (suc (length cache.entries + k)) && load_covers final (suc (length cache.entries + k)) cell) (not (flushed_after final (suc (length cache.entries + k)) cell)) (and_from _ _ delivered wide) (not_from_false _ open_still)) just
+
+  -- a cell that had a source still has one
+  served_still : (cell : Cell) (j : ℕ) → exact_source cache.entries cell ≡ Some j → list_any (flushes cell) later ≡ false → is_some (exact_source final cell) ≡ true
+  served_still cell j source none =
+      let found = latest_found (length cache.entries) (λ k. live cache.entries k cell && load_just_covers cache.entries k cell) j source in
+      let parts = and_parts (live cache.entries j cell) (load_just_covers cache.entries j cell) found.0 in
+      let load : (load : Load) × (load_at cache.entries j ≡ Some load) × (just_covers load.header cell ≡ true) = some_and (λ (l : Load). just_covers l.header cell) (load_at cache.entries j) parts.1 in
+      let at_final = load_stays cache.entries (map Start loads ++ later) j load.0 load.1 in
+      serves_source final j cell load.0 at_final (live_stays cache.entries (map Start loads ++ later) j cell (starts_flush_none cell loads later none) parts.0)
+      (ap (is_some_and (λ (l : Load). just_covers l.header cell)) at_final ∙ load.2)
+
+  -- each cell, with its place among all
+  all_sourced :
+      (some : List Cell) → ((i : ℕ) (cell : Cell) → slice_get some i ≡ Some cell → is_some (exact_source cache.entries cell) ≡ false → (k : ℕ) × (slice_get wanted k ≡ Some cell))
+      → list_all (is_known cache.setting.catalog) some ≡ true → All (λ cell. list_any (flushes cell) later ≡ false) some → All (λ j. IsTrue (kept final j)) (numbers_from (length cache.entries + 1) (length loads))
+      → All (HasSource (record { setting = cache.setting; entries = final })) some
+  all_sourced [] places known none all = All-nil _
+  all_sourced (cell ∷ others) places known none all =
+      All-cons (HasSource (record { setting = cache.setting; entries = final })) cell others
+      (option_to_list (exact_source final cell), source_is cache.setting.catalog final cell (by (exact_source cache.entries cell) refl))
+      (all_sourced others (λ i c at unserved. places (suc i) c at unserved) (and_parts _ _ known).1 (All-tail (λ c. list_any (flushes c) later ≡ false) cell others none) all)
+    where
+      unflushed : list_any (flushes cell) later ≡ false
+      unflushed = All-head (λ c. list_any (flushes c) later ≡ false) cell others none
+
+      by : (o : Option ℕ) → exact_source cache.entries cell ≡ o → is_some (exact_source final cell) ≡ true
+      by (Some j) e = served_still cell j e unflushed
+      by None e = let place = places 0 cell refl (ap is_some e) in wanted_served place.0 cell (and_parts _ _ known).0 place.1 unflushed all
+
+pub delivered_looks_are_ready : DeliveredLooksAreReady
+delivered_looks_are_ready cache who cells later known none all =
+    all_sourced cache who cells later cells
+    (λ i cell at unserved. kept_place (λ c. not (is_some (exact_source cache.entries c))) cells i cell at (not_from_false _ unserved)) known none all

@@ -1,0 +1,159 @@
+-- Numbers put into rising numbers.
+use Rattle.std.proofs.Common.{◌≡◌, refl, sym, ◌∙◌, ap, ℕ, zero, suc, ◌<◌, ◌≤◌, List, [], ◌∷◌, length, get_or, Bool, true, false, ◌==◌, inl, inr, arith, Ok, Err}
+use Rattle.std.specs.Prelude.{nat_lt, insert}
+use Rattle.std.specs.List.{list_all}
+use Rattle.std.specs.List.Sorted.{IsBinarySearchResult}
+use Rattle.std.specs.Ordering.{nat_cmp}
+use Rattle.std.proofs.lemmas.Bool.{and_from, and_parts, cases_order, eq-eqb, eqb-true, false_from_ne_true, lt-ltb, ltb-true, or_cases, or_left, or_right}
+use Rattle.std.proofs.lemmas.List.Sorted.{searched}
+use Rattle.olap_meaning.specs.Covering.{among}
+use Rattle.olap_meaning.specs.Legal.{rise}
+use Rattle.cache_manager.specs.Groups.{put, put_all}
+
+pub not_below : (a b : ℕ) → b ≤ a → nat_lt a b ≡ false
+not_below a b le = false_from_ne_true (nat_lt a b) (λ h. let l : a < b = ltb-true a b h in absurd (omega (arith, le, l)))
+
+pub not_same : (a b : ℕ) → b < a → (a == b) ≡ false
+not_same a b l = false_from_ne_true (a == b) (λ h. let e : a ≡ b = eqb-true a b h in absurd (omega (arith, e, l)))
+
+-- a number below all
+pub below_at : (x : ℕ) (xs : List ℕ) (j : ℕ) → list_all (nat_lt x) xs ≡ true → j < length xs → x < get_or xs j 0
+below_at x [] j all l = absurd (omega arith)
+below_at x (y ∷ ys) zero all l = ltb-true x y (and_parts _ _ all).0
+below_at x (y ∷ ys) (suc j) all l = below_at x ys j (and_parts _ _ all).1 (omega (arith, l))
+
+rises_up : (xs : List ℕ) → rise xs ≡ true → (i j : ℕ) → i ≤ j → j < length xs → get_or xs i 0 ≤ get_or xs j 0
+rises_up [] up i j le l = absurd (omega arith)
+rises_up (x ∷ xs) up zero zero le l = omega arith
+rises_up (x ∷ xs) up zero (suc j) le l = let below = below_at x xs j (and_parts _ _ up).0 (omega (arith, l)) in omega (arith, below)
+rises_up (x ∷ xs) up (suc i) zero le l = absurd (omega (arith, le))
+rises_up (x ∷ xs) up (suc i) (suc j) le l = rises_up xs (and_parts _ _ up).1 i j (omega (arith, le)) (omega (arith, l))
+
+-- a number that is there is not put
+put_there : (x : ℕ) (xs : List ℕ) (i : ℕ) → rise xs ≡ true → i < length xs → get_or xs i 0 ≡ x → put x xs ≡ xs
+put_there x [] i up l at = absurd (omega arith)
+put_there x (y ∷ ys) zero up l at = rw (not_below x y (omega (arith, at)), eq-eqb x y (sym at)) refl
+put_there x (y ∷ ys) (suc i) up l at =
+    let below : y < get_or ys i 0 = below_at y ys i (and_parts _ _ up).0 (omega (arith, l)) in
+    rw (not_below x y (omega (arith, below, at)), not_same x y (omega (arith, below, at))) (ap (λ (zs : List ℕ). y ∷ zs) (put_there x ys i (and_parts _ _ up).1 (omega (arith, l)) at))
+
+-- a number that is not there is put where it belongs
+put_at : (x : ℕ) (xs : List ℕ) (i : ℕ) → i ≤ length xs → ((k : ℕ) → k < i → get_or xs k 0 < x) → ((k : ℕ) → i ≤ k → k < length xs → x < get_or xs k 0) → put x xs ≡ insert xs i x
+put_at x [] zero l before after = refl
+put_at x [] (suc i) l before after = absurd (omega (arith, l))
+put_at x (y ∷ ys) zero l before after = let above : x < y = after 0 (omega arith) (omega arith) in rw (lt-ltb x y above) refl
+put_at x (y ∷ ys) (suc i) l before after =
+    let below : y < x = before 0 (omega arith) in
+    rw (not_below x y (omega (arith, below)), not_same x y below)
+    (ap (λ (zs : List ℕ). y ∷ zs) (put_at x ys i (omega (arith, l)) (λ k lt. before (suc k) (omega (arith, lt))) (λ k le lt. after (suc k) (omega (arith, le)) (omega (arith, lt)))))
+
+-- what a search says of the place where a number is to be put
+pub put_found : (x : ℕ) (xs : List ℕ) (i : ℕ) → rise xs ≡ true → IsBinarySearchResult (λ y. nat_cmp y x) xs (Ok i) → put x xs ≡ xs
+put_found x xs i up found = let at = searched xs x (Ok i) found (rises_up xs up) in put_there x xs i up at.0 at.1
+
+pub put_missed : (x : ℕ) (xs : List ℕ) (i : ℕ) → rise xs ≡ true → IsBinarySearchResult (λ y. nat_cmp y x) xs (Err i) → put x xs ≡ insert xs i x
+put_missed x xs i up missed = let at = searched xs x (Err i) missed (rises_up xs up) in put_at x xs i at.0 at.1 at.2
+
+all_put : (p : ℕ → Bool) (x : ℕ) (xs : List ℕ) → p x ≡ true → list_all p xs ≡ true → list_all p (put x xs) ≡ true
+all_put p x [] here all = and_from _ _ here refl
+all_put p x (y ∷ ys) here all = by (nat_lt x y) (x == y) refl refl (all_put p x ys here (and_parts _ _ all).1)
+  where
+    by : (less same : Bool) → nat_lt x y ≡ less → (x == y) ≡ same → list_all p (put x ys) ≡ true → list_all p (put x (y ∷ ys)) ≡ true
+    by true same e f rest = rw e (and_from _ _ here all)
+    by false true e f rest = rw (e, f) all
+    by false false e f rest = rw (e, f) (and_from _ _ (and_parts _ _ all).0 rest)
+
+all_below : (x y : ℕ) (ys : List ℕ) → x < y → list_all (nat_lt y) ys ≡ true → list_all (nat_lt x) ys ≡ true
+all_below x y [] l all = refl
+all_below x y (z ∷ zs) l all =
+    let next : y < z = ltb-true y z (and_parts _ _ all).0 in
+    and_from _ _ (lt-ltb x z (omega (arith, l, next))) (all_below x y zs l (and_parts _ _ all).1)
+
+pub rise_put : (x : ℕ) (xs : List ℕ) → rise xs ≡ true → rise (put x xs) ≡ true
+rise_put x [] up = refl
+rise_put x (y ∷ ys) up =
+    elim (cases_order x y) [
+      | inl same ↦ rw (not_below x y (omega (arith, same)), eq-eqb x y same) up
+      | inr apart ↦ elim apart [
+        | inl less ↦ rw (lt-ltb x y less) (and_from _ _ (and_from _ _ (lt-ltb x y less) (all_below x y ys less (and_parts _ _ up).0)) up)
+        | inr more ↦ rw (not_below x y (omega (arith, more)), not_same x y more) (and_from _ _ (all_put (nat_lt y) x ys (lt-ltb y x more) (and_parts _ _ up).0) (rise_put x ys (and_parts _ _ up).1))
+      ]
+    ]
+
+-- what was put is there, and what was there still is
+among_put : (x : ℕ) (xs : List ℕ) → among (put x xs) x ≡ true
+among_put x [] = or_left _ _ (eq-eqb x x refl)
+among_put x (y ∷ ys) = by (nat_lt x y) (x == y) refl refl (among_put x ys)
+  where
+    by : (less same : Bool) → nat_lt x y ≡ less → (x == y) ≡ same → among (put x ys) x ≡ true → among (put x (y ∷ ys)) x ≡ true
+    by true same e f rest = rw e (or_left _ _ (eq-eqb x x refl))
+    by false true e f rest = rw (e, f) (or_left _ _ (eq-eqb y x (sym (eqb-true x y f))))
+    by false false e f rest = rw (e, f) (or_right _ _ rest)
+
+among_still : (x : ℕ) (xs : List ℕ) (v : ℕ) → among xs v ≡ true → among (put x xs) v ≡ true
+among_still x [] v h = absurd (cc)
+among_still x (y ∷ ys) v h = by (nat_lt x y) (x == y) refl refl (among_still x ys v)
+  where
+    by : (less same : Bool) → nat_lt x y ≡ less → (x == y) ≡ same → (among ys v ≡ true → among (put x ys) v ≡ true) → among (put x (y ∷ ys)) v ≡ true
+    by true same e f rest = rw e (or_right (x == v) (among (y ∷ ys) v) h)
+    by false true e f rest = rw (e, f) h
+    by false false e f rest = rw (e, f) (elim (or_cases (y == v) (among ys v) h) [
+      | inl here ↦ or_left (y == v) (among (put x ys) v) here
+      | inr there ↦ or_right (y == v) (among (put x ys) v) (rest there)
+    ])
+
+-- what was put into nothing rises
+pub rise_put_all : (ns into : List ℕ) → rise into ≡ true → rise (put_all ns into) ≡ true
+rise_put_all [] into up = up
+rise_put_all (n ∷ ns) into up = rise_put_all ns (put n into) (rise_put n into up)
+
+pub among_put_all : (ns into : List ℕ) (v : ℕ) → among into v ≡ true → among (put_all ns into) v ≡ true
+among_put_all [] into v h = h
+among_put_all (n ∷ ns) into v h = among_put_all ns (put n into) v (among_still n into v h)
+
+pub among_each : (ns into : List ℕ) (v : ℕ) → among ns v ≡ true → among (put_all ns into) v ≡ true
+among_each [] into v h = absurd (cc)
+among_each (n ∷ ns) into v h = elim (or_cases (n == v) (among ns v) h) [
+  | inl here ↦ among_put_all ns (put n into) v (ap (among (put n into)) (sym (eqb-true n v here)) ∙ among_put n into)
+  | inr there ↦ among_each ns (put n into) v there
+]
+
+-- a number above one is not that one
+pub above_one : (a b : ℕ) → a < b → (a == b) ≡ false
+above_one a b l = false_from_ne_true (a == b) (λ h. let e : a ≡ b = eqb-true a b h in absurd (omega (arith, e, l)))
+
+-- what is among numbers that are above one is above it
+above_of : (x : ℕ) (xs : List ℕ) (v : ℕ) → list_all (nat_lt x) xs ≡ true → among xs v ≡ true → x < v
+above_of x [] v all h = absurd (cc)
+above_of x (y ∷ ys) v all h = elim (or_cases (y == v) (among ys v) h) [
+  | inl here ↦ let e : y ≡ v = eqb-true y v here in let l : x < y = ltb-true x y (and_parts _ _ all).0 in omega (arith, e, l)
+  | inr there ↦ above_of x ys v (and_parts _ _ all).1 there
+]
+
+among_rest : (y : ℕ) (ys : List ℕ) (v : ℕ) → y < v → among (y ∷ ys) v ≡ true → among ys v ≡ true
+among_rest y ys v l h = elim (or_cases (y == v) (among ys v) h) [ inl here ↦ let e : y ≡ v = eqb-true y v here in absurd (omega (arith, e, l)) | inr there ↦ there ]
+
+-- of two rising lists whose first numbers are among each other's, the first numbers are the same
+same_first : (x : ℕ) (xs : List ℕ) (y : ℕ) (ys : List ℕ) → rise (x ∷ xs) ≡ true → rise (y ∷ ys) ≡ true → among (y ∷ ys) x ≡ true → among (x ∷ xs) y ≡ true → x ≡ y
+same_first x xs y ys up over h k = elim (or_cases (y == x) (among ys x) h) [
+  | inl same ↦ sym (eqb-true y x same)
+  | inr there ↦ elim (or_cases (x == y) (among xs y) k) [
+    | inl same ↦ eqb-true x y same
+    | inr here ↦
+        let a : y < x = above_of y ys x (and_parts _ _ over).0 there in
+        let b : x < y = above_of x xs y (and_parts _ _ up).0 here in
+        absurd (omega (arith, a, b))
+  ]
+]
+
+-- rising lists of the same numbers are the same
+pub same_rising : (xs ys : List ℕ) → rise xs ≡ true → rise ys ≡ true → ((v : ℕ) → among xs v ≡ true → among ys v ≡ true) → ((v : ℕ) → among ys v ≡ true → among xs v ≡ true) → xs ≡ ys
+same_rising [] [] up over into back = refl
+same_rising [] (y ∷ ys) up over into back = let h : among [] y ≡ true = back y (or_left _ _ (eq-eqb y y refl)) in absurd (cc)
+same_rising (x ∷ xs) [] up over into back = let h : among [] x ≡ true = into x (or_left _ _ (eq-eqb x x refl)) in absurd (cc)
+same_rising (x ∷ xs) (y ∷ ys) up over into back =
+    let same : x ≡ y = same_first x xs y ys up over (into x (or_left _ _ (eq-eqb x x refl))) (back y (or_left _ _ (eq-eqb y y refl))) in
+    let rest : xs ≡ ys = same_rising xs ys (and_parts _ _ up).1 (and_parts _ _ over).1
+    (λ v h. among_rest y ys v (let l : x < v = above_of x xs v (and_parts _ _ up).0 h in omega (arith, l, same)) (into v (or_right (x == v) (among xs v) h)))
+    (λ v h. among_rest x xs v (let l : y < v = above_of y ys v (and_parts _ _ over).0 h in omega (arith, l, same)) (back v (or_right (y == v) (among ys v) h))) in
+    ap (λ (n : ℕ). n ∷ xs) same ∙ ap (λ (ns : List ℕ). y ∷ ns) rest

@@ -1,0 +1,214 @@
+-- Where a run stands after one more call.
+use Rattle.std.proofs.Common.{◌≡◌, refl, sym, ◌∙◌, ap, subst, ℕ, zero, suc, ◌+◌, ◌<◌, List, [], ◌∷◌, ◌++◌, length, map, filter, take, take_all, take_at, Bool, true, false, not, ◌==◌, inl, inr, Option, Some, None, slice_get, get_or, arith, All, nat_lt}
+use Rattle.std.specs.Prelude.{insert, remove}
+use Rattle.std.specs.List.{list_all, list_any}
+use Rattle.std.proofs.lemmas.Bool.{and_from, and_parts, both_ways, eqb-true, eq-eqb, false_from_ne_true, lt-ltb, ltb-true, not-true, not_from_false, or_cases, or_left, or_right}
+use Rattle.std.proofs.lemmas.List.{append-nil}
+use Rattle.std.proofs.lemmas.List.Elements.{All-cons, All-head, All-nil, All-tail, filter-append}
+use Rattle.std.proofs.lemmas.List.Folds.{list_all-append}
+use Rattle.olap_meaning.specs.declared.cells.Who.{Who}
+use Rattle.olap_meaning.specs.declared.tables.Setting.{Setting}
+use Rattle.olap_meaning.specs.Covering.{among}
+use Rattle.olap_meaning.specs.History.{Entry, Append, Start, Answer, Load, ends, entry_at, is_some_and, load_at, rows_of, version}
+use Rattle.olap_meaning.specs.Legal.{Legal, caller, is_call_below, is_call_of, is_next_call}
+use Rattle.segment_load.specs.Loads.{JobOf}
+use Rattle.cache_manager.specs.Cache.{CacheOf}
+use Rattle.cache_manager.specs.Jobs.{IsJobOf, actor, entries_of, numbers_from}
+use Rattle.cache_manager.specs.Runs.{IsRun, apart, is_below, when}
+use Rattle.cache_manager.specs.declared.answers.Answer.{Answer as Told}
+use Rattle.cache_manager.specs.Answers.{IsAnswer, source_of}
+use Rattle.olap_meaning.specs.declared.cells.Cell.{Cell}
+use Rattle.olap_meaning.specs.declared.tables.Row.{Row}
+use Rattle.olap_meaning.proofs.Growing.{version_grows}
+use Rattle.olap_meaning.proofs.Positions.{get_last}
+use Rattle.std.proofs.lemmas.List.{length_push}
+use Rattle.cache_manager.proofs.Pushes.{any_none, load_on, recorded, rows_on}
+
+below_next : (n : ℕ) (o : Option Who) → is_below n o ≡ true → is_below (n + 1) o ≡ true
+below_next n None h = refl
+below_next n (Some who) h = let l : who.call < n = ltb-true who.call n h in lt-ltb who.call (n + 1) (omega (arith, l))
+
+all_below_next : (n : ℕ) (entries : List Entry) → list_all (λ entry. is_below n (caller entry)) entries ≡ true → list_all (λ entry. is_below (n + 1) (caller entry)) entries ≡ true
+all_below_next n [] all = refl
+all_below_next n (e ∷ es) all = and_from _ _ (below_next n (caller e) (and_parts _ _ all).0) (all_below_next n es (and_parts _ _ all).1)
+
+-- nothing was done
+pub run_later : (cache : CacheOf) (jobs : List JobOf) (n : ℕ) → IsRun cache jobs n → IsRun cache jobs (n + 1)
+run_later cache jobs n run = record { jobs_are = run.jobs_are; jobs_apart = run.jobs_apart; below = all_below_next n cache.entries run.below }
+
+-- a call with the number of the next is the next of its seat
+pub next_call : (who : Who) (entries : List Entry) → list_all (λ entry. is_below who.call (caller entry)) entries ≡ true → is_next_call entries who ≡ true
+next_call who [] all = refl
+next_call who (e ∷ es) all = by (caller e) refl (and_parts _ _ all).0 (next_call who es (and_parts _ _ all).1)
+  where
+    by : (o : Option Who) → caller e ≡ o → is_below who.call o ≡ true → list_all (is_call_below who.call) (filter (is_call_of who.seat) es) ≡ true → list_all (is_call_below who.call) (filter (is_call_of who.seat) (e ∷ es)) ≡ true
+    by None told h rest = rw told rest
+    by (Some other) told h rest = mine (other.seat == who.seat) refl
+      where
+        mine : (b : Bool) → (other.seat == who.seat) ≡ b → list_all (is_call_below who.call) (filter (is_call_of who.seat) (e ∷ es)) ≡ true
+        mine true own = rw (told, own) (and_from (is_call_below who.call e) (list_all (is_call_below who.call) (filter (is_call_of who.seat) es)) (ap (is_some_and (λ (w : Who). nat_lt w.call who.call)) told ∙ h) rest)
+        mine false own = rw (told, own) rest
+
+module _ (before after : CacheOf) (entry : Entry) (same : after.setting ≡ before.setting) (grown : after.entries ≡ before.entries ++ entry ∷ []) (legal : Legal before.setting before.entries) where
+  unended_on : (who : Who) (j : ℕ) → ends j entry ≡ false → list_any (ends j) (entries_of before.entries who.seat) ≡ false → list_any (ends j) (entries_of after.entries who.seat) ≡ false
+  unended_on who j other none =
+      ap (λ (es : List Entry). list_any (ends j) (entries_of es who.seat)) grown
+      ∙ ap (list_any (ends j)) (filter-append (λ e. (actor e).seat == who.seat) before.entries (entry ∷ []))
+      ∙ by ((actor entry).seat == who.seat) refl
+    where
+      by : (b : Bool) → ((actor entry).seat == who.seat) ≡ b → list_any (ends j) (entries_of before.entries who.seat ++ entries_of (entry ∷ []) who.seat) ≡ false
+      by true e = rw e (any_none (ends j) (entries_of before.entries who.seat) entry none other)
+      by false e = rw (e, append-nil (entries_of before.entries who.seat)) none
+
+  -- a job stays one of the cache's, where the entry does not end its load
+  job_stays : (job : JobOf) → ends job.load entry ≡ false → IsJobOf before job → IsJobOf after job
+  job_stays job other is =
+      let rows : rows_of after.entries is.load.header.cube is.load.version ≡ rows_of before.entries is.load.header.cube is.load.version =
+      ap (λ (es : List Entry). rows_of es is.load.header.cube is.load.version) grown
+      ∙ rows_on before.entries entry is.load.header.cube is.load.version (recorded before.setting before.entries job.load is.load legal is.flies.started) in
+      record {
+        load = is.load;
+        catalog = is.catalog ∙ sym (ap (λ (s : Setting). s.catalog) same);
+        flies = record {
+          started = ap (λ (es : List Entry). load_at es job.load) grown ∙ load_on before.entries entry job.load is.load is.flies.started;
+          own = is.flies.own;
+          unended = unended_on job.who job.load other is.flies.unended;
+        };
+        header = is.header;
+        rows = is.rows ∙ sym rows;
+        costs = is.costs ∙ sym (ap length rows);
+      }
+
+  jobs_stay : (jobs : List JobOf) → All (λ job. ends job.load entry ≡ false) jobs → All (IsJobOf before) jobs → All (IsJobOf after) jobs
+  jobs_stay [] others all = All-nil (IsJobOf after)
+  jobs_stay (job ∷ jobs) others all =
+      All-cons (IsJobOf after) job jobs (job_stays job (All-head (λ j. ends j.load entry ≡ false) job jobs others) (All-head (IsJobOf before) job jobs all))
+      (jobs_stay jobs (All-tail (λ j. ends j.load entry ≡ false) job jobs others) (All-tail (IsJobOf before) job jobs all))
+
+  below_on : (n : ℕ) → is_below (n + 1) (caller entry) ≡ true → list_all (λ e. is_below n (caller e)) before.entries ≡ true → list_all (λ e. is_below (n + 1) (caller e)) after.entries ≡ true
+  below_on n here all =
+      ap (list_all (λ e. is_below (n + 1) (caller e))) grown ∙ list_all-append (λ e. is_below (n + 1) (caller e)) before.entries (entry ∷ []) ∙ and_from _ _ (all_below_next n before.entries all) (and_from _ _ here refl)
+
+  -- one more entry, which ends no load that is out
+  pub run_on : (jobs : List JobOf) (n : ℕ) → All (λ job. ends job.load entry ≡ false) jobs → is_below (n + 1) (caller entry) ≡ true → IsRun before jobs n → IsRun after jobs (n + 1)
+  run_on jobs n others here run = record { jobs_are = jobs_stay jobs others run.jobs_are; jobs_apart = run.jobs_apart; below = below_on n here run.below }
+
+  -- one more entry, which ends the load of a job that is taken out
+  pub run_ended : (jobs : List JobOf) (i n : ℕ) (job : JobOf) → i < length jobs → job ≡ get_or jobs i job → ((j : ℕ) → ends j entry ≡ (job.load == j)) → caller entry ≡ None → IsRun before jobs n → IsRun after (remove jobs i) (n + 1)
+  run_ended jobs i n job l at just uncalled run =
+      let out = taken_out jobs i job l at run.jobs_apart in
+      record {
+        jobs_are = jobs_stay (remove jobs i) (λ k d m. just _ ∙ out.1 k d m) (All-removed (IsJobOf before) jobs i run.jobs_are);
+        jobs_apart = out.0;
+        below = below_on n (rw uncalled refl) run.below;
+      }
+    where
+      All-removed : {A : Type 0} (P : A → Type 0) (xs : List A) (i : ℕ) → All P xs → All P (remove xs i)
+      All-removed P [] zero all = all
+      All-removed P [] (suc i) all = all
+      All-removed P (x ∷ xs) zero all = All-tail P x xs all
+      All-removed P (x ∷ xs) (suc i) all = All-cons P x (remove xs i) (All-head P x xs all) (All-removed P xs i (All-tail P x xs all))
+
+      among_removed : (jobs : List JobOf) (i v : ℕ) → among (map (λ job. job.load) (remove jobs i)) v ≡ true → among (map (λ job. job.load) jobs) v ≡ true
+      among_removed [] zero v h = h
+      among_removed [] (suc i) v h = h
+      among_removed (x ∷ xs) zero v h = or_right (x.load == v) (among (map (λ job. job.load) xs) v) h
+      among_removed (x ∷ xs) (suc i) v h =
+          elim (or_cases (x.load == v) (among (map (λ job. job.load) (remove xs i)) v) h) [
+            | inl here ↦ or_left (x.load == v) (among (map (λ job. job.load) xs) v) here
+            | inr there ↦ or_right (x.load == v) (among (map (λ job. job.load) xs) v) (among_removed xs i v there)
+          ]
+
+      load_there : (jobs : List JobOf) (i : ℕ) (job : JobOf) → i < length jobs → job ≡ get_or jobs i job → among (map (λ j. j.load) jobs) job.load ≡ true
+      load_there [] i job l at = absurd (omega (arith, l))
+      load_there (x ∷ xs) zero job l at = or_left _ _ (eq-eqb x.load job.load (ap (λ (j : JobOf). j.load) (sym at)))
+      load_there (x ∷ xs) (suc i) job l at = or_right (x.load == job.load) (among (map (λ j. j.load) xs) job.load) (load_there xs i job (omega (arith, l)) at)
+
+      others : (v : ℕ) (jobs : List JobOf) → among (map (λ job. job.load) jobs) v ≡ false → All (λ job. (v == job.load) ≡ false) jobs
+      others v [] none = All-nil (λ job. (v == job.load) ≡ false)
+      others v (x ∷ xs) none =
+          All-cons (λ job. (v == job.load) ≡ false) x xs
+          (false_from_ne_true (v == x.load) (λ h. both_ways _ none (or_left (x.load == v) (among (map (λ job. job.load) xs) v) (eq-eqb x.load v (sym (eqb-true v x.load h))))))
+          (others v xs (false_from_ne_true _ (λ h. both_ways _ none (or_right (x.load == v) (among (map (λ job. job.load) xs) v) h))))
+
+      taken_out : (jobs : List JobOf) (i : ℕ) (job : JobOf) → i < length jobs → job ≡ get_or jobs i job → apart (map (λ j. j.load) jobs) ≡ true
+          → (apart (map (λ j. j.load) (remove jobs i)) ≡ true) × All (λ j. (job.load == j.load) ≡ false) (remove jobs i)
+      taken_out [] i job l at h = absurd (omega (arith, l))
+      taken_out (x ∷ xs) zero job l at h =
+          let parts = and_parts (not (among (map (λ j. j.load) xs) x.load)) (apart (map (λ j. j.load) xs)) h in
+          let none : among (map (λ j. j.load) xs) job.load ≡ false = ap (λ (j : JobOf). among (map (λ o. o.load) xs) j.load) at ∙ not-true _ parts.0 in
+          (parts.1, others job.load xs none)
+      taken_out (x ∷ xs) (suc i) job l at h =
+          let parts = and_parts (not (among (map (λ j. j.load) xs) x.load)) (apart (map (λ j. j.load) xs)) h in
+          let rest = taken_out xs i job (omega (arith, l)) at parts.1 in
+          let new : among (map (λ j. j.load) xs) x.load ≡ false = not-true _ parts.0 in
+          let still : among (map (λ j. j.load) (remove xs i)) x.load ≡ false = false_from_ne_true _ (λ k. both_ways _ new (among_removed xs i x.load k)) in
+          let differs : (job.load == x.load) ≡ false = false_from_ne_true (job.load == x.load)
+          (λ k. both_ways _ new (ap (among (map (λ j. j.load) xs)) (sym (eqb-true job.load x.load k)) ∙ load_there xs i job (omega (arith, l)) at)) in
+          (and_from _ _ (not_from_false _ still) rest.0, All-cons (λ j. (job.load == j.load) ≡ false) x (remove xs i) differs rest.1)
+
+-- a job that is put back where it was
+pub put_back : {A : Type 0} (xs : List A) (i : ℕ) (x : A) → i < length xs → x ≡ get_or xs i x → insert (remove xs i) i x ≡ xs
+put_back [] i x l at = absurd (omega (arith, l))
+put_back (y ∷ ys) zero x l at = ap (λ z. z ∷ ys) at
+put_back (y ∷ ys) (suc i) x l at = ap (λ zs. y ∷ zs) (put_back ys i x (omega (arith, l)) at)
+
+above_numbers : (v first count : ℕ) → v < first → among (numbers_from first count) v ≡ false
+above_numbers v first zero l = refl
+above_numbers v first (suc count) l = false_from_ne_true _ (λ h. elim (or_cases (first == v) (among (numbers_from (suc first) count) v) h) [
+  | inl here ↦ let e : first ≡ v = eqb-true first v here in omega (arith, e, l)
+  | inr there ↦ both_ways _ (above_numbers v (suc first) count (omega (arith, l))) there
+])
+
+apart_numbers : (first count : ℕ) → apart (numbers_from first count) ≡ true
+apart_numbers first zero = refl
+apart_numbers first (suc count) = and_from _ _ (not_from_false _ (above_numbers first (suc first) count (omega arith))) (apart_numbers (suc first) count)
+
+starts_below : (n : ℕ) (loads : List Load) → list_all (λ e. is_below n (caller e)) (map Start loads) ≡ true
+starts_below n [] = refl
+starts_below n (load ∷ loads) = starts_below n loads
+
+-- the jobs of a look are out
+pub run_started :
+    (before after : CacheOf) (old jobs : List JobOf) (n first count : ℕ) (loads : List Load) → after.entries ≡ before.entries ++ map Start loads → All (IsJobOf after) jobs → map (λ job. job.load) jobs ≡ numbers_from first count → IsRun before old n
+    → IsRun after jobs (n + 1)
+run_started before after old jobs n first count loads grown all numbers run = record {
+  jobs_are = all;
+  jobs_apart = ap apart numbers ∙ apart_numbers first count;
+  below =
+      ap (list_all (λ e. is_below (n + 1) (caller e))) grown ∙ list_all-append (λ e. is_below (n + 1) (caller e)) before.entries (map Start loads)
+      ∙ and_from _ _ (all_below_next n before.entries run.below) (starts_below (n + 1) loads);
+}
+
+-- an append has its entry
+pub appended_reply :
+    (before after : CacheOf) (who : Who) (cube position v : ℕ) (rows : List Row) → after.entries ≡ before.entries ++ Append who cube (version before.entries cube + 1) rows ∷ [] → position ≡ length after.entries → v ≡ version after.entries cube
+    → entry_at after.entries position ≡ Some (Append who cube v rows)
+appended_reply before after who cube position v rows grown last is =
+    let entry : Entry = Append who cube (version before.entries cube + 1) rows in
+    let long : position ≡ suc (length before.entries) = last ∙ ap length grown ∙ (let l = length_push before.entries (Append who cube (version before.entries cube + 1) rows) in l ∙ omega arith) in
+    let newer : v ≡ version before.entries cube + 1 =
+    is ∙ ap (λ (es : List Entry). version es cube) grown ∙ version_grows before.entries (Append who cube (version before.entries cube + 1) rows) cube ∙ rw (eq-eqb cube cube refl) refl in
+    ap (entry_at after.entries) long ∙ ap (λ (es : List Entry). slice_get es (length before.entries)) grown ∙ get_last before.entries (Append who cube (version before.entries cube + 1) rows)
+    ∙ ap (λ (n : ℕ). Some (Append who cube n rows)) (sym newer)
+
+-- at its end a cache is as it is
+pub when_all : (cache : CacheOf) → when cache (length cache.entries) ≡ cache
+when_all cache = ap (λ (es : List Entry). record { setting = cache.setting; entries = es }) (take_all (length cache.entries) cache.entries (omega arith))
+
+when_before : (before after : CacheOf) (more : List Entry) → after.setting ≡ before.setting → after.entries ≡ before.entries ++ more → when after (length before.entries) ≡ before
+when_before before after more same grown =
+    ap (λ (s : Setting). record { setting = s; entries = take (length before.entries) after.entries }) same
+    ∙ ap (λ (es : List Entry). record { setting = before.setting; entries = es }) (ap (take (length before.entries)) grown ∙ take_at before.entries more (length before.entries) refl)
+
+-- an answer is that of the entries before it
+pub answered_reply :
+    (before after : CacheOf) (who : Who) (cells : List Cell) (answer : Told) → after.setting ≡ before.setting → after.entries ≡ before.entries ++ Answer who (map (source_of before.entries) cells) ∷ [] → IsAnswer before cells answer
+    → (n : ℕ) × (entry_at after.entries (suc n) ≡ Some (Answer who (map (source_of (take n after.entries)) cells))) × IsAnswer (when after n) cells answer
+answered_reply before after who cells answer same grown is =
+    let front : when after (length before.entries) ≡ before = when_before before after (Answer who (map (source_of before.entries) cells) ∷ []) same grown in (
+      length before.entries,
+      ap (λ (es : List Entry). slice_get es (length before.entries)) grown ∙ get_last before.entries (Answer who (map (source_of before.entries) cells))
+          ∙ ap (λ (k : CacheOf). Some (Answer who (map (source_of k.entries) cells))) (sym front),
+      subst (λ (k : CacheOf). IsAnswer k cells answer) (sym front) is,
+    )

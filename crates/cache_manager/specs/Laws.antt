@@ -1,0 +1,26 @@
+-- What follows of looks and of loads in flight.
+use Rattle.std.specs.Prelude.{ℕ, ◌≡◌, ◌+◌, List, ◌++◌, All, IsTrue, Some, false, length, map}
+use Rattle.std.specs.List.{list_all, list_any}
+use Rattle.olap_meaning.specs.declared.cells.Cell.{Cell}
+use Rattle.olap_meaning.specs.declared.cells.Who.{Who}
+use Rattle.olap_meaning.specs.History.{Entry, Load, Start, flushes, flying, kept, starter}
+use Rattle.olap_meaning.specs.Legal.{Legal}
+use Rattle.cache_manager.specs.Answers.{HasSource}
+use Rattle.cache_manager.specs.Cache.{CacheOf}
+use Rattle.cache_manager.specs.Groups.{is_known, loads_for}
+use Rattle.cache_manager.specs.Jobs.{IsOwn, numbers_from}
+
+-- a delivered look is ready: where each load that a look started was delivered, in whatever order, and nothing that came after flushes its cells, each of them has a source
+abbrev pub DeliveredLooksAreReady : Type 0
+DeliveredLooksAreReady =
+    (cache : CacheOf) (who : Who) (cells : List Cell) (later : List Entry)
+    → IsTrue (list_all (is_known cache.setting.catalog) cells)
+    → All (λ cell. list_any (flushes cell) later ≡ false) cells
+    → All (λ j. IsTrue (kept (cache.entries ++ (map Start (loads_for who cache.entries cells) ++ later)) j)) (numbers_from (length cache.entries + 1) (length (loads_for who cache.entries cells)))
+    → All (HasSource (record { setting = cache.setting; entries = cache.entries ++ (map Start (loads_for who cache.entries cells) ++ later) })) cells
+
+-- an own load flies: what one's own entries tell of it is so, since nobody else ends it
+abbrev pub OwnLoadsFly : Type 0
+OwnLoadsFly =
+    (cache : CacheOf) (who : Who) (j : ℕ) (load : Load) → Legal cache.setting cache.entries → IsOwn cache who j load
+    → IsTrue (flying cache.entries j) × (starter cache.entries j ≡ Some who)

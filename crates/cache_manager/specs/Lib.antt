@@ -1,0 +1,9 @@
+pub mod Cache
+pub mod Groups
+pub mod Answers
+pub mod Jobs
+pub mod Kept
+pub mod Search
+pub mod Plans
+pub mod Laws
+pub mod Runs

@@ -1,0 +1,212 @@
+//! Whole runs of calls on one manager.
+ghost use Rattle.std.specs.Prelude.{◌≡◌, ◌≤◌, ◌<◌, ◌+◌, ℕ, All, IfOk, IsTrue, length};
+ghost use Rattle.std.specs.List.{AllZip, list_all};
+ghost use Rattle.olap_meaning.specs.Legal.{Legal};
+ghost use Rattle.history_core.specs.History.{setting_of};
+ghost use Rattle.segment_load.specs.Loads.{is_batch};
+ghost use Rattle.cache_manager.specs.Groups.{is_known};
+ghost use Rattle.cache_manager.specs.Jobs.{IsJobOf};
+ghost use Rattle.cache_manager.specs.Runs.{Extends, IsReply, IsRun, MayCall};
+
+use crate::answers::{Answer, Appended, Look};
+use crate::look::next;
+use crate::manager::Manager;
+use fact_batches::{Batch, Steps};
+use fact_versions::AppendFault;
+use olap_catalog::Catalog;
+use olap_meaning::{Cell, CubeId, List, OutOfMemory, ROW_LIMIT, Who};
+use segment_load::{LoadJob, run_load};
+use std::alloc::Global;
+use std::sync::Arc;
+use std::sync::ledger::Ledger;
+
+/// A call on a manager, by any seat.
+#[derive(Drop)]
+pub enum Call {
+    Append {
+        seat: u32,
+        cube: CubeId,
+        batch: Batch,
+    },
+    Look {
+        seat: u32,
+        cells: List<Cell>,
+    },
+    /// Runs a job that is out, by its place among them, and delivers what it has come to.
+    Deliver {
+        job: usize,
+    },
+    /// Gives a job up that is out, by its place among them.
+    Abandon {
+        job: usize,
+    },
+}
+
+/// What a call is answered.
+#[derive(Drop)]
+pub enum Reply {
+    Appended(Appended),
+    Refused(AppendFault),
+    Ready(Answer),
+    /// The jobs of a look are out.
+    Loading,
+    /// A look was not made, since a job is out.
+    Busy,
+    /// The job was delivered or given up.
+    Ended,
+    /// No job has this place.
+    NoJob,
+    OutOfMemory,
+}
+
+/// A manager after a list of calls, and what each was answered.
+#[derive(Drop)]
+pub struct Run {
+    pub manager: Manager,
+    pub replies: List<Reply>,
+}
+
+fn run_append(
+    manager: &mut Manager,
+    jobs: &[LoadJob],
+    who: Who,
+    cube: CubeId,
+    batch: Batch,
+) -> Reply
+    requires run { IsRun manager.old jobs.now who.call }
+    requires known { cube < length manager.old.setting.catalog.cubes }
+    requires fit { IsTrue (is_batch manager.old.setting.catalog cube batch) }
+    ensures run { IsRun manager.new jobs.now (who.call + 1) }
+    ensures grown { Extends manager.old manager.new }
+    ensures reply { IsReply manager.new (Call.Append who.seat cube batch) result }
+{
+    let _out = jobs;
+    manager.is_legal();
+    match manager.append(who, cube, batch) {
+        Ok(appended) => Reply::Appended(appended),
+        Err(fault) => Reply::Refused(fault),
+    }
+}
+
+fn run_look(manager: &mut Manager, jobs: &mut Vec<LoadJob>, who: Who, cells: List<Cell>) -> Reply
+    requires run { IsRun manager.old jobs.old.items who.call }
+    requires known { IsTrue (list_all (is_known manager.old.setting.catalog) cells) }
+    ensures run { IsRun manager.new jobs.new.items (who.call + 1) }
+    ensures grown { Extends manager.old manager.new }
+    ensures reply { IsReply manager.new (Call.Look who.seat cells) result }
+{
+    manager.is_legal();
+    if !manager.is_idle() {
+        return Reply::Busy;
+    }
+    match manager.look(who, cells.as_slice()) {
+        Ok(Look::Ready(answer)) => Reply::Ready(answer),
+        Ok(Look::Load(started)) => {
+            *jobs = started.into_vec();
+            Reply::Loading
+        }
+        Err(OutOfMemory) => Reply::OutOfMemory,
+    }
+}
+
+/// Runs a job that is out and delivers what it has come to; where memory is wanting, the job stays out.
+fn run_delivery<L: Ledger>(
+    alloc: Global,
+    manager: &mut Manager,
+    jobs: &mut Vec<LoadJob>,
+    job: usize,
+    steps: &mut Steps<L>,
+) -> Reply
+    requires jobs { All (IsJobOf manager.old) jobs.old.items }
+    ensures run { (n : ℕ) → IsRun manager.old jobs.old.items n → IsRun manager.new jobs.new.items (n + 1) }
+    ensures grown { Extends manager.old manager.new }
+    ensures reply { IsReply manager.new (Call.Deliver job) result }
+{
+    if job >= jobs.len() {
+        return Reply::NoJob;
+    }
+    manager.is_legal();
+    match run_load(alloc, jobs.remove(job), steps) {
+        Ok(delivery) => {
+            manager.deliver(delivery);
+            Reply::Ended
+        }
+        Err(back) => {
+            jobs.insert(job, back).unwrap();
+            Reply::OutOfMemory
+        }
+    }
+}
+
+/// Gives a job up that is out.
+fn run_abandonment(manager: &mut Manager, jobs: &mut Vec<LoadJob>, job: usize) -> Reply
+    requires jobs { All (IsJobOf manager.old) jobs.old.items }
+    ensures run { (n : ℕ) → IsRun manager.old jobs.old.items n → IsRun manager.new jobs.new.items (n + 1) }
+    ensures grown { Extends manager.old manager.new }
+    ensures reply { IsReply manager.new (Call.Abandon job) result }
+{
+    if job >= jobs.len() {
+        return Reply::NoJob;
+    }
+    manager.is_legal();
+    manager.abandon(jobs.remove(job));
+    Reply::Ended
+}
+
+fn run_call<L: Ledger>(
+    alloc: Global,
+    manager: &mut Manager,
+    jobs: &mut Vec<LoadJob>,
+    number: u64,
+    call: Call,
+    steps: &mut Steps<L>,
+) -> Reply
+    requires run { IsRun manager.old jobs.old.items number }
+    requires may { MayCall manager.old.setting.catalog call }
+    ensures run { IsRun manager.new jobs.new.items (number + 1) }
+    ensures grown { Extends manager.old manager.new }
+    ensures reply { IsReply manager.new call result }
+{
+    match call {
+        Call::Append { seat, cube, batch } => {
+            let who = Who { seat, call: number };
+            run_append(manager, jobs.as_slice(), who, cube, batch)
+        }
+        Call::Look { seat, cells } => {
+            let who = Who { seat, call: number };
+            run_look(manager, jobs, who, cells)
+        }
+        Call::Deliver { job } => run_delivery(alloc, manager, jobs, job, steps),
+        Call::Abandon { job } => run_abandonment(manager, jobs, job),
+    }
+}
+
+/// Runs calls, one after another, on a manager of its own. Each gets the next call number, whatever its seat. A job may
+/// be delivered as late as wished, or never.
+///
+/// The history after them is legal, and each reply is right by the history at its position.
+pub fn run_calls<L: Ledger>(
+    alloc: Global,
+    catalog: Arc<Catalog>,
+    row_limit: u32,
+    budget: u64,
+    calls: List<Call>,
+    steps: &mut Steps<L>,
+) -> Result<Run, OutOfMemory>
+    requires limit { row_limit ≤ ROW_LIMIT }
+    requires may { All (MayCall catalog.value) calls }
+    ensures setting { IfOk result (λ run. run.manager.setting ≡ setting_of catalog.value row_limit budget) }
+    ensures legal { IfOk result (λ run. Legal run.manager.setting run.manager.entries) }
+    ensures replies { IfOk result (λ run. AllZip (IsReply run.manager) calls run.replies) }
+{
+    let mut manager = Manager::new(alloc, catalog, row_limit, budget)?;
+    let mut jobs = Vec::new(alloc);
+    let mut replies = List::new(alloc);
+    let mut number = 1;
+    for call in calls.into_vec() {
+        replies.push(run_call(alloc, &mut manager, &mut jobs, number, call, steps))?;
+        number = next(number)?;
+    }
+    manager.is_legal();
+    Ok(Run { manager, replies })
+}

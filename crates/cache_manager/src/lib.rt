@@ -1,0 +1,20 @@
+//! The manager of a cache: it answers cells from the loads that it keeps, and hands out the loads that are missing.
+//!
+//! Contracts see a manager as its history. What it keeps beside that, and what this means in the history, is its
+//! invariant. This is the plainest form, with lists; others may take their place under the same contracts.
+#![tactic(auto)]
+
+mod answers;
+mod calls;
+mod groups;
+mod kept;
+pub mod laws;
+mod look;
+mod manager;
+mod shared;
+mod starts;
+
+pub use answers::{Answer, Answered, Appended, Look};
+pub use calls::{Call, Reply, Run, run_calls};
+pub use groups::is_known;
+pub use manager::Manager;

@@ -1,0 +1,205 @@
+//! The manager of a cache.
+ghost use Rattle.std.specs.Prelude.{◌≡◌, ◌⊎◌, ◌↔◌, ◌<◌, ◌≤◌, ◌+◌, ◌++◌, ◌∷◌, [], IfErr, IfOk, IfSome, IsTrue, None, OnErr, OnOk, Some, length, true};
+ghost use Rattle.olap_meaning.specs.History.{Append, Done, Drop, flying, load_version, rows_of, version};
+ghost use Rattle.olap_meaning.specs.Legal.{Legal, is_next_call};
+ghost use Rattle.history_core.specs.History.{setting_of};
+ghost use Rattle.segment_load.specs.Loads.{are_batches, is_batch, rows_in};
+ghost use Rattle.cache_manager.specs.Cache.{append_refusal};
+ghost use Rattle.cache_manager.specs.Jobs.{IsOwnBody, IsOwnLoad, NoneFlies};
+
+use crate::answers::Appended;
+use crate::kept::{Flight, Kept, end_flight, version_of};
+use fact_batches::Batch;
+use fact_versions::{AppendFault, Facts, Snapshot};
+use history_core::{Entry, History};
+use olap_catalog::Catalog;
+use olap_meaning::{CubeId, OutOfMemory, ROW_LIMIT, Version, Who};
+use segment_load::{Delivery, LoadJob};
+use std::alloc::Global;
+use std::marker::Model;
+use std::sync::Arc;
+
+/// The manager of a cache (Cache Control): it keeps the facts, the loads that were delivered and those in flight, and
+/// writes down each thing that it does as an entry of its history.
+#[derive(Drop)]
+pub struct Manager {
+    pub(crate) alloc: Global,
+    pub(crate) history: History,
+    pub(crate) facts: Facts,
+    pub(crate) kept: Vec<Kept>,
+    pub(crate) flights: Vec<Flight>,
+}
+
+impl Model for Manager {
+    ghost use Rattle.std.specs.Prelude.{◌-◌};
+    ghost use Rattle.std.specs.Vec.{vec_capacity, vec_len};
+    ghost use Rattle.cache_manager.specs.Cache.{CacheOf};
+    ghost use Rattle.cache_manager.specs.Kept.{IsManager};
+
+    ghost Value = { CacheOf };
+
+    ghost view = { λ a. record { setting = a.history.setting; entries = a.history.entries } };
+
+    ghost invariant = { λ a. IsManager a.history.setting a.history.entries a.history.spare a.facts a.kept.items (vec_capacity a.kept - vec_len a.kept) a.flights.items };
+}
+
+impl Manager {
+    /// The manager of a cache in which nothing has happened. A limit of rows is over all cubes; the budget is how many
+    /// groups the kept loads may hold, and has no effect yet.
+    pub fn new(
+        alloc: Global,
+        catalog: Arc<Catalog>,
+        row_limit: u32,
+        budget: u64,
+    ) -> Result<Manager, OutOfMemory>
+        requires { row_limit ≤ ROW_LIMIT }
+        ensures { IfOk result (λ manager. manager ≡ record { setting = setting_of catalog.value row_limit budget; entries = [] }) }
+    {
+        let facts = Facts::new(alloc, catalog.cube_count(), row_limit)?;
+        Ok(Manager {
+            alloc,
+            history: History::new(alloc, catalog, row_limit, budget),
+            facts,
+            kept: Vec::new(alloc),
+            flights: Vec::new(alloc),
+        })
+    }
+
+    /// Adds a batch to a cube: it makes the cube's next version. A refused batch is dropped.
+    pub fn append(&mut self, who: Who, cube: CubeId, batch: Batch) -> Result<Appended, AppendFault>
+        requires call { IsTrue (is_next_call self.old.entries who) }
+        requires known { cube < length self.old.setting.catalog.cubes }
+        requires fit { IsTrue (is_batch self.old.setting.catalog cube batch) }
+        ensures setting { self.new.setting ≡ self.old.setting }
+        ensures entry { OnOk result (self.new.entries ≡ self.old.entries ++ Append who cube (version self.old.entries cube + 1) batch.rows ∷ []) }
+        ensures position { IfOk result (λ appended. appended.position ≡ length self.new.entries) }
+        ensures version { IfOk result (λ appended. appended.version ≡ version self.new.entries cube) }
+        ensures admitted { OnOk result (append_refusal self.old cube batch.rows ≡ None) }
+        ensures fault { IfErr result (λ fault. (fault ≡ AppendFault.OutOfMemory) ⊎ (append_refusal self.old cube batch.rows ≡ Some fault)) }
+        ensures unchanged { OnErr result (self.new ≡ self.old) }
+    {
+        self.history.is_legal();
+        self.history.reserve(self.flights.len() + 1)?;
+        let batch = shared(self.alloc, batch)?;
+        let version = match self.facts.append(cube, shared_again(&batch)?) {
+            Ok(version) => version,
+            Err(fault) => return Err(fault),
+        };
+        self.history.push(Entry::Append {
+            who,
+            cube,
+            version,
+            batch,
+        });
+        Ok(Appended {
+            position: self.history.len(),
+            version,
+        })
+    }
+
+    /// The present version of a cube.
+    pub fn snapshot(&self, cube: CubeId) -> Result<Snapshot, OutOfMemory>
+        requires { cube < length self.now.setting.catalog.cubes }
+        ensures version { IfOk result (λ snapshot. length snapshot ≡ version self.now.entries cube) }
+        ensures rows { IfOk result (λ snapshot. rows_in snapshot ≡ rows_of self.now.entries cube (version self.now.entries cube)) }
+        ensures fit { IfOk result (λ snapshot. IsTrue (are_batches self.now.setting.catalog cube snapshot)) }
+    {
+        let snapshot = self.facts.snapshot(cube, self.facts.version(cube))?;
+        Ok(snapshot)
+    }
+
+    /// What happened, oldest first.
+    pub fn history(&self) -> &History
+        ensures setting { result.now.setting ≡ self.now.setting }
+        ensures entries { result.now.entries ≡ self.now.entries }
+    {
+        &self.history
+    }
+
+    /// What happened, oldest first. The loads that are kept are let go.
+    pub fn into_history(self) -> History
+        ensures setting { result.setting ≡ self.setting }
+        ensures entries { result.entries ≡ self.entries }
+    {
+        self.history
+    }
+
+    /// The catalog, which never changes.
+    pub fn catalog(&self) -> &Arc<Catalog>
+        ensures { result.now.value ≡ self.now.setting.catalog }
+    {
+        self.history.catalog()
+    }
+
+    /// What happened is legal. This costs nothing.
+    pub fn is_legal(&self)
+        ensures { Legal self.now.setting self.now.entries }
+    {
+        self.history.is_legal();
+    }
+
+    /// Whether no load is in flight.
+    pub fn is_idle(&self) -> bool
+        ensures { IsTrue result ↔ NoneFlies self.now.entries }
+    {
+        self.flights.as_slice().is_empty()
+    }
+
+    /// The version of a load in flight.
+    fn version_in_flight(&self, load: u64) -> Version
+        requires { flying self.now.entries load ≡ true }
+        ensures { load_version self.now.entries load ≡ Some result }
+    {
+        version_of(self.flights.as_slice(), load).unwrap()
+    }
+
+    /// Keeps what a load has come to. It takes no memory: the room was made when it was started.
+    pub fn deliver(&mut self, delivery: Delivery)
+        requires own { IsOwnBody self.old delivery.who delivery.load delivery.body }
+        ensures setting { self.new.setting ≡ self.old.setting }
+        ensures entry { self.new.entries ≡ self.old.entries ++ Done delivery.who delivery.load ∷ [] }
+    {
+        let load = delivery.load;
+        let _header = delivery.body.header();
+        self.history.is_legal();
+        let version = self.version_in_flight(load);
+        self.history.push(Entry::Done {
+            who: delivery.who,
+            load,
+        });
+        end_flight(&mut self.flights, load);
+        let kept = Kept {
+            load,
+            version,
+            body: delivery.body,
+        };
+        self.kept.push_reserved(kept);
+    }
+
+    /// Gives a load up. It takes no memory.
+    pub fn abandon(&mut self, job: LoadJob)
+        requires own { IsOwnLoad self.old job.who job.load }
+        ensures setting { self.new.setting ≡ self.old.setting }
+        ensures entry { self.new.entries ≡ self.old.entries ++ Drop job.who job.load ∷ [] }
+    {
+        let load = job.load();
+        self.history.is_legal();
+        self.history.push(Entry::Drop {
+            who: job.who(),
+            load,
+        });
+        end_flight(&mut self.flights, load);
+    }
+}
+
+fn shared(alloc: Global, batch: Batch) -> Result<Arc<Batch>, OutOfMemory>
+    ensures { IfOk result (λ shared. shared.value ≡ batch) }
+{
+    Ok(Arc::new(alloc, batch)?)
+}
+
+fn shared_again(batch: &Arc<Batch>) -> Result<Arc<Batch>, OutOfMemory>
+    ensures { IfOk result (λ shared. shared.value ≡ batch.now.value) }
+{
+    Ok(Arc::try_clone(batch)?)
+}

@@ -1,0 +1,3 @@
+pub mod LevelFacts
+pub mod JobFacts
+pub mod CallFacts
