@@ -1,0 +1,108 @@
+-- Jobs that are out, while one after another is ended.
+use Rattle.std.proofs.Common.{◌≡◌, refl, sym, ◌∙◌, ap, ℕ, zero, suc, ◌+◌, ◌<◌, List, [], ◌∷◌, ◌++◌, append_assoc, length, map, drop, Bool, true, false, not, ◌==◌, inl, inr, None, get_or, arith, All, is_some}
+use Rattle.std.specs.List.{list_any}
+use Rattle.std.proofs.lemmas.Bool.{and_from, and_parts, both_ways, eqb-true, eq-eqb, false_from_ne_true, not-true, or_cases, or_left, or_right}
+use Rattle.std.proofs.lemmas.List.{append-nil}
+use Rattle.std.proofs.lemmas.List.Elements.{All-cons, All-head, All-nil, All-tail, filter-append}
+use Rattle.std.proofs.lemmas.List.Folds.{list_all-append}
+use Rattle.olap_meaning.specs.declared.cells.Who.{Who}
+use Rattle.olap_meaning.specs.declared.tables.Setting.{Setting}
+use Rattle.olap_meaning.specs.Covering.{among}
+use Rattle.olap_meaning.specs.History.{Entry, Done, Drop, ends, flying, load_at, rows_of, started}
+use Rattle.olap_meaning.specs.Legal.{Legal}
+use Rattle.segment_load.specs.Loads.{JobOf}
+use Rattle.cache_manager.specs.Cache.{CacheOf}
+use Rattle.cache_manager.specs.Jobs.{IsJobOf, actor, entries_of}
+use Rattle.cache_manager.specs.Runs.{apart}
+use Rattle.cache_manager.proofs.Pushes.{any_none, flying_back, load_on, recorded, rows_on}
+use Rattle.line_session.specs.Asks.{AreOut, Ends, EndsLoads, is_of_load}
+
+-- the entry that ends a load
+abbrev pub end_of : JobOf → Bool → Entry
+end_of job true = Done job.who job.load
+end_of job false = Drop job.who job.load
+
+pub ends_as : (before after : List Entry) (job : JobOf) (b : Bool) → Ends before after job b → after ≡ before ++ end_of job b ∷ []
+ends_as before after job true e = e
+ends_as before after job false e = e
+
+end_ends : (job : JobOf) (b : Bool) (j : ℕ) → ends j (end_of job b) ≡ (job.load == j)
+end_ends job true j = refl
+end_ends job false j = refl
+
+end_starts : (job : JobOf) (b : Bool) → started (end_of job b) ≡ None
+end_starts job true = refl
+end_starts job false = refl
+
+pub end_part : (job : JobOf) (b : Bool) → is_of_load (end_of job b) ≡ true
+end_part job true = refl
+end_part job false = refl
+
+module _ (before after : CacheOf) (entry : Entry) (same : after.setting ≡ before.setting) (grown : after.entries ≡ before.entries ++ entry ∷ []) (legal : Legal before.setting before.entries) where
+  unended_on : (who : Who) (j : ℕ) → ends j entry ≡ false → list_any (ends j) (entries_of before.entries who.seat) ≡ false → list_any (ends j) (entries_of after.entries who.seat) ≡ false
+  unended_on who j other none =
+      ap (λ (es : List Entry). list_any (ends j) (entries_of es who.seat)) grown
+      ∙ ap (list_any (ends j)) (filter-append (λ e. (actor e).seat == who.seat) before.entries (entry ∷ []))
+      ∙ by ((actor entry).seat == who.seat) refl
+    where
+      by : (b : Bool) → ((actor entry).seat == who.seat) ≡ b → list_any (ends j) (entries_of before.entries who.seat ++ entries_of (entry ∷ []) who.seat) ≡ false
+      by true e = rw e (any_none (ends j) (entries_of before.entries who.seat) entry none other)
+      by false e = rw (e, append-nil (entries_of before.entries who.seat)) none
+
+  job_stays : (job : JobOf) → ends job.load entry ≡ false → IsJobOf before job → IsJobOf after job
+  job_stays job other is =
+      let rows : rows_of after.entries is.load.header.cube is.load.version ≡ rows_of before.entries is.load.header.cube is.load.version =
+      ap (λ (es : List Entry). rows_of es is.load.header.cube is.load.version) grown
+      ∙ rows_on before.entries entry is.load.header.cube is.load.version (recorded before.setting before.entries job.load is.load legal is.flies.started) in
+      record {
+        load = is.load;
+        catalog = is.catalog ∙ sym (ap (λ (s : Setting). s.catalog) same);
+        flies = record {
+          started = ap (λ (es : List Entry). load_at es job.load) grown ∙ load_on before.entries entry job.load is.load is.flies.started;
+          own = is.flies.own;
+          unended = unended_on job.who job.load other is.flies.unended;
+        };
+        header = is.header;
+        rows = is.rows ∙ sym rows;
+        costs = is.costs ∙ sym (ap length rows);
+      }
+
+  pub jobs_stay : (v : ℕ) (jobs : List JobOf) → ((j : ℕ) → ends j entry ≡ (v == j)) → among (map (λ job. job.load) jobs) v ≡ false → All (IsJobOf before) jobs → All (IsJobOf after) jobs
+  jobs_stay v [] just none all = All-nil (IsJobOf after)
+  jobs_stay v (job ∷ jobs) just none all =
+      All-cons (IsJobOf after) job jobs
+      (job_stays job
+      (just job.load ∙ false_from_ne_true (v == job.load) (λ h. both_ways _ none (or_left (job.load == v) (among (map (λ o. o.load) jobs) v) (eq-eqb job.load v (sym (eqb-true v job.load h))))))
+      (All-head (IsJobOf before) job jobs all))
+      (jobs_stay v jobs just (false_from_ne_true _ (λ h. both_ways _ none (or_right (job.load == v) (among (map (λ o. o.load) jobs) v) h))) (All-tail (IsJobOf before) job jobs all))
+
+-- the jobs behind one that was ended
+pub rest_out :
+    (before after : CacheOf) (job : JobOf) (rest : List JobOf) (b : Bool) → after.setting ≡ before.setting → Ends before.entries after.entries job b → Legal before.setting before.entries → All (IsJobOf before) (job ∷ rest) → apart (map (λ j. j.load) (job ∷ rest)) ≡ true → AreOut before.entries (job ∷ rest)
+    → All (IsJobOf after) rest × (apart (map (λ j. j.load) rest) ≡ true) × AreOut after.entries rest
+rest_out before after job rest b same end legal all different out =
+    let parts = and_parts (not (among (map (λ j. j.load) rest) job.load)) (apart (map (λ j. j.load) rest)) different in
+    let grown : after.entries ≡ before.entries ++ end_of job b ∷ [] = ends_as before.entries after.entries job b end in (
+      jobs_stay before after (end_of job b) same grown legal job.load rest (end_ends job b) (not-true _ parts.0) (All-tail (IsJobOf before) job rest all),
+      parts.1,
+      λ j flies.
+          let back = flying_back before.entries (end_of job b) j (ap (λ (es : List Entry). flying es j) (sym grown) ∙ flies) in
+          let other : (job.load == j) ≡ false = sym (end_ends job b j) ∙ back.0 in
+          elim back.1 [
+            | inl old ↦ elim (or_cases (job.load == j) (among (map (λ o. o.load) rest) j) (out j old)) [ inl here ↦ absurd (both_ways _ other here) | inr there ↦ there ]
+            | inr new ↦ let none : is_some (started (end_of job b)) ≡ false = ap is_some (end_starts job b) in absurd (both_ways _ none new.1)
+          ],
+    )
+
+pub drop_at : {A : Type 0} (xs : List A) (i : ℕ) (x : A) → i < length xs → x ≡ get_or xs i x → drop i xs ≡ x ∷ drop (i + 1) xs
+drop_at [] i x l is = absurd (omega arith)
+drop_at (y ∷ ys) zero x l is = ap (λ z. z ∷ ys) (sym is)
+drop_at (y ∷ ys) (suc i) x l is = let e : suc i + 1 ≡ suc (i + 1) = omega arith in drop_at ys i x (omega (arith, l)) is ∙ ap (λ (n : ℕ). x ∷ drop n (y ∷ ys)) (sym e)
+
+-- one more load was ended
+pub ended_more : (before middle after : List Entry) (job : JobOf) (b : Bool) → EndsLoads before middle → Ends middle after job b → EndsLoads before after
+ended_more before middle after job b so_far end = record {
+  loads = so_far.loads ++ end_of job b ∷ [];
+  entries = ends_as middle after job b end ∙ ap (λ (es : List Entry). es ++ end_of job b ∷ []) so_far.entries ∙ append_assoc before so_far.loads (end_of job b ∷ []);
+  parts = list_all-append is_of_load so_far.loads (end_of job b ∷ []) ∙ and_from _ _ so_far.parts (and_from _ _ (end_part job b) refl);
+}

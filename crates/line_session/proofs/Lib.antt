@@ -1,0 +1,3 @@
+pub mod Ending
+pub mod Asking
+pub mod Parts

@@ -1,0 +1,6 @@
+//! What a session does with the manager of a cache: it asks for cells, and runs the loads that are missing.
+#![tactic(auto)]
+
+mod desk;
+
+pub use desk::ask;
