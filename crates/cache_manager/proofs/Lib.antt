@@ -15,4 +15,3 @@ pub mod Planning
 pub mod Looking
 pub mod Ready
 pub mod Running
-pub mod Replies

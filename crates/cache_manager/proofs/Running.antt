@@ -1,6 +1,6 @@
 -- Where a run stands after one more call.
-use Rattle.std.proofs.Common.{◌≡◌, refl, sym, ◌∙◌, ap, subst, ℕ, zero, suc, ◌+◌, ◌<◌, List, [], ◌∷◌, ◌++◌, length, map, filter, take, take_all, take_at, Bool, true, false, not, ◌==◌, inl, inr, Option, Some, None, slice_get, get_or, arith, All, nat_lt}
-use Rattle.std.specs.Prelude.{insert, remove}
+use Rattle.std.proofs.Common.{◌≡◌, refl, sym, ◌∙◌, ap, ℕ, zero, suc, ◌+◌, ◌<◌, List, [], ◌∷◌, ◌++◌, length, map, filter, Bool, true, false, not, ◌==◌, inl, inr, Option, Some, None, get_or, arith, All, nat_lt}
+use Rattle.std.specs.Prelude.{insert, option_map, option_to_list, remove}
 use Rattle.std.specs.List.{list_all, list_any}
 use Rattle.std.proofs.lemmas.Bool.{and_from, and_parts, both_ways, eqb-true, eq-eqb, false_from_ne_true, lt-ltb, ltb-true, not-true, not_from_false, or_cases, or_left, or_right}
 use Rattle.std.proofs.lemmas.List.{append-nil}
@@ -9,19 +9,14 @@ use Rattle.std.proofs.lemmas.List.Folds.{list_all-append}
 use Rattle.olap_meaning.specs.declared.cells.Who.{Who}
 use Rattle.olap_meaning.specs.declared.tables.Setting.{Setting}
 use Rattle.olap_meaning.specs.Covering.{among}
-use Rattle.olap_meaning.specs.History.{Entry, Append, Start, Answer, Load, ends, entry_at, is_some_and, load_at, rows_of, version}
+use Rattle.olap_meaning.specs.History.{Entry, Start, Load, ends, is_some_and, load_at, rows_of}
 use Rattle.olap_meaning.specs.Legal.{Legal, caller, is_call_below, is_call_of, is_next_call}
 use Rattle.segment_load.specs.Loads.{JobOf}
 use Rattle.cache_manager.specs.Cache.{CacheOf}
 use Rattle.cache_manager.specs.Jobs.{IsJobOf, actor, entries_of, numbers_from}
-use Rattle.cache_manager.specs.Runs.{IsRun, apart, is_below, when}
-use Rattle.cache_manager.specs.declared.answers.Answer.{Answer as Told}
-use Rattle.cache_manager.specs.Answers.{IsAnswer, source_of}
-use Rattle.olap_meaning.specs.declared.cells.Cell.{Cell}
-use Rattle.olap_meaning.specs.declared.tables.Row.{Row}
-use Rattle.olap_meaning.proofs.Growing.{version_grows}
-use Rattle.olap_meaning.proofs.Positions.{get_last}
-use Rattle.std.proofs.lemmas.List.{length_push}
+use Rattle.cache_manager.specs.Runs.{IsRun, MayReply, MayReplyAll, Stage, apart, ending, is_below, next_stage, stage_after, stage_of}
+use Rattle.cache_manager.specs.declared.calls.Call.{Call}
+use Rattle.cache_manager.specs.declared.calls.Reply.{Reply}
 use Rattle.cache_manager.proofs.Pushes.{any_none, load_on, recorded, rows_on}
 
 below_next : (n : ℕ) (o : Option Who) → is_below n o ≡ true → is_below (n + 1) o ≡ true
@@ -180,35 +175,50 @@ run_started before after old jobs n first count loads grown all numbers run = re
       ∙ and_from _ _ (all_below_next n before.entries run.below) (starts_below (n + 1) loads);
 }
 
--- an append has its entry
-pub appended_reply :
-    (before after : CacheOf) (who : Who) (cube position v : ℕ) (rows : List Row) → after.entries ≡ before.entries ++ Append who cube (version before.entries cube + 1) rows ∷ [] → position ≡ length after.entries → v ≡ version after.entries cube
-    → entry_at after.entries position ≡ Some (Append who cube v rows)
-appended_reply before after who cube position v rows grown last is =
-    let entry : Entry = Append who cube (version before.entries cube + 1) rows in
-    let long : position ≡ suc (length before.entries) = last ∙ ap length grown ∙ (let l = length_push before.entries (Append who cube (version before.entries cube + 1) rows) in l ∙ omega arith) in
-    let newer : v ≡ version before.entries cube + 1 =
-    is ∙ ap (λ (es : List Entry). version es cube) grown ∙ version_grows before.entries (Append who cube (version before.entries cube + 1) rows) cube ∙ rw (eq-eqb cube cube refl) refl in
-    ap (entry_at after.entries) long ∙ ap (λ (es : List Entry). slice_get es (length before.entries)) grown ∙ get_last before.entries (Append who cube (version before.entries cube + 1) rows)
-    ∙ ap (λ (n : ℕ). Some (Append who cube n rows)) (sym newer)
+-- a run that stands so
+abbrev at : CacheOf → List ℕ → ℕ → Stage
+at cache out n = record { cache = cache; out = out; number = n }
 
--- at its end a cache is as it is
-pub when_all : (cache : CacheOf) → when cache (length cache.entries) ≡ cache
-when_all cache = ap (λ (es : List Entry). record { setting = cache.setting; entries = es }) (take_all (length cache.entries) cache.entries (omega arith))
+-- a cache with more entries
+abbrev with_more : CacheOf → List Entry → CacheOf
+with_more cache more = record { setting = cache.setting; entries = cache.entries ++ more }
 
-when_before : (before after : CacheOf) (more : List Entry) → after.setting ≡ before.setting → after.entries ≡ before.entries ++ more → when after (length before.entries) ≡ before
-when_before before after more same grown =
-    ap (λ (s : Setting). record { setting = s; entries = take (length before.entries) after.entries }) same
-    ∙ ap (λ (es : List Entry). record { setting = before.setting; entries = es }) (ap (take (length before.entries)) grown ∙ take_at before.entries more (length before.entries) refl)
+-- a run goes on to this: the same setting, these entries and these jobs
+pub goes_on : (before after : CacheOf) (out out' : List ℕ) (n : ℕ) (more : List Entry) → after.setting ≡ before.setting → after.entries ≡ before.entries ++ more → out ≡ out' → at after out n ≡ at (with_more before more) out' n
+goes_on before after out out' n more same grown left =
+    ap (λ (s : Setting). at (record { setting = s; entries = after.entries }) out n) same
+    ∙ ap (λ (es : List Entry). at (record { setting = before.setting; entries = es }) out n) grown
+    ∙ ap (λ (ns : List ℕ). at (with_more before more) ns n) left
 
--- an answer is that of the entries before it
-pub answered_reply :
-    (before after : CacheOf) (who : Who) (cells : List Cell) (answer : Told) → after.setting ≡ before.setting → after.entries ≡ before.entries ++ Answer who (map (source_of before.entries) cells) ∷ [] → IsAnswer before cells answer
-    → (n : ℕ) × (entry_at after.entries (suc n) ≡ Some (Answer who (map (source_of (take n after.entries)) cells))) × IsAnswer (when after n) cells answer
-answered_reply before after who cells answer same grown is =
-    let front : when after (length before.entries) ≡ before = when_before before after (Answer who (map (source_of before.entries) cells) ∷ []) same grown in (
-      length before.entries,
-      ap (λ (es : List Entry). slice_get es (length before.entries)) grown ∙ get_last before.entries (Answer who (map (source_of before.entries) cells))
-          ∙ ap (λ (k : CacheOf). Some (Answer who (map (source_of k.entries) cells))) (sym front),
-      subst (λ (k : CacheOf). IsAnswer k cells answer) (sym front) is,
-    )
+-- nothing was done
+pub stays : (cache : CacheOf) (out : List ℕ) (n : ℕ) → at cache out n ≡ at (with_more cache []) out n
+stays cache out n = ap (λ (es : List Entry). at (record { setting = cache.setting; entries = es }) out n) (sym (append-nil cache.entries))
+
+pub map_remove : {A B : Type 0} (f : A → B) (xs : List A) (i : ℕ) → map f (remove xs i) ≡ remove (map f xs) i
+map_remove f [] zero = refl
+map_remove f [] (suc i) = refl
+map_remove f (x ∷ xs) zero = refl
+map_remove f (x ∷ xs) (suc i) = ap (λ ys. f x ∷ ys) (map_remove f xs i)
+
+pub length_map : {A B : Type 0} (f : A → B) (xs : List A) → length (map f xs) ≡ length xs
+length_map f [] = refl
+length_map f (x ∷ xs) = ap suc (length_map f xs)
+
+-- the entry that ends the load of a job that is out
+pub ending_is : (cache : CacheOf) (jobs : List JobOf) (n i : ℕ) (job : JobOf) (end : Who → ℕ → Entry) → All (IsJobOf cache) jobs → i < length jobs → job ≡ get_or jobs i job → ending end (stage_of cache jobs n) i ≡ end job.who job.load ∷ []
+ending_is cache [] n i job end all l at = absurd (omega (arith, l))
+ending_is cache (x ∷ xs) n zero job end all l at =
+    let is : IsJobOf cache x = All-head (IsJobOf cache) x xs all in
+    ap (λ (o : Option Load). option_to_list (option_map (λ load. end load.who x.load) o)) is.flies.started
+    ∙ ap (λ (w : Who). end w x.load ∷ []) is.flies.own ∙ ap (λ (j : JobOf). end j.who j.load ∷ []) (sym at)
+ending_is cache (x ∷ xs) n (suc i) job end all l at = ending_is cache xs n i job end (All-tail (IsJobOf cache) x xs all) (omega (arith, l)) at
+
+-- replies that may be, and one more
+pub replies_more : (stage : Stage) (calls : List Call) (replies : List Reply) (call : Call) (reply : Reply) → MayReplyAll stage calls replies → MayReply (stage_after stage calls replies) call reply
+    → MayReplyAll stage (calls ++ call ∷ []) (replies ++ reply ∷ []) × (stage_after stage (calls ++ call ∷ []) (replies ++ reply ∷ []) ≡ next_stage (stage_after stage calls replies) call reply)
+replies_more stage [] [] call reply all may = ((may, tt), refl)
+replies_more stage [] (r ∷ rs) call reply all may = absurd all
+replies_more stage (c ∷ cs) [] call reply all may = absurd all
+replies_more stage (c ∷ cs) (r ∷ rs) call reply all may =
+    let rest = replies_more (next_stage stage c r) cs rs call reply all.1 may in
+    ((all.0, rest.0), rest.1)

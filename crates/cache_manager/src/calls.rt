@@ -1,12 +1,12 @@
 //! Whole runs of calls on one manager.
 ghost use Rattle.std.specs.Prelude.{◌≡◌, ◌≤◌, ◌<◌, ◌+◌, ℕ, All, IfOk, IsTrue, length};
-ghost use Rattle.std.specs.List.{AllZip, list_all};
+ghost use Rattle.std.specs.List.{list_all};
 ghost use Rattle.olap_meaning.specs.Legal.{Legal};
 ghost use Rattle.history_core.specs.History.{setting_of};
 ghost use Rattle.segment_load.specs.Loads.{is_batch};
 ghost use Rattle.cache_manager.specs.Groups.{is_known};
 ghost use Rattle.cache_manager.specs.Jobs.{IsJobOf};
-ghost use Rattle.cache_manager.specs.Runs.{Extends, IsReply, IsRun, MayCall};
+ghost use Rattle.cache_manager.specs.Runs.{IsRun, MayCall, MayReply, MayReplyAll, first_stage, next_stage, stage_after, stage_of};
 
 use crate::answers::{Answer, Appended, Look};
 use crate::look::next;
@@ -77,8 +77,8 @@ fn run_append(
     requires known { cube < length manager.old.setting.catalog.cubes }
     requires fit { IsTrue (is_batch manager.old.setting.catalog cube batch) }
     ensures run { IsRun manager.new jobs.now (who.call + 1) }
-    ensures grown { Extends manager.old manager.new }
-    ensures reply { IsReply manager.new (Call.Append who.seat cube batch) result }
+    ensures reply { MayReply (stage_of manager.old jobs.now who.call) (Call.Append who.seat cube batch) result }
+    ensures next { stage_of manager.new jobs.now (who.call + 1) ≡ next_stage (stage_of manager.old jobs.now who.call) (Call.Append who.seat cube batch) result }
 {
     let _out = jobs;
     manager.is_legal();
@@ -92,8 +92,8 @@ fn run_look(manager: &mut Manager, jobs: &mut Vec<LoadJob>, who: Who, cells: Lis
     requires run { IsRun manager.old jobs.old.items who.call }
     requires known { IsTrue (list_all (is_known manager.old.setting.catalog) cells) }
     ensures run { IsRun manager.new jobs.new.items (who.call + 1) }
-    ensures grown { Extends manager.old manager.new }
-    ensures reply { IsReply manager.new (Call.Look who.seat cells) result }
+    ensures reply { MayReply (stage_of manager.old jobs.old.items who.call) (Call.Look who.seat cells) result }
+    ensures next { stage_of manager.new jobs.new.items (who.call + 1) ≡ next_stage (stage_of manager.old jobs.old.items who.call) (Call.Look who.seat cells) result }
 {
     manager.is_legal();
     if !manager.is_idle() {
@@ -119,8 +119,8 @@ fn run_delivery<L: Ledger>(
 ) -> Reply
     requires jobs { All (IsJobOf manager.old) jobs.old.items }
     ensures run { (n : ℕ) → IsRun manager.old jobs.old.items n → IsRun manager.new jobs.new.items (n + 1) }
-    ensures grown { Extends manager.old manager.new }
-    ensures reply { IsReply manager.new (Call.Deliver job) result }
+    ensures reply { (n : ℕ) → MayReply (stage_of manager.old jobs.old.items n) (Call.Deliver job) result }
+    ensures next { (n : ℕ) → stage_of manager.new jobs.new.items (n + 1) ≡ next_stage (stage_of manager.old jobs.old.items n) (Call.Deliver job) result }
 {
     if job >= jobs.len() {
         return Reply::NoJob;
@@ -142,8 +142,8 @@ fn run_delivery<L: Ledger>(
 fn run_abandonment(manager: &mut Manager, jobs: &mut Vec<LoadJob>, job: usize) -> Reply
     requires jobs { All (IsJobOf manager.old) jobs.old.items }
     ensures run { (n : ℕ) → IsRun manager.old jobs.old.items n → IsRun manager.new jobs.new.items (n + 1) }
-    ensures grown { Extends manager.old manager.new }
-    ensures reply { IsReply manager.new (Call.Abandon job) result }
+    ensures reply { (n : ℕ) → MayReply (stage_of manager.old jobs.old.items n) (Call.Abandon job) result }
+    ensures next { (n : ℕ) → stage_of manager.new jobs.new.items (n + 1) ≡ next_stage (stage_of manager.old jobs.old.items n) (Call.Abandon job) result }
 {
     if job >= jobs.len() {
         return Reply::NoJob;
@@ -164,8 +164,8 @@ fn run_call<L: Ledger>(
     requires run { IsRun manager.old jobs.old.items number }
     requires may { MayCall manager.old.setting.catalog call }
     ensures run { IsRun manager.new jobs.new.items (number + 1) }
-    ensures grown { Extends manager.old manager.new }
-    ensures reply { IsReply manager.new call result }
+    ensures reply { MayReply (stage_of manager.old jobs.old.items number) call result }
+    ensures next { stage_of manager.new jobs.new.items (number + 1) ≡ next_stage (stage_of manager.old jobs.old.items number) call result }
 {
     match call {
         Call::Append { seat, cube, batch } => {
@@ -184,7 +184,8 @@ fn run_call<L: Ledger>(
 /// Runs calls, one after another, on a manager of its own. Each gets the next call number, whatever its seat. A job may
 /// be delivered as late as wished, or never.
 ///
-/// The history after them is legal, and each reply is right by the history at its position.
+/// The history after them is legal. It has just the entries that the calls and their replies give, one after another,
+/// and each reply has its cause where its call was made.
 pub fn run_calls<L: Ledger>(
     alloc: Global,
     catalog: Arc<Catalog>,
@@ -197,7 +198,8 @@ pub fn run_calls<L: Ledger>(
     requires may { All (MayCall catalog.value) calls }
     ensures setting { IfOk result (λ run. run.manager.setting ≡ setting_of catalog.value row_limit budget) }
     ensures legal { IfOk result (λ run. Legal run.manager.setting run.manager.entries) }
-    ensures replies { IfOk result (λ run. AllZip (IsReply run.manager) calls run.replies) }
+    ensures replies { IfOk result (λ run. MayReplyAll (first_stage (setting_of catalog.value row_limit budget)) calls run.replies) }
+    ensures entries { IfOk result (λ run. run.manager ≡ (stage_after (first_stage (setting_of catalog.value row_limit budget)) calls run.replies).cache) }
 {
     let mut manager = Manager::new(alloc, catalog, row_limit, budget)?;
     let mut jobs = Vec::new(alloc);

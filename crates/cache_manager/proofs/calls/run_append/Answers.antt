@@ -1,8 +1,11 @@
-use Rattle.std.proofs.Common.{◌∙◌, ◌+◌, refl, sym, ap, subst, arith, inl, inr, length}
-use Rattle.std.proofs.lemmas.Bool.{lt-ltb}
-use Rattle.cache_manager.specs.Cache.{CacheOf, append_refusal}
+use Rattle.std.proofs.Common.{◌∙◌, ◌+◌, refl, sym, ap, subst, arith, length, map}
+use Rattle.std.proofs.lemmas.Bool.{eq-eqb, lt-ltb}
+use Rattle.std.proofs.lemmas.List.{length_push}
+use Rattle.olap_meaning.specs.History.{Entry, Append, version}
+use Rattle.olap_meaning.proofs.Growing.{version_grows}
+use Rattle.cache_manager.specs.Cache.{CacheOf}
 use Rattle.cache_manager.specs.Runs.{IsRun}
-use Rattle.cache_manager.proofs.Running.{appended_reply, next_call, run_later, run_on, when_all}
+use Rattle.cache_manager.proofs.Running.{goes_on, next_call, run_later, run_on, stays}
 use Rattle.cache_manager.proofs.calls.run_append.Goals as goal
 
 pub append-requires-clause-call : goal.append-requires-clause-call
@@ -14,16 +17,20 @@ returns-in-Ok-clause-run c =
 
 pub returns-in-Ok-clause-reply : goal.returns-in-Ok-clause-reply
 returns-in-Ok-clause-reply c =
-    (c.args.who, refl, appended_reply c.args.manager.now c.append.new.self c.args.who c.args.cube c.in-Ok.appended.position c.in-Ok.appended.version c.args.batch.rows c.in-Ok.ensures.entry c.in-Ok.ensures.position c.in-Ok.ensures.version)
+    let entry : Entry = Append c.args.who c.args.cube (version c.args.manager.now.entries c.args.cube + 1) c.args.batch.rows in (
+      c.in-Ok.ensures.admitted,
+      c.in-Ok.ensures.position ∙ ap length c.in-Ok.ensures.entry ∙ length_push c.args.manager.now.entries entry,
+      c.in-Ok.ensures.version ∙ ap (λ (es : _). version es c.args.cube) c.in-Ok.ensures.entry ∙ version_grows c.args.manager.now.entries entry c.args.cube ∙ rw (eq-eqb c.args.cube c.args.cube refl) refl,
+    )
+
+pub returns-in-Ok-clause-next : goal.returns-in-Ok-clause-next
+returns-in-Ok-clause-next c = goes_on c.args.manager.now c.append.new.self _ _ _ _ c.append.ensures.setting c.in-Ok.ensures.entry refl
 
 pub returns-in-Err-clause-run : goal.returns-in-Err-clause-run
 returns-in-Err-clause-run c = subst (λ (k : CacheOf). IsRun k c.args.jobs.now (c.args.who.call + 1)) (sym c.in-Err.ensures.unchanged) (run_later c.args.manager.now c.args.jobs.now c.args.who.call c.requires.run)
 
 pub returns-in-Err-clause-reply : goal.returns-in-Err-clause-reply
-returns-in-Err-clause-reply c = (
-  length c.append.new.self.entries,
-  elim c.in-Err.ensures.fault [
-    | inl wanting ↦ inl wanting
-    | inr refusal ↦ inr (ap (λ (k : CacheOf). append_refusal k c.args.cube c.args.batch.rows) (when_all c.append.new.self ∙ c.in-Err.ensures.unchanged) ∙ refusal)
-  ],
-)
+returns-in-Err-clause-reply c = c.in-Err.ensures.fault
+
+pub returns-in-Err-clause-next : goal.returns-in-Err-clause-next
+returns-in-Err-clause-next c = ap (λ (k : CacheOf). record { cache = k; out = map (λ job. job.load) c.args.jobs.now; number = c.args.who.call + 1 }) c.in-Err.ensures.unchanged ∙ stays c.args.manager.now _ _

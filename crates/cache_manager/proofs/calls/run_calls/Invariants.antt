@@ -1,12 +1,12 @@
 use Rattle.std.proofs.Common.{◌≡◌}
-use Rattle.std.specs.List.{AllZip}
-use Rattle.cache_manager.specs.Runs.{IsReply, IsRun}
+use Rattle.cache_manager.specs.Runs.{IsRun, MayReplyAll, first_stage, stage_after, stage_of}
 use Rattle.cache_manager.proofs.calls.run_calls.Given as goal
 
--- the calls so far are made, and each reply is right
+-- the calls so far are made, and each reply has its cause
 abbrev pub invariant-loop-call : goal.invariant-loop-call
 invariant-loop-call g l = record {
   run : IsRun l.manager l.jobs.items l.number;
+  stage : stage_of l.manager l.jobs.items l.number ≡ stage_after (first_stage l.initial.manager.setting) l.yielded l.replies;
   setting : l.manager.setting ≡ l.initial.manager.setting;
-  replies : AllZip (IsReply l.manager) l.yielded l.replies;
+  replies : MayReplyAll (first_stage l.initial.manager.setting) l.yielded l.replies;
 }

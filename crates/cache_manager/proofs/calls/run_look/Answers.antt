@@ -1,15 +1,23 @@
-use Rattle.std.proofs.Common.{◌≡◌, ◌∙◌, ◌+◌, ◌++◌, ◌∷◌, [], List, refl, sym, ap, subst, arith, map, length}
-use Rattle.std.proofs.lemmas.Bool.{lt-ltb}
+use Rattle.std.proofs.Common.{◌≡◌, ◌∙◌, ◌+◌, ◌++◌, ◌∷◌, [], List, All, refl, sym, ap, subst, arith, map, length}
+use Rattle.std.proofs.lemmas.Bool.{both_ways, lt-ltb}
 use Rattle.olap_meaning.specs.declared.cells.Cell.{Cell}
-use Rattle.olap_meaning.specs.History.{Answer}
-use Rattle.cache_manager.specs.Answers.{IsAnswer, source_of}
+use Rattle.olap_meaning.specs.History.{Answer, Start}
+use Rattle.cache_manager.specs.Answers.{HasSource, IsAnswer, SomeWants, source_of}
 use Rattle.cache_manager.specs.Cache.{CacheOf}
+use Rattle.cache_manager.specs.Groups.{loads_for}
+use Rattle.cache_manager.specs.Jobs.{numbers_from}
 use Rattle.cache_manager.specs.Runs.{IsRun}
-use Rattle.cache_manager.proofs.Running.{answered_reply, next_call, run_later, run_on, run_started}
+use Rattle.cache_manager.proofs.Running.{goes_on, next_call, run_later, run_on, run_started, stays}
 use Rattle.cache_manager.proofs.calls.run_look.Goals as goal
 
 pub returns-then-not-is_idle-clause-run : goal.returns-then-not-is_idle-clause-run
 returns-then-not-is_idle-clause-run c = run_later c.args.manager.now c.args.jobs.now.items c.args.who.call c.requires.run
+
+pub returns-then-not-is_idle-clause-reply : goal.returns-then-not-is_idle-clause-reply
+returns-then-not-is_idle-clause-reply c none = both_ways _ c.if-not-is_idle.true (c.is_idle.ensures.1 none)
+
+pub returns-then-not-is_idle-clause-next : goal.returns-then-not-is_idle-clause-next
+returns-then-not-is_idle-clause-next c = stays c.args.manager.now _ _
 
 pub look-requires-clause-call : goal.look-requires-clause-call
 look-requires-clause-call c = next_call c.args.who c.args.manager.now.entries c.requires.run.below
@@ -19,12 +27,17 @@ returns-in-Ok-Ready-clause-run c =
     run_on c.args.manager.now c.look.new.self _ c.look.ensures.setting (rw c.in-Ok-Ready.field-0-is at c.in-Ok-Ready.ensures.answer_entry) c.is_legal.ensures c.args.jobs.now.items c.args.who.call (λ k d l. refl) (lt-ltb _ _ (omega arith)) c.requires.run
 
 pub returns-in-Ok-Ready-clause-reply : goal.returns-in-Ok-Ready-clause-reply
-returns-in-Ok-Ready-clause-reply c =
+returns-in-Ok-Ready-clause-reply c = (
+  c.is_idle.ensures.0 c.if-not-is_idle.false,
+  subst (λ (cells : List Cell). All (HasSource c.args.manager.now) cells) c.as_slice.ensures (rw c.in-Ok-Ready.field-0-is at c.in-Ok-Ready.ensures.ready),
+  subst (λ (cells : List Cell). IsAnswer c.args.manager.now cells c.in-Ok-Ready.answer) c.as_slice.ensures (rw c.in-Ok-Ready.field-0-is at c.in-Ok-Ready.ensures.answer),
+)
+
+pub returns-in-Ok-Ready-clause-next : goal.returns-in-Ok-Ready-clause-next
+returns-in-Ok-Ready-clause-next c =
     let entry : c.look.new.self.entries ≡ c.args.manager.now.entries ++ Answer c.args.who (map (source_of c.args.manager.now.entries) c.args.cells) ∷ [] =
     (rw c.in-Ok-Ready.field-0-is at c.in-Ok-Ready.ensures.answer_entry) ∙ ap (λ (cells : List Cell). c.args.manager.now.entries ++ Answer c.args.who (map (source_of c.args.manager.now.entries) cells) ∷ []) c.as_slice.ensures in
-    let answer : IsAnswer c.args.manager.now c.args.cells c.in-Ok-Ready.answer = subst (λ (cells : List Cell). IsAnswer c.args.manager.now cells c.in-Ok-Ready.answer) c.as_slice.ensures (rw c.in-Ok-Ready.field-0-is at c.in-Ok-Ready.ensures.answer) in
-    let told = answered_reply c.args.manager.now c.look.new.self c.args.who c.args.cells c.in-Ok-Ready.answer c.look.ensures.setting entry answer in
-    (c.args.who, told.0, refl, told.1, told.2)
+    goes_on c.args.manager.now c.look.new.self _ _ _ _ c.look.ensures.setting entry refl
 
 pub returns-in-Ok-Load-clause-run : goal.returns-in-Ok-Load-clause-run
 returns-in-Ok-Load-clause-run c =
@@ -32,5 +45,25 @@ returns-in-Ok-Load-clause-run c =
     (run_started c.args.manager.now c.look.new.self c.args.jobs.now.items c.in-Ok-Load.started c.args.who.call (length c.args.manager.now.entries + 1) _ _ (rw c.in-Ok-Load.field-0-is at c.in-Ok-Load.ensures.load_entries)
     (rw c.in-Ok-Load.field-0-is at c.in-Ok-Load.ensures.jobs) (rw c.in-Ok-Load.field-0-is at c.in-Ok-Load.ensures.numbers) c.requires.run)
 
+pub returns-in-Ok-Load-clause-reply : goal.returns-in-Ok-Load-clause-reply
+returns-in-Ok-Load-clause-reply c = (
+  c.is_idle.ensures.0 c.if-not-is_idle.false,
+  subst (λ (cells : List Cell). SomeWants c.args.manager.now cells) c.as_slice.ensures (rw c.in-Ok-Load.field-0-is at c.in-Ok-Load.ensures.load),
+)
+
+pub returns-in-Ok-Load-clause-next : goal.returns-in-Ok-Load-clause-next
+returns-in-Ok-Load-clause-next c =
+    let entries : c.look.new.self.entries ≡ c.args.manager.now.entries ++ map Start (loads_for c.args.who c.args.manager.now.entries c.args.cells) =
+    (rw c.in-Ok-Load.field-0-is at c.in-Ok-Load.ensures.load_entries) ∙ ap (λ (cells : List Cell). c.args.manager.now.entries ++ map Start (loads_for c.args.who c.args.manager.now.entries cells)) c.as_slice.ensures in
+    let numbers : map (λ job. job.load) c.in-Ok-Load.started ≡ numbers_from (length c.args.manager.now.entries + 1) (length (loads_for c.args.who c.args.manager.now.entries c.args.cells)) =
+    (rw c.in-Ok-Load.field-0-is at c.in-Ok-Load.ensures.numbers) ∙ ap (λ (cells : List Cell). numbers_from (length c.args.manager.now.entries + 1) (length (loads_for c.args.who c.args.manager.now.entries cells))) c.as_slice.ensures in
+    rw c.into_vec.ensures (goes_on c.args.manager.now c.look.new.self _ _ _ _ c.look.ensures.setting entries numbers)
+
 pub returns-clause-run : goal.returns-clause-run
 returns-clause-run c = subst (λ (k : CacheOf). IsRun k c.args.jobs.now.items (c.args.who.call + 1)) (sym c.in-Err.ensures.unchanged) (run_later c.args.manager.now c.args.jobs.now.items c.args.who.call c.requires.run)
+
+pub returns-clause-reply : goal.returns-clause-reply
+returns-clause-reply c = c.is_idle.ensures.0 c.if-not-is_idle.false
+
+pub returns-clause-next : goal.returns-clause-next
+returns-clause-next c = ap (λ (k : CacheOf). record { cache = k; out = map (λ job. job.load) c.args.jobs.now.items; number = c.args.who.call + 1 }) c.in-Err.ensures.unchanged ∙ stays c.args.manager.now _ _

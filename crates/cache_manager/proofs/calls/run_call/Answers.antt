@@ -1,0 +1,7 @@
+use Rattle.cache_manager.proofs.calls.run_call.Goals as goal
+
+pub returns-in-Deliver-clause-reply : goal.returns-in-Deliver-clause-reply
+returns-in-Deliver-clause-reply g c = rw c.in-Deliver.is (c.run_delivery.ensures.reply c.args.number)
+
+pub returns-in-Abandon-clause-reply : goal.returns-in-Abandon-clause-reply
+returns-in-Abandon-clause-reply g c = rw c.in-Abandon.is (c.run_abandonment.ensures.reply c.args.number)
