@@ -12,8 +12,8 @@ use Rattle.memchr.specs.Find.{IsFirstByte, Nowhere, Passes, is_byte}
 use Rattle.input_lines.specs.Reader.{HasTaken, NeedsNoMore, IsFound, front_told}
 use Rattle.input_lines.specs.declared.next.Next.{Next}
 use Rattle.input_lines.specs.declared.next.Found.TheVariants as found
-use Rattle.input_lines.specs.Lines.{is_lf, line_length, is_too_long, front_of, first_line, without_cr, Front, Lines, onto_lines, some_lines, lines_of}
-use Rattle.input_lines.specs.Lines.Front.{Nothing, FirstLine, TooMany}
+use Rattle.olap_meaning.specs.Lines.{is_lf, line_length, is_too_long, front_of, first_line, without_cr, Front, Lines, onto_lines, some_lines, lines_of}
+use Rattle.olap_meaning.specs.Lines.Front.{Nothing, FirstLine, TooMany}
 
 -- an element passes just where the first that passes stands before the end
 pub list_any-is : {X : Type 0} (p : X → Bool) (xs : List X) → list_any p xs ≡ nat_lt (position_or_len p xs) (length xs)

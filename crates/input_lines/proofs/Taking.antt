@@ -5,7 +5,7 @@ use Rattle.std.proofs.lemmas.List.{take_at, length-take, drop-append-le, drop-dr
 use Rattle.std.proofs.Math.Seq.{take-add}
 use Rattle.std.proofs.lemmas.Slice.{between_is}
 use Rattle.outside.specs.Told.{TakenOff}
-use Rattle.input_lines.specs.Lines.{front_of}
+use Rattle.olap_meaning.specs.Lines.{front_of}
 use Rattle.input_lines.specs.Reader.{HasTaken, not_given, front_told}
 use Rattle.input_lines.specs.declared.next.Next.{Next}
 

@@ -1,8 +1,8 @@
 -- What a reader of lines holds and tells.
 use Rattle.std.specs.Prelude.{◌≡◌, ◌++◌, ◌<◌, ◌≤◌, ℕ, List, Option, option_map, length, ◌⊎◌}
 use Rattle.outside.specs.Told.{TakenOff}
-use Rattle.input_lines.specs.Lines.{Front, front_of, line_limit, line_length}
-use Rattle.input_lines.specs.Lines.Front.{Nothing, FirstLine, TooMany}
+use Rattle.olap_meaning.specs.Lines.{Front, front_of, line_limit, line_length}
+use Rattle.olap_meaning.specs.Lines.Front.{Nothing, FirstLine, TooMany}
 use Rattle.input_lines.specs.declared.next.Next.{Next}
 use Rattle.input_lines.specs.declared.next.Next.TheVariants.{Line, TooLong, End}
 use Rattle.input_lines.specs.declared.next.Found.{Found}

@@ -1,7 +1,7 @@
 //! A reader of lines.
 ghost use Rattle.std.specs.Prelude.{◌≡◌, ◌≢◌, ◌+◌, ◌<◌, ◌≤◌, ◌++◌, ℕ, List, [], IfOk, OnOk, OnErr, IfSome, Err, Ok, All, length, take, drop, slice_range, option_map};
 ghost use Rattle.outside.specs.Told.{TakenOff};
-ghost use Rattle.input_lines.specs.Lines.{front_of, lines_of, onto_lines, line_length, without_cr};
+ghost use Rattle.olap_meaning.specs.Lines.{front_of, lines_of, onto_lines, line_length, without_cr};
 ghost use Rattle.input_lines.specs.Reader.{not_given, front_told, HasTaken, NeedsNoMore, Shows, IsFound};
 
 use crate::next::{Found, Next};

@@ -1,14 +1,14 @@
 -- The tokens of paths and of queries.
 use Rattle.std.proofs.Common.{◌≡◌, ◌≢◌, ℕ, false, List, [], ◌∷◌, ◌++◌, refl, sym, ap, subst, ◌∙◌, append_assoc, flat_map, Option, Some, None, Result, Ok, Err, IfOk, MatchOption}
 use Rattle.olap_meaning.specs.declared.OutOfMemory.{OutOfMemory}
-use Rattle.mdx_reader.specs.declared.tokens.Keyword.TheVariants.{Select, On, Columns, From}
-use Rattle.mdx_reader.specs.declared.tokens.Sign.{Sign as AnySign}
-use Rattle.mdx_reader.specs.declared.tokens.Sign.TheVariants.{OpenBrace, CloseBrace, Dot}
-use Rattle.mdx_reader.specs.declared.tokens.Token.{Token}
-use Rattle.mdx_reader.specs.declared.tokens.Token.TheVariants.{Keyword, Sign, Name}
-use Rattle.mdx_reader.specs.declared.cell_query.CellQuery.{CellQuery}
-use Rattle.mdx_reader.specs.Tokens.{Spells}
-use Rattle.mdx_reader.specs.Queries.{path_tokens, query_tokens, IsCellQuery, CellQueriesAreOne}
+use Rattle.olap_meaning.specs.declared.queries.Keyword.TheVariants.{Select, On, Columns, From}
+use Rattle.olap_meaning.specs.declared.queries.Sign.{Sign as AnySign}
+use Rattle.olap_meaning.specs.declared.queries.Sign.TheVariants.{OpenBrace, CloseBrace, Dot}
+use Rattle.olap_meaning.specs.declared.queries.Token.{Token}
+use Rattle.olap_meaning.specs.declared.queries.Token.TheVariants.{Keyword, Sign, Name}
+use Rattle.olap_meaning.specs.declared.queries.CellQuery.{CellQuery}
+use Rattle.olap_meaning.specs.Tokens.{Spells}
+use Rattle.olap_meaning.specs.Queries.{path_tokens, query_tokens, IsCellQuery, CellQueriesAreOne}
 use Rattle.mdx_reader.specs.Parser.{IsPathThen, AreTokensOf}
 use Rattle.mdx_reader.proofs.Once.{spells_once}
 

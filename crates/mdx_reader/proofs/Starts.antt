@@ -2,14 +2,14 @@
 use Rattle.std.proofs.Common.{◌≡◌, ◌≢◌, ℕ, ◌<◌, ◌≤◌, Bool, true, false, List, [], ◌∷◌, ◌++◌, inl, inr, refl, sym, ap, subst, ◌∙◌, arith, codes, append_assoc}
 use Rattle.std.specs.Char.{to_ascii_uppercase}
 use Rattle.std.proofs.lemmas.Bool.Decides.{nat_tests}
-use Rattle.mdx_reader.specs.declared.tokens.Keyword.{Keyword}
-use Rattle.mdx_reader.specs.declared.tokens.Keyword.TheVariants.{Select, On, Columns, From}
-use Rattle.mdx_reader.specs.declared.tokens.Sign.{Sign}
-use Rattle.mdx_reader.specs.declared.tokens.Sign.TheVariants.{OpenBrace, CloseBrace, Dot}
-use Rattle.mdx_reader.specs.declared.tokens.Token.{Token}
-use Rattle.mdx_reader.specs.declared.tokens.Token.TheVariants as token
+use Rattle.olap_meaning.specs.declared.queries.Keyword.{Keyword}
+use Rattle.olap_meaning.specs.declared.queries.Keyword.TheVariants.{Select, On, Columns, From}
+use Rattle.olap_meaning.specs.declared.queries.Sign.{Sign}
+use Rattle.olap_meaning.specs.declared.queries.Sign.TheVariants.{OpenBrace, CloseBrace, Dot}
+use Rattle.olap_meaning.specs.declared.queries.Token.{Token}
+use Rattle.olap_meaning.specs.declared.queries.Token.TheVariants as token
 use Rattle.mdx_reader.specs.declared.mode.Start.TheVariants as start
-use Rattle.mdx_reader.specs.Tokens.{IsWhite, keyword_text, in_capitals, sign_text, escaped, Spells, white, keyword, sign, name}
+use Rattle.olap_meaning.specs.Tokens.{IsWhite, keyword_text, in_capitals, sign_text, escaped, Spells, white, keyword, sign, name}
 use Rattle.mdx_reader.specs.Lexer.{start_of, InWord, InName}
 
 pub white_starts : (c : ℕ) → IsWhite c → start_of c ≡ start.White

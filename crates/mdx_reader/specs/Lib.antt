@@ -1,4 +1,2 @@
-pub mod Tokens
-pub mod Queries
 pub mod Lexer
 pub mod Parser

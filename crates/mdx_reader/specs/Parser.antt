@@ -1,11 +1,11 @@
 -- What is taken off the front of a list of tokens.
 use Rattle.std.specs.Prelude.{◌≡◌, ◌≢◌, ◌++◌, ℕ, Bool, true, false, List, [], ◌∷◌, Option, Some, None}
-use Rattle.mdx_reader.specs.declared.tokens.Sign.{Sign}
-use Rattle.mdx_reader.specs.declared.tokens.Sign.TheVariants.{CloseBrace}
-use Rattle.mdx_reader.specs.declared.tokens.Token.{Token}
-use Rattle.mdx_reader.specs.declared.tokens.Token.TheVariants as token
-use Rattle.mdx_reader.specs.declared.cell_query.CellQuery.{CellQuery}
-use Rattle.mdx_reader.specs.Queries.{path_tokens, query_tokens}
+use Rattle.olap_meaning.specs.declared.queries.Sign.{Sign}
+use Rattle.olap_meaning.specs.declared.queries.Sign.TheVariants.{CloseBrace}
+use Rattle.olap_meaning.specs.declared.queries.Token.{Token}
+use Rattle.olap_meaning.specs.declared.queries.Token.TheVariants as token
+use Rattle.olap_meaning.specs.declared.queries.CellQuery.{CellQuery}
+use Rattle.olap_meaning.specs.Queries.{path_tokens, query_tokens}
 
 -- the token stood in front, or it did not
 abbrev pub Took : Token → List Token → List Token → Bool → Type 0

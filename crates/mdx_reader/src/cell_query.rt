@@ -1,18 +1,12 @@
 //! The query of one cell.
 ghost use Rattle.std.specs.Prelude.{◌≡◌, None, IfOk, IfSome};
-ghost use Rattle.mdx_reader.specs.Queries.{IsCellQuery, WritesNoCellQuery};
+ghost use Rattle.olap_meaning.specs.Queries.{IsCellQuery, WritesNoCellQuery};
 
 use crate::lexer::read_tokens;
 use crate::parser::query_of_tokens;
-use olap_meaning::{List, OutOfMemory, Text};
+use olap_meaning::OutOfMemory;
+use olap_meaning::queries::CellQuery;
 use std::alloc::Global;
-
-/// A query of one cell: the path of the asked member, and the cube's name.
-#[derive(Drop)]
-pub struct CellQuery {
-    pub path: List<Text>,
-    pub cube: Text,
-}
 
 /// Reads a query of one cell. None exactly where the text is not of this form.
 pub fn read_cell_query(alloc: Global, text: &str) -> Result<Option<CellQuery>, OutOfMemory>

@@ -1,6 +1,6 @@
 //! Laws of the definitions alone: each is the contract of a function with an empty body.
-ghost use Rattle.mdx_reader.specs.Queries.{CellQueriesAreOne};
-ghost use Rattle.mdx_reader.specs.Tokens.{TokensAreOne};
+ghost use Rattle.olap_meaning.specs.Queries.{CellQueriesAreOne};
+ghost use Rattle.olap_meaning.specs.Tokens.{TokensAreOne};
 
 /// No text spells two lists of tokens.
 pub fn tokens_are_one()

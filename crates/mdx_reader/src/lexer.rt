@@ -1,10 +1,10 @@
 //! Reads a text into its tokens, a character at a time.
 ghost use Rattle.std.specs.Prelude.{◌≡◌, ◌≢◌, MatchBool, [], IfOk, MatchOption, string_bytes, encode_utf8, false};
-ghost use Rattle.mdx_reader.specs.Tokens.{Spells, keyword_text};
+ghost use Rattle.olap_meaning.specs.Tokens.{Spells, keyword_text};
 ghost use Rattle.mdx_reader.specs.Lexer.{start_of, IsNoKeyword, HasNoTokens, InWord, Closing, Continues, Steps, Ends, EndsWord, EndsName};
 
 use crate::mode::{Mode, Start};
-use crate::tokens::{Keyword, Sign, Token};
+use olap_meaning::queries::{Keyword, Sign, Token};
 use olap_meaning::{OutOfMemory, Text};
 use std::alloc::Global;
 use std::collections::VecDeque;

@@ -15,7 +15,6 @@ pub mod laws;
 mod lexer;
 mod mode;
 mod parser;
-mod tokens;
 
-pub use cell_query::{CellQuery, read_cell_query};
-pub use tokens::{Keyword, Sign, Token};
+pub use cell_query::read_cell_query;
+pub use olap_meaning::queries::{CellQuery, Keyword, Sign, Token};

@@ -1,6 +1,6 @@
 //! Where a reader of tokens stands.
 
-use crate::tokens::Sign;
+use olap_meaning::queries::Sign;
 
 /// What a character begins.
 #[derive(Clone, Copy)]

@@ -11,3 +11,4 @@ pub mod RootFacts
 pub mod StepFacts
 pub mod WalkFacts
 pub mod MeasureFacts
+pub mod OwnFacts

@@ -1,9 +1,10 @@
 -- The parts of a catalog fit together, by how a schema lays them out.
-use Rattle.std.proofs.Common.{◌≡◌, ◌∙◌, ◌+◌, ◌≤◌, ◌&&◌, ◌++◌, ℕ, suc, Bool, true, List, [], ◌∷◌, Some, refl, sym, ap, map, slice_get, length, flat_map, nat_lt, nat_le, nat_eq, arith}
+use Rattle.std.proofs.Common.{◌≡◌, ◌∙◌, ◌+◌, ◌≤◌, ◌<◌, ◌&&◌, ◌++◌, ℕ, suc, Bool, true, List, [], ◌∷◌, Some, refl, sym, ap, map, slice_get, length, flat_map, nat_lt, nat_le, nat_eq, arith}
 use Rattle.std.specs.List.{list_all, AllByRecursion as Each}
 use Rattle.std.proofs.lemmas.List.Elements.{recursion_from_All}
 use Rattle.std.proofs.lemmas.List.{append_assoc, length-append, length-map}
 use Rattle.std.proofs.lemmas.List.Folds.{list_all-append}
+use Rattle.std.proofs.lemmas.Bool.{lt-ltb}
 use Rattle.std.proofs.lemmas.Bool.Decides.{nat_tests}
 use Rattle.olap_meaning.specs.declared.schema.SchemaDimension.{SchemaDimension}
 use Rattle.olap_meaning.specs.declared.schema.SchemaHierarchy.{SchemaHierarchy}
@@ -15,6 +16,7 @@ use Rattle.olap_meaning.specs.declared.tables.Column.{Column}
 use Rattle.olap_meaning.specs.declared.tables.Hierarchy.{Hierarchy}
 use Rattle.olap_meaning.specs.declared.tables.Cube.{Cube}
 use Rattle.olap_meaning.specs.History.{is_some_and}
+use Rattle.olap_meaning.specs.Legal.{rise}
 use Rattle.olap_meaning.specs.Schema.{columns_from, all_columns, levels_of, numbers_from, hierarchies_from, all_hierarchies, cube_over, hierarchies_in, IsWithinLimits, IsWithinCube}
 use Rattle.olap_catalog.specs.Tables.{TableOf, have_fields}
 use Rattle.olap_catalog.specs.Parts.{is_column, is_level, has_levels, has_few_measures, AreParts, Names}
@@ -119,6 +121,41 @@ few_measures_in ds (cube ∷ cubes) within =
     both _ _ true true here (few_measures_in ds cubes within.1)
 
 -- the parts that a schema and its tables give fit together
+numbers_append : (n : ℕ) (xs ys : List SchemaLevel) → numbers_from n (xs ++ ys) ≡ numbers_from n xs ++ numbers_from (n + length xs) ys
+numbers_append n [] ys = let e : n + 0 ≡ n = omega arith in rw e refl
+numbers_append n (x ∷ xs) ys =
+    let e : suc n + length xs ≡ n + length (x ∷ xs) = omega arith in
+    ap (λ ns. n ∷ ns) (numbers_append (suc n) xs ys ∙ ap (λ m. numbers_from (suc n) xs ++ numbers_from m ys) e)
+
+flat_append : {A B : Type 0} (f : A → List B) (xs ys : List A) → flat_map f (xs ++ ys) ≡ flat_map f xs ++ flat_map f ys
+flat_append f [] ys = refl
+flat_append f (x ∷ xs) ys = ap (λ zs. f x ++ zs) (flat_append f xs ys) ∙ sym (append_assoc (f x) (flat_map f xs) (flat_map f ys))
+
+levels_in_dimension : (d column : ℕ) (hs : List SchemaHierarchy) → flat_map (λ (x : Hierarchy). x.levels) (hierarchies_from d column hs) ≡ numbers_from column (flat_map (λ (x : SchemaHierarchy). x.levels) hs)
+levels_in_dimension d column [] = refl
+levels_in_dimension d column (h ∷ hs) =
+    ap (λ ns. numbers_from column h.levels ++ ns) (levels_in_dimension d (column + length h.levels) hs) ∙ sym (numbers_append column h.levels (flat_map (λ (x : SchemaHierarchy). x.levels) hs))
+
+levels_in_all : (place column : ℕ) (ds : List SchemaDimension) → flat_map (λ (x : Hierarchy). x.levels) (all_hierarchies place column ds) ≡ numbers_from column (flat_map levels_of ds)
+levels_in_all place column [] = refl
+levels_in_all place column (d ∷ ds) =
+    flat_append (λ (x : Hierarchy). x.levels) (hierarchies_from place column d.hierarchies) (all_hierarchies (suc place) (column + length (levels_of d)) ds)
+    ∙ ap (λ ns. ns ++ flat_map (λ (x : Hierarchy). x.levels) (all_hierarchies (suc place) (column + length (levels_of d)) ds)) (levels_in_dimension place column d.hierarchies)
+    ∙ ap (λ ns. numbers_from column (levels_of d) ++ ns) (levels_in_all (suc place) (column + length (levels_of d)) ds)
+    ∙ sym (numbers_append column (levels_of d) (flat_map levels_of ds))
+
+numbers_above : (m n : ℕ) (ls : List SchemaLevel) → m < n → list_all (nat_lt m) (numbers_from n ls) ≡ true
+numbers_above m n [] l = refl
+numbers_above m n (x ∷ ls) l = both _ _ true true (lt-ltb m n l) (numbers_above m (suc n) ls (omega (arith, l)))
+
+numbers_rise : (n : ℕ) (ls : List SchemaLevel) → rise (numbers_from n ls) ≡ true
+numbers_rise n [] = refl
+numbers_rise n (x ∷ ls) = both _ _ true true (numbers_above n (suc n) ls (omega arith)) (numbers_rise (suc n) ls)
+
+-- the columns of all hierarchies rise, one hierarchy after another
+rising_all : (place column : ℕ) (ds : List SchemaDimension) → rise (flat_map (λ (x : Hierarchy). x.levels) (all_hierarchies place column ds)) ≡ true
+rising_all place column ds = ap rise (levels_in_all place column ds) ∙ numbers_rise column (flat_map levels_of ds)
+
 pub parts_fit : (schema : Schema) (tables : List TableOf) (columns : List Column) (hierarchies : List Hierarchy) (cubes : List Cube) (full_names : List (List ℕ)) (roots : List (List ℕ)) (names : Names) → IsWithinLimits schema
     → list_all (λ t. have_fields t.levels t.records) tables ≡ true → map (λ t. t.levels) tables ≡ map (λ d. length (levels_of d)) schema.dimensions → columns ≡ all_columns 0 schema.dimensions → hierarchies ≡ all_hierarchies 0 0 schema.dimensions
     → cubes ≡ map (cube_over schema.dimensions) schema.cubes → full_names ≡ map (full_name_in schema.dimensions) hierarchies → roots ≡ map (λ cube. flat_map (hierarchies_among hierarchies) cube.dimensions) cubes
@@ -135,6 +172,7 @@ parts_fit schema tables columns hierarchies cubes full_names roots names limits 
       even = even;
       columned = ap (list_all (is_column tables)) c ∙ columned_all [] tables schema.dimensions whole;
       leveled = ap (list_all (has_levels columns)) h ∙ leveled_all columns [] 0 schema.dimensions c;
+      rising = ap (λ hs. rise (flat_map (λ (x : Hierarchy). x.levels) hs)) h ∙ rising_all 0 0 schema.dimensions;
       named = named;
       rooted = rooted;
       cubes_named = cubes_named;

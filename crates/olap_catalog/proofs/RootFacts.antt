@@ -52,6 +52,13 @@ kept_name schema tables columns hierarchies cubes full_names h paired named =
     by None = refl
     by (Some x) = full_names_same schema tables columns hierarchies cubes x paired
 
+-- the full name of a hierarchy is the one that is kept
+pub name_kept : (schema : Schema) (tables : List TableOf) (columns : List Column) (hierarchies : List Hierarchy) (cubes : List Cube) (full_names : List (List ℕ)) (h : ℕ) (name : List ℕ) → length tables ≡ length schema.dimensions
+    → full_names ≡ map (full_name_in schema.dimensions) hierarchies → h < length hierarchies → name ≡ get_or full_names h name → name ≡ root_name (plain schema tables columns hierarchies cubes) (Whole h)
+name_kept schema tables columns hierarchies cubes full_names h name paired named within at =
+    let count : length full_names ≡ length hierarchies = ap length named ∙ length-map hierarchies (full_name_in schema.dimensions) in
+    sym (kept_name schema tables columns hierarchies cubes full_names h paired named ∙ ap (λ o. option_map_or (λ (n : List ℕ). n) o []) (slice_get-get_or full_names h name (omega (arith, count))) ∙ sym at)
+
 kept_names : (schema : Schema) (tables : List TableOf) (columns : List Column) (hierarchies : List Hierarchy) (cubes : List Cube) (full_names : List (List ℕ)) (hs : List ℕ) → length tables ≡ length schema.dimensions
     → full_names ≡ map (full_name_in schema.dimensions) hierarchies → map (root_name (plain schema tables columns hierarchies cubes)) (Measures ∷ map Whole hs) ≡ root_names_in full_names hs
 kept_names schema tables columns hierarchies cubes full_names hs paired named = ap (λ ns. codes "Measures" ∷ ns) (by hs)

@@ -4,7 +4,7 @@ use Rattle.std.specs.List.{find}
 use Rattle.olap_meaning.specs.declared.tables.Catalog.{Catalog}
 use Rattle.olap_meaning.specs.declared.cells.Member.{Member}
 use Rattle.olap_meaning.specs.declared.cells.LevelRef.TheVariants.{Whole}
-use Rattle.olap_meaning.specs.Catalog.{named, named_below, children, default_member, and_then}
+use Rattle.olap_meaning.specs.Catalog.{named, named_below, children, default_member, first_members, and_then}
 use Rattle.olap_catalog.specs.declared.members.Below.{Below}
 use Rattle.olap_catalog.specs.declared.fault.NameFault.{NameFault}
 use Rattle.olap_catalog.specs.declared.fault.NameFault.TheVariants.{UnknownMember, OutOfMemory}
@@ -17,7 +17,7 @@ first_is [] = refl
 first_is (x ∷ xs) = refl
 
 -- the default member of a hierarchy
-default_is : (catalog : Catalog) (cube h : ℕ) → default_member catalog cube (Whole h) ≡ option_map (below_member h []) (below_by (λ name. true) catalog h true [])
+pub default_is : (catalog : Catalog) (cube h : ℕ) → default_member catalog cube (Whole h) ≡ option_map (below_member h []) (below_by (λ name. true) catalog h true [])
 default_is catalog cube h = first_is (members_below catalog h true []) ∙ find_below catalog cube h true [] (λ name. true)
 
 -- a path begins with its first name
@@ -54,6 +54,14 @@ default_alone catalog cube h path name first b top values some at is there one e
     ∙ ap (λ o. or_fault (and_then (named_below catalog cube (drop 1 path) (members_below catalog h true [])) (ok_or (option_map (below_member h []) o) name))) there
     ∙ ap (λ ns. or_fault (named_below catalog cube ns (members_below catalog h true []) (below_member h [] b))) (drop_past path 1 (omega arith))
     ∙ ap (λ m. Ok m) (onward_spot h [] b (λ e. refl)) ∙ ap (λ p. Ok (spot h (onward p b))) (sym empty) ∙ ap (λ p. Ok (spot h p)) (sym added)
+
+-- and the default member is what it means
+pub default_found : (catalog : Catalog) (cube h : ℕ) (m : Member) → from_root_or_fault catalog cube (Whole h) ([] ∷ []) ≡ Ok m → default_member catalog cube (Whole h) ≡ Some m
+default_found catalog cube h m is = by (default_member catalog cube (Whole h)) refl is
+  where
+    by : (o : Option Member) → default_member catalog cube (Whole h) ≡ o → or_fault (and_then (named_below catalog cube [] (first_members catalog cube (Whole h))) (ok_or o [])) ≡ Ok m → default_member catalog cube (Whole h) ≡ Some m
+    by None e this = absurd (cc this)
+    by (Some x) e this = e ∙ cc this
 
 -- the children of a member are what stands below its path
 children_are : (catalog : Catalog) (h : ℕ) (path : List ℕ) → children catalog (spot h path) ≡ members_below catalog h false path

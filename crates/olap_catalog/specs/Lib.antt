@@ -4,3 +4,4 @@ pub mod Parts
 pub mod Columns
 pub mod Names
 pub mod Members
+pub mod MemberOf

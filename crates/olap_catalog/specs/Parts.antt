@@ -9,6 +9,7 @@ use Rattle.olap_meaning.specs.declared.tables.Hierarchy.{Hierarchy}
 use Rattle.olap_meaning.specs.declared.tables.Cube.{Cube}
 use Rattle.olap_meaning.specs.declared.tables.Catalog.{Catalog}
 use Rattle.olap_meaning.specs.History.{is_some_and}
+use Rattle.olap_meaning.specs.Legal.{rise}
 use Rattle.olap_meaning.specs.Schema.{dimension_with}
 use Rattle.olap_catalog.specs.Tables.{TableOf, have_fields}
 use Rattle.olap_catalog.specs.Roots.{hierarchies_among, full_name_in, measure_names, root_names_in}
@@ -50,6 +51,7 @@ pub record AreParts (schema : Schema) (tables : List TableOf) (columns : List Co
   pub even : list_all (λ t. have_fields t.levels t.records) tables ≡ true
   pub columned : list_all (is_column tables) columns ≡ true
   pub leveled : list_all (has_levels columns) hierarchies ≡ true
+  pub rising : rise (flat_map (λ hierarchy. hierarchy.levels) hierarchies) ≡ true
   pub named : full_names ≡ map (full_name_in schema.dimensions) hierarchies
   pub rooted : roots ≡ map (λ cube. flat_map (hierarchies_among hierarchies) cube.dimensions) cubes
   pub cubes_named : names.cubes ≡ map (λ cube. cube.name) cubes

@@ -5,6 +5,7 @@ ghost use Rattle.std.specs.List.{zip};
 ghost use Rattle.olap_meaning.specs.History.{is_some_and};
 ghost use Rattle.olap_meaning.specs.Catalog as meaning;
 ghost use Rattle.olap_catalog.specs.Names.{is_but_case};
+ghost use Rattle.olap_catalog.specs.MemberOf.{IsMemberOf};
 ghost use Rattle.olap_catalog.specs.Members.{all_text, below_by, onward, members_below, spot, member_or_fault, from_root_or_fault};
 
 use crate::catalog::Catalog;
@@ -188,8 +189,10 @@ impl Catalog {
         requires known { cube < length self.now.cubes }
         requires named { 0 < length path.now }
         ensures ok { IfOk result (λ member. member_or_fault self.now cube path.now ≡ Ok member) }
+        ensures own { IfOk result (λ member. IsMemberOf self.now cube member) }
         ensures err { IfErr result (λ e. (e ≡ NameFault.OutOfMemory) ⊎ (member_or_fault self.now cube path.now ≡ Err e)) }
     {
+        let _ = &self.hierarchies;
         let root = match self.find_root(cube, path[0].as_str()) {
             None => return Err(unknown(&path[0])),
             Some(root) => root,
@@ -199,6 +202,25 @@ impl Catalog {
             LevelRef::Whole(h) => self.member_named(alloc, cube, h, path),
             LevelRef::One(_h, _level) => Err(unknown(&path[0])),
         }
+    }
+
+    /// The default member of a hierarchy (Schema Guide, "The 'all' member"): its all member, or without one the first
+    /// member of its first level. None where it has no member.
+    pub fn default_member(
+        &self,
+        alloc: Global,
+        h: HierarchyId,
+    ) -> Result<Option<Member>, OutOfMemory>
+        ensures found { IfOk result (λ found. (cube : ℕ) → meaning.default_member self.now cube (LevelRef.Whole h) ≡ found) }
+        ensures own { IfOk result (λ found. IfSome found (λ member. (cube : ℕ) → IsMemberOf self.now cube member)) }
+    {
+        let _ = &self.hierarchies;
+        let Some(first) = self.default_below(h) else {
+            return Ok(None);
+        };
+        let top = List::new(alloc);
+        let values = extended(top, first)?;
+        Ok(Some(member_of(h, values)))
     }
 
     /// The box of a member: the first columns of its hierarchy with the values of its path, and nothing for a

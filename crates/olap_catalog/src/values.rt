@@ -1,13 +1,16 @@
 //! Looking up what a catalog holds. No look-up takes memory.
-ghost use Rattle.std.specs.Prelude.{◌≡◌, ◌<◌, ◌≤◌, length, slice_get, Some, IfSome};
+ghost use Rattle.std.specs.Prelude.{◌≡◌, ◌<◌, ◌≤◌, flat_map, length, slice_get, true, Some, IfSome};
+ghost use Rattle.std.specs.List.{list_all};
+ghost use Rattle.olap_meaning.specs.Legal.{rise};
 ghost use Rattle.olap_meaning.specs.Catalog as meaning;
 ghost use Rattle.olap_catalog.specs.Columns.{column_texts, column_leaves};
+ghost use Rattle.olap_catalog.specs.Parts.{has_levels};
 
 use crate::catalog::Catalog;
 use crate::field::FieldColumn;
 use olap_meaning::schema::{CUBE_LIMIT, LEVEL_LIMIT, Schema};
-use olap_meaning::tables::{Column, Cube};
-use olap_meaning::{ColumnId, CubeId, LeafId, ValueId};
+use olap_meaning::tables::{Column, Cube, Hierarchy};
+use olap_meaning::{ColumnId, CubeId, HierarchyId, LeafId, LevelRef, ValueId};
 
 impl Catalog {
     /// The schema that it was built from.
@@ -31,6 +34,23 @@ impl Catalog {
         ensures limit { length self.now.columns ≤ LEVEL_LIMIT }
     {
         self.columns.len() as u32
+    }
+
+    /// How many hierarchies there are.
+    pub fn hierarchy_count(&self) -> u32
+        ensures count { result ≡ length self.now.hierarchies }
+        ensures limit { length self.now.hierarchies ≤ LEVEL_LIMIT }
+    {
+        self.hierarchies.len() as u32
+    }
+
+    /// How the columns of its levels stand: those of a hierarchy are of its dimension, and they rise, one hierarchy after
+    /// another. This costs nothing.
+    pub fn is_laid_out(&self)
+        ensures levels { list_all (has_levels self.now.columns) self.now.hierarchies ≡ true }
+        ensures rising { rise (flat_map (λ hierarchy. hierarchy.levels) self.now.hierarchies) ≡ true }
+    {
+        let _ = &self.hierarchies;
     }
 
     /// How many values a column has.
@@ -104,6 +124,22 @@ impl Catalog {
         ensures { slice_get self.now.columns column ≡ Some result.now }
     {
         &self.columns.as_slice()[column.0 as usize]
+    }
+
+    /// A hierarchy: its name, its dimension, the name of its all member where it has one, and its levels.
+    pub fn hierarchy(&self, h: HierarchyId) -> &Hierarchy
+        requires { h < length self.now.hierarchies }
+        ensures { slice_get self.now.hierarchies h ≡ Some result.now }
+    {
+        &self.hierarchies.as_slice()[h.0 as usize]
+    }
+
+    /// The full name of a hierarchy, which a path of names begins with.
+    pub fn full_name(&self, h: HierarchyId) -> &str
+        requires { h < length self.now.hierarchies }
+        ensures { result.now ≡ meaning.root_name self.now (LevelRef.Whole h) }
+    {
+        self.full_names.as_slice()[h.0 as usize].as_str()
     }
 
     // The texts of a column.

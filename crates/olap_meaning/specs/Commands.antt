@@ -1,5 +1,6 @@
 -- What the words of the command line ask for.
-use Rattle.std.specs.Prelude.{ℕ, List, [], ◌∷◌, Option, Some, None, bytes_eq, codes, option_map, if◌then◌else◌}
+use Rattle.std.specs.Prelude.{ℕ, Bool, false, ◌==◌, List, [], ◌∷◌, Option, Some, None, bytes_eq, codes, option_map, drop, not, ◌&&◌, nat_eq, if◌then◌else◌}
+use Rattle.std.specs.List.{starts_with}
 use Rattle.std.specs.Option.{option_and_then}
 use Rattle.olap_meaning.specs.declared.Aggregator.{Aggregator}
 use Rattle.olap_meaning.specs.declared.Aggregator.TheVariants.{Sum, Count, Min, Max, Avg, DistinctCount}
@@ -38,3 +39,20 @@ command_of (first ∷ []) = None
 command_of (first ∷ file ∷ []) = None
 command_of (first ∷ file ∷ column ∷ []) = None
 command_of (first ∷ file ∷ column ∷ name ∷ words) = if bytes_eq first (codes "cell") then behind_cell file column name words else None
+
+-- a word can stand as the file of an option: it is not empty, and does not begin with a hyphen
+abbrev pub is_file_word : List ℕ → Bool
+is_file_word [] = false
+is_file_word (c ∷ text) = not (c == 45)
+
+-- the file of the option `--schema`, in two words, or in one with = between name and file, which is not empty
+abbrev pub schema_file : List (List ℕ) → Option (List ℕ)
+schema_file [] = None
+schema_file (option ∷ []) = if starts_with nat_eq option (codes "--schema=") && not (bytes_eq option (codes "--schema=")) then Some (drop 9 option) else None
+schema_file (option ∷ file ∷ []) = if bytes_eq option (codes "--schema") && is_file_word file then Some file else None
+schema_file (option ∷ file ∷ others) = None
+
+-- the file of the schema that the command `run` opens: run --schema FILE; None where the words are no such command
+abbrev pub run_file : List (List ℕ) → Option (List ℕ)
+run_file [] = None
+run_file (first ∷ words) = if bytes_eq first (codes "run") then schema_file words else None

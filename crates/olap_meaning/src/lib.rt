@@ -8,6 +8,7 @@ mod cells;
 mod ids;
 pub mod laws;
 mod list;
+pub mod queries;
 mod regions;
 pub mod schema;
 pub mod tables;

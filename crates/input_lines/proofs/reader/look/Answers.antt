@@ -1,7 +1,7 @@
 use Rattle.std.proofs.Common.{arith}
 use Rattle.std.specs.Prelude.{not}
 use Rattle.std.proofs.lemmas.List.Sums.{prefix_len-le-length}
-use Rattle.input_lines.specs.Lines.{is_lf}
+use Rattle.olap_meaning.specs.Lines.{is_lf}
 use Rattle.input_lines.proofs.reader.look.Goals as goal
 
 pub returns-else-before-held : goal.returns-else-before-held

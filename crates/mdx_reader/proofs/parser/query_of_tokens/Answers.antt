@@ -1,6 +1,6 @@
 use Rattle.std.proofs.Common.{◌≡◌, ◌∷◌, rules, subst}
-use Rattle.mdx_reader.specs.declared.tokens.Token.TheVariants.{Sign}
-use Rattle.mdx_reader.specs.declared.tokens.Sign.TheVariants.{OpenBrace}
+use Rattle.olap_meaning.specs.declared.queries.Token.TheVariants.{Sign}
+use Rattle.olap_meaning.specs.declared.queries.Sign.TheVariants.{OpenBrace}
 use Rattle.mdx_reader.specs.Parser.{TookPath}
 use Rattle.mdx_reader.proofs.Paths.{behind_path, behind_keyword, nothing_behind}
 use Rattle.mdx_reader.proofs.parser.query_of_tokens.Goals as goal

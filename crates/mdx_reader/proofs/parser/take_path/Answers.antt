@@ -1,6 +1,6 @@
 use Rattle.std.proofs.Common.{◌∙◌, ap, ◌∷◌}
-use Rattle.mdx_reader.specs.declared.tokens.Sign.TheVariants.{OpenBrace}
-use Rattle.mdx_reader.specs.declared.tokens.Token.TheVariants.{Sign}
+use Rattle.olap_meaning.specs.declared.queries.Sign.TheVariants.{OpenBrace}
+use Rattle.olap_meaning.specs.declared.queries.Token.TheVariants.{Sign}
 use Rattle.mdx_reader.proofs.Paths.{path_closes, no_name_here, no_sign_here, other_sign_here}
 use Rattle.mdx_reader.proofs.parser.take_path.Goals as goal
 

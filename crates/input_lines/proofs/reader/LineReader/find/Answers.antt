@@ -1,5 +1,5 @@
 use Rattle.std.proofs.Common.{arith, subst, List, ℕ, ◌≡◌, ◌≤◌, length, ap}
-use Rattle.input_lines.specs.Lines.{line_length}
+use Rattle.olap_meaning.specs.Lines.{line_length}
 use Rattle.input_lines.specs.Reader.{IsFound}
 use Rattle.input_lines.specs.declared.next.Found.TheVariants as found
 use Rattle.input_lines.proofs.LineLemmas.{needs_more-taken, line_length-taken}

@@ -1,5 +1,5 @@
 use Rattle.std.proofs.Common.{◌≡◌, ◌≤◌, ◌-◌, [], length}
-use Rattle.input_lines.specs.Lines.{line_length}
+use Rattle.olap_meaning.specs.Lines.{line_length}
 use Rattle.input_lines.specs.Reader.{HasTaken, NeedsNoMore}
 use Rattle.input_lines.proofs.reader.LineReader.find.Given as goal
 

@@ -1,7 +1,7 @@
 use Rattle.std.proofs.Common.{arith, ap, ◌<◌, ◌≤◌, subst, sym, length, List, ℕ, ◌≡◌}
 use Rattle.std.specs.Prelude.{All}
 use Rattle.std.proofs.lemmas.Bool.Decides.{nat_tests}
-use Rattle.input_lines.specs.Lines.{line_length}
+use Rattle.olap_meaning.specs.Lines.{line_length}
 use Rattle.input_lines.specs.Reader.{IsFound}
 use Rattle.input_lines.specs.declared.next.Found.{Found}
 use Rattle.input_lines.specs.declared.next.Found.TheVariants as found

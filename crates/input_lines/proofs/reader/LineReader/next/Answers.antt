@@ -1,7 +1,7 @@
 use Rattle.std.proofs.Common.{refl, ap, ◌∙◌, [], subst, sym, List, ℕ, ◌≡◌}
 use Rattle.std.specs.Prelude.{Option, IfSome}
 use Rattle.std.proofs.lemmas.List.{append-nil}
-use Rattle.input_lines.specs.Lines.{front_of}
+use Rattle.olap_meaning.specs.Lines.{front_of}
 use Rattle.input_lines.specs.Reader.{HasTaken, front_told}
 use Rattle.input_lines.proofs.LineLemmas.{lines_of-told}
 use Rattle.input_lines.proofs.Taking.{told-from}

@@ -1,6 +1,6 @@
-//! The tokens of a query.
+//! Queries, and the tokens that they are written in.
 
-use olap_meaning::Text;
+use crate::{List, Text};
 
 /// A keyword. Its letters may be of either case.
 #[derive(Clone, Copy, Debug, PartialEq, Eq)]
@@ -26,4 +26,11 @@ pub enum Token {
     Sign(Sign),
     /// A name, with a `]` for each `]]` between its brackets.
     Name(Text),
+}
+
+/// A query of one cell: the path of the asked member, and the cube's name.
+#[derive(Drop)]
+pub struct CellQuery {
+    pub path: List<Text>,
+    pub cube: Text,
 }

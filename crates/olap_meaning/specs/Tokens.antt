@@ -1,12 +1,12 @@
 -- The tokens of a text. A text is the list of its bytes.
 use Rattle.std.specs.Prelude.{◌≡◌, ◌≢◌, ◌⊎◌, ◌==◌, ◌++◌, ℕ, Bool, true, false, List, [], ◌∷◌, codes, map, flat_map, if◌then◌else◌}
 use Rattle.std.specs.Char.{to_ascii_uppercase}
-use Rattle.mdx_reader.specs.declared.tokens.Keyword.{Keyword}
-use Rattle.mdx_reader.specs.declared.tokens.Keyword.TheVariants.{Select, On, Columns, From}
-use Rattle.mdx_reader.specs.declared.tokens.Sign.{Sign}
-use Rattle.mdx_reader.specs.declared.tokens.Sign.TheVariants.{OpenBrace, CloseBrace, Dot}
-use Rattle.mdx_reader.specs.declared.tokens.Token.{Token}
-use Rattle.mdx_reader.specs.declared.tokens.Token.TheVariants as token
+use Rattle.olap_meaning.specs.declared.queries.Keyword.{Keyword}
+use Rattle.olap_meaning.specs.declared.queries.Keyword.TheVariants.{Select, On, Columns, From}
+use Rattle.olap_meaning.specs.declared.queries.Sign.{Sign}
+use Rattle.olap_meaning.specs.declared.queries.Sign.TheVariants.{OpenBrace, CloseBrace, Dot}
+use Rattle.olap_meaning.specs.declared.queries.Token.{Token}
+use Rattle.olap_meaning.specs.declared.queries.Token.TheVariants as token
 
 -- white: a space or a tab
 abbrev pub IsWhite : ℕ → Type 0

@@ -1,11 +1,11 @@
 -- The query of one cell, and how it is written.
 use Rattle.std.specs.Prelude.{◌≡◌, ◌≢◌, ◌++◌, ℕ, false, List, [], ◌∷◌, flat_map}
-use Rattle.mdx_reader.specs.declared.tokens.Keyword.TheVariants.{Select, On, Columns, From}
-use Rattle.mdx_reader.specs.declared.tokens.Sign.TheVariants.{OpenBrace, CloseBrace, Dot}
-use Rattle.mdx_reader.specs.declared.tokens.Token.{Token}
-use Rattle.mdx_reader.specs.declared.tokens.Token.TheVariants.{Keyword, Sign, Name}
-use Rattle.mdx_reader.specs.declared.cell_query.CellQuery.{CellQuery}
-use Rattle.mdx_reader.specs.Tokens.{Spells}
+use Rattle.olap_meaning.specs.declared.queries.Keyword.TheVariants.{Select, On, Columns, From}
+use Rattle.olap_meaning.specs.declared.queries.Sign.TheVariants.{OpenBrace, CloseBrace, Dot}
+use Rattle.olap_meaning.specs.declared.queries.Token.{Token}
+use Rattle.olap_meaning.specs.declared.queries.Token.TheVariants.{Keyword, Sign, Name}
+use Rattle.olap_meaning.specs.declared.queries.CellQuery.{CellQuery}
+use Rattle.olap_meaning.specs.Tokens.{Spells}
 
 -- path = name { "." name }
 abbrev pub path_tokens : List (List ℕ) → List Token
