@@ -1,0 +1,33 @@
+use Rattle.std.proofs.Common.{◌∙◌}
+use Rattle.olap_meaning.specs.declared.cells.LevelRef.TheVariants.{Whole}
+use Rattle.olap_meaning.specs.Catalog.{root_name}
+use Rattle.olap_meaning.specs.Texts.{name_text}
+use Rattle.result_layout.proofs.PathFacts.{path_own, path_deep, path_there, column_known, title_more, title_whole}
+use Rattle.result_layout.proofs.titles.path_title.Goals as goal
+
+pub bounds-levels-i : goal.bounds-levels-i
+bounds-levels-i c =
+    path_deep c.args.catalog.now c.as_slice-levels.result.now c.args.path.now c.loop-i.i
+    (path_own c.args.catalog.now c.args.h c.args.path.now c.as_slice-levels.result.now c.hierarchy.result.now c.requires.path c.hierarchy.ensures c.as_slice-levels.ensures) c.loop-i-test.true
+
+pub value_name-requires : goal.value_name-requires
+value_name-requires c =
+    let own = path_own c.args.catalog.now c.args.h c.args.path.now c.as_slice-levels.result.now c.hierarchy.result.now c.requires.path c.hierarchy.ensures c.as_slice-levels.ensures in
+    let there = path_there c.args.catalog.now c.as_slice-levels.result.now c.args.path.now c.loop-i.i c.index-levels-i.result c.index-path-i.result own c.loop-i-test.true c.index-levels-i.is c.index-path-i.is in
+    record {
+      known = column_known c.args.catalog.now c.index-levels-i.result c.index-path-i.result there;
+      there = there;
+    }
+
+pub loop-i-preserved : goal.loop-i-preserved
+loop-i-preserved c =
+    let own = path_own c.args.catalog.now c.args.h c.args.path.now c.as_slice-levels.result.now c.hierarchy.result.now c.requires.path c.hierarchy.ensures c.as_slice-levels.ensures in
+    title_more c.args.catalog.now (name_text (root_name c.args.catalog.now (Whole c.args.h))) _ _ _ c.as_str.result.now c.value_name.result.now c.as_slice-levels.result.now c.args.path.now c.loop-i.i c.index-levels-i.result c.index-path-i.result
+    (path_deep c.args.catalog.now c.as_slice-levels.result.now c.args.path.now c.loop-i.i own c.loop-i-test.true) c.loop-i-test.true c.index-levels-i.is c.index-path-i.is c.loop-i.invariant
+    c.in_ok-push_str.ensures.bytes c.value_name.ensures (c.as_str.ensures ∙ c.in_ok-name.ensures) c.in_ok-push_str-2.ensures.bytes
+
+pub returns : goal.returns
+returns c cube =
+    c.from_string.ensures
+    ∙ title_whole c.args.catalog.now c.args.h c.args.path.now c.as_slice-levels.result.now (name_text (root_name c.args.catalog.now (Whole c.args.h))) _ c.loop-i.i c.hierarchy.result.now c.hierarchy.ensures c.as_slice-levels.ensures
+    c.loop-i-test.false c.loop-i.invariant

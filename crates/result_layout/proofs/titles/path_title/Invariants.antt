@@ -1,0 +1,10 @@
+use Rattle.std.proofs.Common.{◌≡◌, ◌++◌, take, flat_map, string_bytes}
+use Rattle.std.specs.List.{zip}
+use Rattle.olap_meaning.specs.declared.cells.LevelRef.TheVariants.{Whole}
+use Rattle.olap_meaning.specs.Catalog.{root_name}
+use Rattle.olap_meaning.specs.Texts.{name_text}
+use Rattle.olap_meaning.specs.Grids.{value_part}
+use Rattle.result_layout.proofs.titles.path_title.Given as goal
+
+abbrev pub invariant-loop-i : goal.invariant-loop-i
+invariant-loop-i l = string_bytes l.title ≡ name_text (root_name l.catalog (Whole l.fn.h)) ++ flat_map (value_part l.catalog) (take l.i (zip l.levels l.path))
