@@ -1,0 +1,12 @@
+use Rattle.std.proofs.Common.{◌≡◌, ◌≤◌}
+use Rattle.cache_opening.proofs.BatchSteps.{AreAppended}
+use Rattle.cache_opening.proofs.cubes.open_cubes.Given as goal
+
+abbrev pub invariant-loop-cube : goal.invariant-loop-cube
+invariant-loop-cube g l = record {
+  same : g.D.Depot.files l.depot ≡ g.D.Depot.files l.initial.depot;
+  misses : g.D.Depot.misses l.initial.depot ≤ g.D.Depot.misses l.depot;
+  faults : g.D.Depot.faults l.initial.depot ≤ g.D.Depot.faults l.depot;
+  setting : l.manager.setting ≡ l.initial.manager.setting;
+  are : AreAppended (g.D.Depot.files l.initial.depot) l.initial.manager.setting.catalog l.cube l.manager.entries;
+}

@@ -1,0 +1,3 @@
+pub mod Opening
+pub mod Causes
+pub mod Steps

@@ -1,0 +1,71 @@
+//! The base batch of a cube.
+ghost use Rattle.std.specs.Prelude.{◌≡◌, ◌≤◌, ◌<◌, IfErr, IfOk, IsSomeAnd, IsTrue, Ok, length, slice_get};
+ghost use Rattle.fact_rows.specs.BatchFiles.{batch_of};
+ghost use Rattle.segment_load.specs.Loads.{is_batch};
+ghost use Rattle.cache_opening.specs.Causes.{HasCause, IsRead};
+ghost use Rattle.cache_opening.specs.Steps.{IsFileFault, IsWhole};
+ghost use Rattle.cache_opening.specs.Opening.{facts_from, read_by};
+
+use crate::fault::OpenFault;
+use crate::files::{fetch, unbuilt};
+use fact_batches::Batch;
+use fact_rows::{BatchFault, read_batch};
+use olap_catalog::Catalog;
+use olap_meaning::CubeId;
+use outside::Depot;
+use std::alloc::Global;
+
+/// The name of the file of a cube's base batch.
+pub(crate) fn fact_file(catalog: &Catalog, cube: CubeId) -> &str
+    requires { cube < length catalog.now.schema.cubes }
+    ensures { IsSomeAnd (slice_get catalog.now.schema.cubes cube) (λ c. result.now ≡ c.fact) }
+{
+    let cube = &catalog.schema().cubes.as_slice()[cube.0 as usize];
+    cube.fact.as_str()
+}
+
+// The base batch that the bytes of a cube's file are.
+fn batch_in(
+    alloc: Global,
+    catalog: &Catalog,
+    cube: CubeId,
+    bytes: &[u8],
+) -> Result<Batch, OpenFault>
+    requires known { cube < length catalog.now.cubes }
+    requires whole { IsWhole catalog.now }
+    ensures ok { IfOk result (λ batch. batch_of catalog.now cube bytes.now ≡ Ok batch) }
+    ensures fit { IfOk result (λ batch. IsTrue (is_batch catalog.now cube batch)) }
+    ensures fault { IfErr result (λ fault. IsSomeAnd (slice_get catalog.now.schema.cubes cube) (λ c. IsFileFault (read_by c.fact (batch_of catalog.now cube bytes.now)) fault)) }
+{
+    match read_batch(alloc, catalog, cube, bytes) {
+        Ok(batch) => Ok(batch),
+        Err(BatchFault::OutOfMemory) => Err(OpenFault::OutOfMemory),
+        Err(_) => Err(unbuilt(alloc, fact_file(catalog, cube))),
+    }
+}
+
+/// The base batch of a cube.
+pub(crate) fn open_batch<D: Depot>(
+    alloc: Global,
+    depot: &mut D,
+    catalog: &Catalog,
+    cube: CubeId,
+) -> Result<Batch, OpenFault>
+    requires known { cube < length catalog.now.cubes }
+    requires whole { IsWhole catalog.now }
+    ensures ok { IfOk result (λ batch. IsSomeAnd (slice_get catalog.now.schema.cubes cube) (λ c. IsRead (D.files depot.old) (λ all. facts_from all catalog.now cube c) batch)) }
+    ensures fit { IfOk result (λ batch. IsTrue (is_batch catalog.now cube batch)) }
+    ensures fault { IfErr result (λ fault. IsSomeAnd (slice_get catalog.now.schema.cubes cube) (λ c. HasCause (record {
+      files = D.files depot.old;
+      misses_before = D.misses depot.old;
+      misses_after = D.misses depot.new;
+      faults_before = D.faults depot.old;
+      faults_after = D.faults depot.new;
+    }) (λ all. facts_from all catalog.now cube c) fault)) }
+    ensures same_files { D.files depot.new ≡ D.files depot.old }
+    ensures fault_count { D.faults depot.old ≤ D.faults depot.new }
+    ensures miss_count { D.misses depot.old ≤ D.misses depot.new }
+{
+    let bytes = fetch(alloc, depot, fact_file(catalog, cube))?;
+    batch_in(alloc, catalog, cube, bytes.as_slice())
+}

@@ -1,0 +1,107 @@
+//! The base batches of all cubes, appended to a manager.
+ghost use Rattle.std.specs.Prelude.{◌≡◌, ◌≢◌, ◌⊎◌, ◌≤◌, ◌<◌, ◌+◌, ◌++◌, ◌∷◌, [], IfErr, IfOk, IsSomeAnd, IsTrue, Ok, OnOk, length, slice_get};
+ghost use Rattle.olap_meaning.specs.History.{Append};
+ghost use Rattle.olap_meaning.specs.Legal.{rows_held};
+ghost use Rattle.segment_load.specs.Loads.{is_batch};
+ghost use Rattle.cache_opening.specs.Causes.{HasCause};
+ghost use Rattle.cache_opening.specs.Steps.{AreOpened, IsAppended, IsBegun, IsFileFault, IsNext};
+ghost use Rattle.cache_opening.specs.Opening.{batch_from, batches_from, fitting};
+
+use crate::batches::{fact_file, open_batch};
+use crate::fault::OpenFault;
+use crate::files::unbuilt;
+use cache_manager::Manager;
+use fact_batches::Batch;
+use fact_versions::AppendFault;
+use olap_meaning::{CubeId, Who};
+use outside::Depot;
+use std::alloc::Global;
+
+// Appends the base batch of a cube.
+fn append_base(
+    alloc: Global,
+    manager: &mut Manager,
+    cube: u16,
+    batch: Batch,
+) -> Result<(), OpenFault>
+    requires next { IsNext manager.old cube }
+    requires fit { IsTrue (is_batch manager.old.setting.catalog cube batch) }
+    ensures setting { manager.new.setting ≡ manager.old.setting }
+    ensures entry { OnOk result (manager.new.entries ≡ manager.old.entries ++ Append (record { seat = 0; call = cube + 1 }) cube 1 batch.rows ∷ []) }
+    ensures ok { OnOk result (IsSomeAnd (slice_get manager.old.setting.catalog.schema.cubes cube) (λ c. fitting c.fact (rows_held manager.old.entries) batch.rows ≡ Ok batch.rows)) }
+    ensures fault { IfErr result (λ fault. IsSomeAnd (slice_get manager.old.setting.catalog.schema.cubes cube) (λ c. IsFileFault (fitting c.fact (rows_held manager.old.entries) batch.rows) fault)) }
+{
+    let who = Who {
+        seat: 0,
+        call: u64::from(cube) + 1,
+    };
+    let cube = CubeId(cube);
+    match manager.append(who, cube, batch) {
+        Ok(_) => Ok(()),
+        Err(fault) => Err(refused_append(alloc, fact_file(manager.catalog(), cube), fault)),
+    }
+}
+
+// What it means for an opening that the batch of this file was not appended.
+fn refused_append(alloc: Global, file: &str, fault: AppendFault) -> OpenFault
+    ensures { (result ≡ OpenFault.OutOfMemory) ⊎ ((result ≡ OpenFault.Unbuilt file.now) × (fault ≢ AppendFault.OutOfMemory)) }
+{
+    match fault {
+        AppendFault::OutOfMemory => OpenFault::OutOfMemory,
+        AppendFault::TooManyRows { .. } | AppendFault::TooManyVersions { .. } => {
+            unbuilt(alloc, file)
+        }
+    }
+}
+
+// Reads and appends the base batch of a cube.
+fn open_cube<D: Depot>(
+    alloc: Global,
+    depot: &mut D,
+    manager: &mut Manager,
+    cube: u16,
+) -> Result<(), OpenFault>
+    requires next { IsNext manager.old cube }
+    ensures setting { manager.new.setting ≡ manager.old.setting }
+    ensures ok { OnOk result (IsSomeAnd (slice_get manager.old.setting.catalog.schema.cubes cube) (λ c. IsAppended (D.files depot.old) (λ all. batch_from all manager.old.setting.catalog cube (rows_held manager.old.entries) c) cube manager.old.entries manager.new.entries)) }
+    ensures fault { IfErr result (λ fault. IsSomeAnd (slice_get manager.old.setting.catalog.schema.cubes cube) (λ c. HasCause (record {
+      files = D.files depot.old;
+      misses_before = D.misses depot.old;
+      misses_after = D.misses depot.new;
+      faults_before = D.faults depot.old;
+      faults_after = D.faults depot.new;
+    }) (λ all. batch_from all manager.old.setting.catalog cube (rows_held manager.old.entries) c) fault)) }
+    ensures same_files { D.files depot.new ≡ D.files depot.old }
+    ensures fault_count { D.faults depot.old ≤ D.faults depot.new }
+    ensures miss_count { D.misses depot.old ≤ D.misses depot.new }
+{
+    let batch = open_batch(alloc, depot, manager.catalog(), CubeId(cube))?;
+    append_base(alloc, manager, cube, batch)
+}
+
+/// Reads and appends the base batches of all cubes, in the schema's order.
+pub(crate) fn open_cubes<D: Depot>(
+    alloc: Global,
+    depot: &mut D,
+    manager: &mut Manager,
+) -> Result<(), OpenFault>
+    requires { IsBegun manager.old }
+    ensures setting { manager.new.setting ≡ manager.old.setting }
+    ensures ok { OnOk result (AreOpened (D.files depot.old) manager.new) }
+    ensures fault { IfErr result (λ fault. HasCause (record {
+      files = D.files depot.old;
+      misses_before = D.misses depot.old;
+      misses_after = D.misses depot.new;
+      faults_before = D.faults depot.old;
+      faults_after = D.faults depot.new;
+    }) (λ all. batches_from all manager.old.setting.catalog 0 0 manager.old.setting.catalog.schema.cubes) fault) }
+    ensures same_files { D.files depot.new ≡ D.files depot.old }
+    ensures fault_count { D.faults depot.old ≤ D.faults depot.new }
+    ensures miss_count { D.misses depot.old ≤ D.misses depot.new }
+{
+    let count = manager.catalog().cube_count();
+    for cube in 0..count {
+        open_cube(alloc, depot, manager, cube as u16)?;
+    }
+    Ok(())
+}

@@ -1,0 +1,14 @@
+//! Opens a cache from a schema's file: the schema, the tables of its dimensions, and the base batches of its cubes.
+//!
+//! The files come from a depot, one after another, and the first refusal ends the opening.
+#![tactic(auto)]
+
+mod batches;
+mod catalogs;
+mod cubes;
+mod fault;
+mod files;
+mod opened;
+
+pub use fault::OpenFault;
+pub use opened::{BUDGET, open_cache};
