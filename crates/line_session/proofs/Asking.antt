@@ -128,12 +128,12 @@ source_or_none cache cells all wants = by (has_at cells wants.0 all wants.1)
     by : HasSource cache wants.0 → ⊥
     by has = let none = rw wants.2.exact at has.1 in none
 
-rows_stay : (entries more : List Entry) (cube v : ℕ) → v ≤ version entries cube → rows_of (entries ++ more) cube v ≡ rows_of entries cube v
+pub rows_stay : (entries more : List Entry) (cube v : ℕ) → v ≤ version entries cube → rows_of (entries ++ more) cube v ≡ rows_of entries cube v
 rows_stay entries more cube v l =
     ap (λ (batches : List (List Row)). flat_map (λ rows. rows) (take v batches)) (filter_map-append (appended cube) entries more)
     ∙ ap (λ (batches : List (List Row)). flat_map (λ rows. rows) batches) (take-append-le v (filter_map (appended cube) entries) (filter_map (appended cube) more) (let long = version-length entries cube in omega (arith, l, long)))
 
-get_seam : (entries rest : List Entry) (entry : Entry) → slice_get (entries ++ entry ∷ rest) (length entries) ≡ Some entry
+pub get_seam : (entries rest : List Entry) (entry : Entry) → slice_get (entries ++ entry ∷ rest) (length entries) ≡ Some entry
 get_seam [] rest entry = refl
 get_seam (e ∷ es) rest entry = get_seam es rest entry
 

@@ -1,3 +1,6 @@
 pub mod Ending
 pub mod Asking
 pub mod Parts
+pub mod Handling
+pub mod Turning
+pub mod Quitting

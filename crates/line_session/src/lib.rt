@@ -2,5 +2,9 @@
 #![tactic(auto)]
 
 mod desk;
+mod query;
+mod reply;
+mod session;
 
 pub use desk::ask;
+pub use session::{SessionEnd, serve};

@@ -1,0 +1,201 @@
+-- One turn of a session after another.
+use Rattle.std.proofs.Common.{◌≡◌, refl, sym, ◌∙◌, ap, subst, ℕ, suc, ◌+◌, ◌-◌, ◌^◌, List, [], ◌∷◌, ◌++◌, append_assoc, length, take, true, false, Bool, inl, inr, ◌⊎◌, Some, None, Option, arith, option_map, flat_map}
+use Rattle.std.specs.Prelude.{IfSome, MatchOption}
+use Rattle.std.proofs.lemmas.Bool.{and_from, not_from_false}
+use Rattle.std.proofs.lemmas.List.{append-nil}
+use Rattle.std.proofs.Math.Seq.{take-append-add}
+use Rattle.olap_meaning.specs.Lines.{Lines, lines_of}
+use Rattle.olap_meaning.specs.Requests.{too_long_reply}
+use Rattle.outside.specs.Told.{TakesFront, with_bytes}
+use Rattle.input_lines.specs.Reader.{not_given}
+use Rattle.cache_manager.specs.Cache.{CacheOf}
+use Rattle.line_session.specs.Replies.{Handles}
+use Rattle.line_session.specs.Sessions.{AreAll, AreFirst, AreHandled, AreSent, EndAtLast, IsLineAnswered, IsServed, Turns, asker, ends, go_on, lines_then}
+use Rattle.line_session.specs.declared.session.SessionEnd.{SessionEnd}
+use Rattle.line_session.specs.declared.session.SessionEnd.TheVariants.{Quit, EndOfInput, LongLine, ReceiveFault, SendFault, TooManyLines}
+
+-- bytes and then others were taken
+with_both : (taken : Option (List ℕ)) (first more : List ℕ) → with_bytes (with_bytes taken first) more ≡ with_bytes taken (first ++ more)
+with_both None first more = refl
+with_both (Some held) first more = ap Some (append_assoc held first more)
+
+pub with_none : (taken : Option (List ℕ)) → taken ≡ with_bytes taken []
+with_none None = refl
+with_none (Some held) = ap Some (sym (append-nil held))
+
+-- of bytes, and a front of others, a front of both was taken
+front_past : (before middle after : Option (List ℕ)) (first more : List ℕ) → middle ≡ with_bytes before first → TakesFront middle after more → TakesFront before after (first ++ more)
+front_past before middle after first more sent front =
+    (length first + front.0, front.1 ∙ ap (λ taken. with_bytes taken (take front.0 more)) sent ∙ with_both before first (take front.0 more) ∙ ap (with_bytes before) (sym (take-append-add first more front.0)))
+
+sent_past : (before middle after : Option (List ℕ)) (first more : List ℕ) → middle ≡ with_bytes before first → after ≡ with_bytes middle more → after ≡ with_bytes before (first ++ more)
+sent_past before middle after first more sent then = then ∙ ap (λ taken. with_bytes taken more) sent ∙ with_both before first more
+
+sent_then : (end : SessionEnd) (before middle after : Option (List ℕ)) (reply text : List ℕ) → middle ≡ with_bytes before reply → AreSent end middle after text → AreSent end before after (reply ++ text)
+sent_then Quit before middle after reply text sent then = sent_past before middle after reply text sent then
+sent_then EndOfInput before middle after reply text sent then = sent_past before middle after reply text sent then
+sent_then LongLine before middle after reply text sent then = sent_past before middle after reply (text ++ too_long_reply) sent then ∙ ap (with_bytes before) (sym (append_assoc reply text too_long_reply))
+sent_then ReceiveFault before middle after reply text sent then = sent_past before middle after reply text sent then
+sent_then SendFault before middle after reply text sent (inl front) = inl (front_past before middle after reply text sent front)
+sent_then SendFault before middle after reply text sent (inr front) = inr (subst (TakesFront before after) (sym (append_assoc reply text too_long_reply)) (front_past before middle after reply (text ++ too_long_reply) sent front))
+sent_then TooManyLines before middle after reply text sent then = sent_past before middle after reply text sent then
+
+-- a line that does not end the session before others that do not
+going : (line : List ℕ) (lines : List (List ℕ)) → ends line ≡ false → go_on lines ≡ true → go_on (line ∷ lines) ≡ true
+going line lines goes on = and_from _ _ (not_from_false _ goes) on
+
+first_then : (line : List ℕ) (lines : List (List ℕ)) (all rest : Lines) → ends line ≡ false → all ≡ lines_then (line ∷ []) rest → AreFirst lines rest → AreFirst (line ∷ lines) all
+first_then line lines all rest goes whole are = (going line lines goes are.0, (are.1.0, whole ∙ ap (lines_then (line ∷ [])) are.1.1))
+
+all_then : (line : List ℕ) (lines : List (List ℕ)) (broken : Bool) (all rest : Lines) → ends line ≡ false → all ≡ lines_then (line ∷ []) rest → AreAll lines broken rest → AreAll (line ∷ lines) broken all
+all_then line lines broken all rest goes whole are = (going line lines goes are.0, whole ∙ ap (lines_then (line ∷ [])) are.1)
+
+last_then : (line : List ℕ) (lines : List (List ℕ)) (all rest : Lines) → ends line ≡ false → all ≡ lines_then (line ∷ []) rest → EndAtLast lines rest → EndAtLast (line ∷ lines) all
+last_then line lines all rest goes whole end = record {
+  before = line ∷ end.before;
+  last = end.last;
+  are = ap (λ ls. line ∷ ls) end.are;
+  earlier = going line end.before goes end.earlier;
+  quits = end.quits;
+  rest = end.rest;
+  first = whole ∙ ap (lines_then (line ∷ [])) end.first;
+}
+
+handled_then : (n : ℕ) (end : SessionEnd) (line : List ℕ) (lines : List (List ℕ)) (all rest : Lines) → ends line ≡ false → all ≡ lines_then (line ∷ []) rest → AreHandled (n + 1) end lines rest → AreHandled n end (line ∷ lines) all
+handled_then n Quit line lines all rest goes whole are = last_then line lines all rest goes whole are
+handled_then n EndOfInput line lines all rest goes whole are = all_then line lines false all rest goes whole are
+handled_then n LongLine line lines all rest goes whole are = all_then line lines true all rest goes whole are
+handled_then n ReceiveFault line lines all rest goes whole are = first_then line lines all rest goes whole are
+handled_then n SendFault line lines all rest goes whole (inl are) = inl (first_then line lines all rest goes whole are)
+handled_then n SendFault line lines all rest goes whole (inr are) = inr (last_then line lines all rest goes whole are)
+handled_then n TooManyLines line lines all rest goes whole are = (first_then line lines all rest goes whole are.0, (let long : length (line ∷ lines) ≡ suc (length lines) = refl in let sum : n + length (line ∷ lines) ≡ n + 1 + length lines = omega (arith, long) in sum ∙ are.1))
+
+-- what holds of the lines of all bytes, where what holds of the rest's does
+told_then : (P : Lines → Type 0) (Q : Lines → Type 0) (add : Lines → Lines) (left rest : Option (List ℕ)) → ((all more : Lines) → all ≡ add more → P more → Q all) → option_map lines_of left ≡ option_map (λ bytes. add (lines_of bytes)) rest
+    → IfSome rest (λ bytes. P (lines_of bytes)) → IfSome left (λ bytes. Q (lines_of bytes))
+told_then P Q add None rest step same holds = tt
+told_then P Q add (Some bytes) None step same holds = absurd (cc same)
+told_then P Q add (Some bytes) (Some more) step same holds = step (lines_of bytes) (lines_of more) (cc same) holds
+
+-- a turn, and then a session from the next number on
+pub turn_then :
+    (n : ℕ) (end : SessionEnd) (before middle after : CacheOf) (left rest sent sent_mid sent_last : Option (List ℕ)) → Turns n before middle left rest sent sent_mid → IsServed (n + 1) end middle after rest sent_mid sent_last
+    → IsServed n end before after left sent sent_last
+turn_then n end before middle after left rest sent sent_mid sent_last turn served = record {
+  lines = turn.line ∷ served.lines;
+  replies = turn.reply ∷ served.replies;
+  session = (middle, turn.handles, served.session);
+  handled =
+      told_then (AreHandled (n + 1) end served.lines) (AreHandled n end (turn.line ∷ served.lines)) (lines_then (turn.line ∷ [])) left rest
+      (λ all more whole are. handled_then n end turn.line served.lines all more turn.goes_on whole are) turn.first served.handled;
+  sent = sent_then end sent sent_mid sent_last turn.reply (flat_map (λ reply. reply) served.replies) turn.sent served.sent;
+}
+
+-- the lines of the bytes that are left, where they are told
+told_lines : (Q : Lines → Type 0) (add : Lines → Lines) (left rest : Option (List ℕ)) → ((all more : Lines) → all ≡ add more → Q all) → option_map lines_of left ≡ option_map (λ bytes. add (lines_of bytes)) rest → IfSome left (λ bytes. Q (lines_of bytes))
+told_lines Q add None rest step same = tt
+told_lines Q add (Some bytes) None step same = absurd (cc same)
+told_lines Q add (Some bytes) (Some more) step same = step (lines_of bytes) (lines_of more) (cc same)
+
+-- all lines of whatever bytes are left begin with none
+first_of_all : (left : Option (List ℕ)) → IfSome left (λ bytes. AreFirst [] (lines_of bytes))
+first_of_all None = tt
+first_of_all (Some bytes) = (refl, (lines_of bytes, refl))
+
+-- the line that ends the session was answered
+pub quit_served :
+    (n : ℕ) (before after : CacheOf) (line reply : List ℕ) (left rest sent sent_last : Option (List ℕ)) → Handles before after (asker n) line reply → ends line ≡ true
+    → option_map lines_of left ≡ option_map (λ bytes. lines_then (line ∷ []) (lines_of bytes)) rest → sent_last ≡ with_bytes sent reply → IsServed n Quit before after left sent sent_last
+quit_served n before after line reply left rest sent sent_last handles quits first told = record {
+  lines = line ∷ [];
+  replies = reply ∷ [];
+  session = (after, handles, refl);
+  handled = told_lines (EndAtLast (line ∷ [])) (lines_then (line ∷ [])) left rest (λ all more whole. record { before = []; last = line; are = refl; earlier = refl; quits = quits; rest = more; first = whole }) first;
+  sent = told ∙ ap (with_bytes sent) (sym (append-nil reply));
+}
+
+-- the reply to a line could not be sent whole
+pub cut_off_served :
+    (n : ℕ) (before after : CacheOf) (line reply : List ℕ) (left rest sent sent_last : Option (List ℕ)) → Handles before after (asker n) line reply
+    → option_map lines_of left ≡ option_map (λ bytes. lines_then (line ∷ []) (lines_of bytes)) rest → TakesFront sent sent_last reply → IsServed n SendFault before after left sent sent_last
+cut_off_served n before after line reply left rest sent sent_last handles first front = record {
+  lines = line ∷ [];
+  replies = reply ∷ [];
+  session = (after, handles, refl);
+  handled = told_lines (AreHandled n SendFault (line ∷ [])) (lines_then (line ∷ [])) left rest (λ all more whole. by (ends line) refl all more whole) first;
+  sent = inl (subst (TakesFront sent sent_last) (sym (append-nil reply)) front);
+}
+  where
+    by : (b : Bool) → ends line ≡ b → (all more : Lines) → all ≡ lines_then (line ∷ []) more → AreHandled n SendFault (line ∷ []) all
+    by true at all more whole = inr (record { before = []; last = line; are = refl; earlier = refl; quits = at; rest = more; first = whole })
+    by false at all more whole = inl (going line [] at refl, (more, whole))
+
+-- nothing was left of the input
+pub end_served : (n : ℕ) (cache : CacheOf) (left rest sent : Option (List ℕ)) → option_map lines_of left ≡ option_map (λ bytes. record { lines = []; broken_off = false }) rest → IsServed n EndOfInput cache cache left sent sent
+end_served n cache left rest sent first = record {
+  lines = [];
+  replies = [];
+  session = refl;
+  handled = told_lines (AreAll [] false) (λ more. record { lines = []; broken_off = false }) left rest (λ all more whole. (refl, whole)) first;
+  sent = with_none sent;
+}
+
+-- too long a line came
+pub long_served : (n : ℕ) (cache : CacheOf) (left rest sent sent_last : Option (List ℕ)) → option_map lines_of left ≡ option_map (λ bytes. record { lines = []; broken_off = true }) rest → sent_last ≡ with_bytes sent too_long_reply → IsServed n LongLine cache cache left sent sent_last
+long_served n cache left rest sent sent_last first told = record {
+  lines = [];
+  replies = [];
+  session = refl;
+  handled = told_lines (AreAll [] true) (λ more. record { lines = []; broken_off = true }) left rest (λ all more whole. (refl, whole)) first;
+  sent = told;
+}
+
+-- and its reply could not be sent whole
+pub long_cut_off : (n : ℕ) (cache : CacheOf) (left sent sent_last : Option (List ℕ)) → TakesFront sent sent_last too_long_reply → IsServed n SendFault cache cache left sent sent_last
+long_cut_off n cache left sent sent_last front = record {
+  lines = [];
+  replies = [];
+  session = refl;
+  handled = weaker left (first_of_all left);
+  sent = inr front;
+}
+  where
+    weaker : (o : Option (List ℕ)) → IfSome o (λ bytes. AreFirst [] (lines_of bytes)) → IfSome o (λ bytes. AreHandled n SendFault [] (lines_of bytes))
+    weaker None holds = tt
+    weaker (Some bytes) holds = inl holds
+
+-- the input could not be read
+pub fault_served : (n : ℕ) (cache : CacheOf) (left sent : Option (List ℕ)) → IsServed n ReceiveFault cache cache left sent sent
+fault_served n cache left sent = record { lines = []; replies = []; session = refl; handled = first_of_all left; sent = with_none sent }
+
+-- no number is left
+pub many_served : (n : ℕ) (cache : CacheOf) (left sent : Option (List ℕ)) → n ≡ 2 ^ 64 - 1 → IsServed n TooManyLines cache cache left sent sent
+many_served n cache left sent last = record { lines = []; replies = []; session = refl; handled = by left (first_of_all left); sent = with_none sent }
+  where
+    by : (o : Option (List ℕ)) → IfSome o (λ bytes. AreFirst [] (lines_of bytes)) → IfSome o (λ bytes. AreHandled n TooManyLines [] (lines_of bytes))
+    by None holds = tt
+    by (Some bytes) holds = (holds, (let none : n + length {A = List ℕ} [] ≡ n = omega arith in none ∙ last))
+
+-- a line was answered: that is a turn, or ends the session
+pub line_turn :
+    (n : ℕ) (before after : CacheOf) (line : List ℕ) (left rest sent sent_last : Option (List ℕ)) (result : Option SessionEnd) → option_map lines_of left ≡ option_map (λ bytes. lines_then (line ∷ []) (lines_of bytes)) rest
+    → IsLineAnswered n before after line sent sent_last result → MatchOption result (Turns n before after left rest sent sent_last) (λ end. IsServed n end before after left sent sent_last)
+line_turn n before after line left rest sent sent_last None first (reply, handles, goes, told) = record { line = line; reply = reply; handles = handles; goes_on = goes; first = first; sent = told }
+line_turn n before after line left rest sent sent_last (Some Quit) first (reply, handles, quits, told) = quit_served n before after line reply left rest sent sent_last handles quits first told
+line_turn n before after line left rest sent sent_last (Some EndOfInput) first is = absurd is
+line_turn n before after line left rest sent sent_last (Some LongLine) first is = absurd is
+line_turn n before after line left rest sent sent_last (Some ReceiveFault) first is = absurd is
+line_turn n before after line left rest sent sent_last (Some SendFault) first (reply, handles, front) = cut_off_served n before after line reply left rest sent sent_last handles first front
+line_turn n before after line left rest sent sent_last (Some TooManyLines) first is = absurd is
+
+-- too long a line was refused
+pub long_turn :
+    (n : ℕ) (cache : CacheOf) (left rest sent sent_last : Option (List ℕ)) (end : SessionEnd) → option_map lines_of left ≡ option_map (λ bytes. record { lines = []; broken_off = true }) rest → (end ≡ LongLine) ⊎ (end ≡ SendFault)
+    → (end ≡ LongLine → sent_last ≡ with_bytes sent too_long_reply) → (end ≡ SendFault → TakesFront sent sent_last too_long_reply) → IsServed n end cache cache left sent sent_last
+long_turn n cache left rest sent sent_last end first (inl long) all front = subst (λ (e : SessionEnd). IsServed n e cache cache left sent sent_last) (sym long) (long_served n cache left rest sent sent_last first (all long))
+long_turn n cache left rest sent sent_last end first (inr cut) all front = subst (λ (e : SessionEnd). IsServed n e cache cache left sent sent_last) (sym cut) (long_cut_off n cache left sent sent_last (front cut))
+
+-- where nothing is held, all bytes that are left are not given
+pub none_held : (left : Option (List ℕ)) → not_given [] left ≡ left
+none_held None = refl
+none_held (Some bytes) = refl
