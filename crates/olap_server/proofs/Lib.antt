@@ -2,3 +2,4 @@ pub mod PlaceFacts
 pub mod FaultFacts
 pub mod WordFacts
 pub mod ReplyFacts
+pub mod RunFacts

@@ -2,3 +2,4 @@ pub mod Bound
 pub mod Faults
 pub mod Said
 pub mod Run
+pub mod RunWords

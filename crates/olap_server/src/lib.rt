@@ -6,9 +6,12 @@ mod cell;
 mod command;
 mod query;
 mod reply;
+mod run_words;
+mod sessions;
 mod status;
 mod top_call;
 
 pub use cell::{CellFault, cell_of_csv};
+pub use sessions::Ended;
 pub use status::Status;
 pub use top_call::run;

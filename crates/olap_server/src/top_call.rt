@@ -1,57 +1,134 @@
 //! The top call: from the words of a command line to the bytes that are written.
-ghost use Rattle.std.specs.Prelude.{◌≡◌, ◌≢◌, ◌<◌, ◌++◌, ◌⊎◌, IfOk, MatchResult, map, string_bytes, codes};
+ghost use Rattle.std.specs.Prelude.{◌≡◌, ◌≢◌, ◌<◌, ◌≤◌, ◌++◌, ◌⊎◌, IfOk, IfSome, MatchResult, None, map, string_bytes, codes};
+ghost use Rattle.cache_manager.specs.Cache.{CacheOf};
+ghost use Rattle.cache_opening.specs.Opening.{IsOpened};
 ghost use Rattle.csv_records.specs.Files.{file_records};
 ghost use Rattle.olap_meaning.specs.Texts.{line, plain_text, name_text};
+ghost use Rattle.olap_meaning.specs.Commands.{command_of};
 ghost use Rattle.olap_meaning.specs.FileQuery.{answer_of};
+ghost use Rattle.olap_meaning.specs.Legal.{Legal};
 ghost use Rattle.olap_server.specs.Faults.{refusal_text};
-ghost use Rattle.olap_server.specs.Said.{IsSaid, no_memory};
-ghost use Rattle.olap_server.specs.Run.{AnswerTells, CommandTells, IsCutOff, IsTold, Tells};
+ghost use Rattle.olap_server.specs.Said.{IsSaid, Said, no_memory};
+ghost use Rattle.olap_server.specs.Run.{AnswerTells, CommandTells, EndsRun, IsCutOff, IsLastLine, IsTold, IsWithin, OpeningTells, RunsSession, WordsTell};
 
 use crate::cell::{CellFault, cell_of_csv};
 use crate::command::{CellCommand, read_command};
 use crate::reply::Reply;
+use crate::run_words::run_file;
+use crate::sessions::{Ended, reply_to_opening, serve_opened};
 use crate::status::Status;
+use cache_opening::open_cache;
+use fact_batches::Steps;
 use olap_base::{CellValue, OutOfMemory, Text, name_text, plain_text};
-use outside::{Depot, DepotRefusal, Failed, Sink};
+use outside::{Depot, DepotRefusal, Failed, Sink, Source};
 use std::alloc::Global;
+use std::sync::ledger::Ledger;
 
-/// Carries out a command line: its words are those behind the program's name. What it has to say is written to the output
-/// at once.
-pub fn run<D: Depot, O: Sink>(
+/// Carries out a command line: its words are those behind the program's name. Where it opens a cache, it serves a session
+/// from the input to the output over it, and gives the cache's history.
+pub fn run<D: Depot, S: Source, O: Sink, L: Ledger>(
     alloc: Global,
     words: &[String],
     depot: &mut D,
+    input: &mut S,
     output: &mut O,
-) -> Status
-    // The status has its cause, and its text was written.
-    ensures told { result ≢ Status.Sink → IsTold (map string_bytes words.now) (record {
+    steps: &mut Steps<L>,
+) -> Ended
+    // Where a cache was opened, a session was served over it.
+    ensures session { IfSome result.history (λ history. RunsSession (map string_bytes words.now) (D.files depot.old) history (S.left input.old) (O.taken output.old) (O.taken output.new) steps.old steps.new result.status) }
+    ensures legal { IfSome result.history (λ history. Legal history.setting history.entries) }
+    ensures receive { IfSome result.history (λ _. result.status ≡ Status.Source → S.faults input.old < S.faults input.new) }
+
+    // Where none was, the status has its cause, and its text was written.
+    ensures told { result.history ≡ None → result.status ≢ Status.Sink → IsTold (map string_bytes words.now) (record {
       files = D.files depot.old;
       faults_before = D.faults depot.old;
       faults_after = D.faults depot.new;
       misses_before = D.misses depot.old;
       misses_after = D.misses depot.new;
-    }) (O.taken output.old) (O.taken output.new) result }
+    }) (O.taken output.old) (O.taken output.new) result.status }
 
     // Only the output's own failure cuts a text off.
-    ensures cut_off { result ≡ Status.Sink → IsCutOff (map string_bytes words.now) (record {
+    ensures cut_off { result.history ≡ None → result.status ≡ Status.Sink → IsCutOff (map string_bytes words.now) (record {
       files = D.files depot.old;
       faults_before = D.faults depot.old;
       faults_after = D.faults depot.new;
       misses_before = D.misses depot.old;
       misses_after = D.misses depot.new;
     }) (O.taken output.old) (O.taken output.new) }
-    ensures failed { result ≡ Status.Sink → O.faults output.old < O.faults output.new }
+    ensures failed { result.status ≡ Status.Sink → O.faults output.old < O.faults output.new }
+
+    // Then nothing was taken from the input, and no row was read.
+    ensures untaken { result.history ≡ None → input.new ≡ input.old }
+    ensures no_step { result.history ≡ None → steps.new ≡ steps.old }
 {
-    let reply = reply_to_words(alloc, words, depot);
+    match run_file(words) {
+        Some(file) => run_session(alloc, file, depot, input, output, steps),
+        None => {
+            let reply = reply_to_words(alloc, words, depot);
+            let status = say(output, &reply);
+            Ended {
+                status,
+                history: None,
+            }
+        }
+    }
+}
+
+// The command `run`, by its schema's file.
+fn run_session<D: Depot, S: Source, O: Sink, L: Ledger>(
+    alloc: Global,
+    file: &str,
+    depot: &mut D,
+    input: &mut S,
+    output: &mut O,
+    steps: &mut Steps<L>,
+) -> Ended
+    ensures session { IfSome result.history (λ history. (opened : CacheOf)
+        × IsOpened (D.files depot.old) file.now opened
+        × EndsRun opened history (S.left input.old) (O.taken output.old) (O.taken output.new) result.status
+        × IsWithin opened history steps.old steps.new) }
+    ensures legal { IfSome result.history (λ history. Legal history.setting history.entries) }
+    ensures receive { IfSome result.history (λ _. result.status ≡ Status.Source → S.faults input.old < S.faults input.new) }
+    ensures told { result.history ≡ None → (said : Said) × OpeningTells file.now (record {
+      files = D.files depot.old;
+      faults_before = D.faults depot.old;
+      faults_after = D.faults depot.new;
+      misses_before = D.misses depot.old;
+      misses_after = D.misses depot.new;
+    }) said.status said.text × IsLastLine said.status said.text (O.taken output.old) (O.taken output.new) result.status }
+    ensures failed { result.status ≡ Status.Sink → O.faults output.old < O.faults output.new }
+    ensures untaken { result.history ≡ None → input.new ≡ input.old }
+    ensures no_step { result.history ≡ None → steps.new ≡ steps.old }
+{
+    match open_cache(alloc, depot, file) {
+        Ok(manager) => serve_opened(alloc, manager, input, output, steps),
+        Err(fault) => {
+            let reply = reply_to_opening(alloc, &fault);
+            let status = say(output, &reply);
+            Ended {
+                status,
+                history: None,
+            }
+        }
+    }
+}
+
+/// Writes what is to be said, and gives its status, or that of a failed write.
+pub(crate) fn say<O: Sink>(output: &mut O, reply: &Reply) -> Status
+    ensures last { IsLastLine reply.now.status reply.now.text (O.taken output.old) (O.taken output.new) result }
+    ensures count { O.faults output.old ≤ O.faults output.new }
+    ensures cause { result ≡ Status.Sink → (reply.now.status ≡ Status.Sink) ⊎ (O.faults output.old < O.faults output.new) }
+{
     match output.write(reply.text().as_bytes()) {
         Ok(()) => reply.status(),
         Err(Failed) => Status::Sink,
     }
 }
 
-// What is to be said to the words.
+// What is to be said to words that are not the command `run`.
 fn reply_to_words<D: Depot>(alloc: Global, words: &[String], depot: &mut D) -> Reply
-    ensures { Tells (map string_bytes words.now) (record {
+    ensures { WordsTell (command_of (map string_bytes words.now)) (record {
       files = D.files depot.old;
       faults_before = D.faults depot.old;
       faults_after = D.faults depot.new;
@@ -66,7 +143,7 @@ fn reply_to_words<D: Depot>(alloc: Global, words: &[String], depot: &mut D) -> R
     }
 }
 
-fn no_memory() -> Reply
+pub(crate) fn no_memory() -> Reply
     ensures { result ≡ no_memory }
 {
     Reply::fixed(Status::Memory, "MEMORY\n")
@@ -125,7 +202,7 @@ fn reply_to_fault(alloc: Global, file: &str, fault: &CellFault) -> Reply
 }
 
 // A reply of a text, where there was memory for it.
-fn made_reply(status: Status, text: Result<Text, OutOfMemory>) -> Reply
+pub(crate) fn made_reply(status: Status, text: Result<Text, OutOfMemory>) -> Reply
     ensures { MatchResult text
         (λ t. result ≡ record { status = status; text = t })
         (λ _. result ≡ no_memory) }
@@ -171,7 +248,7 @@ fn refusal_line(alloc: Global, file: &str, fault: &CellFault) -> Result<Text, Ou
     Ok(Text::from_string(format!(in alloc; "FACT {name} {told}\n")?))
 }
 
-fn missing_line(alloc: Global, file: &str) -> Result<Text, OutOfMemory>
+pub(crate) fn missing_line(alloc: Global, file: &str) -> Result<Text, OutOfMemory>
     ensures { IfOk result (λ t. t ≡ line (codes "NO FILE " ++ name_text file.now)) }
 {
     let name = name_text(alloc, file)?;

@@ -1,9 +1,12 @@
 //! The command `cell` over files in memory.
+use crate::carried::carry_out;
 use olap_base::{List, OutOfMemory, Text};
-use olap_server::{Status, run};
-use outside::{Calls, MemoryDepot, MemorySink};
+use olap_server::Status;
+use outside::{Calls, MemoryDepot, MemorySink, MemorySource};
 use std::alloc::{AllocError, Global};
+use std::marker::Brand;
 use std::process::Abort;
+use std::sync::ledger::Blank;
 use std::test::Fail;
 
 const SALES: &[u8] = b"time_id,store_id,customer,units\n1,1,10,5\n1,2,11,7\n2,1,10,3\n3,3,12,\n";
@@ -69,8 +72,16 @@ fn expect(
         plan(alloc, outside.fetch_fails)?,
     )?;
     let mut output = MemorySink::new(alloc, plan(alloc, outside.write_fails)?, outside.room);
-    let ended = run(alloc, words.as_slice(), &mut depot, &mut output);
-    assert_eq!(rt; ended, status, "{line}");
+    let mut input = MemorySource::new(List::new(alloc), Calls::passing(alloc), None, None);
+    let ended = carry_out::<Brand>(
+        alloc,
+        words.as_slice(),
+        &mut depot,
+        &mut input,
+        &mut output,
+        Blank::new(1),
+    );
+    assert_eq!(rt; ended.status, status, "{line}");
     assert_eq!(rt; output.taken(), told.as_bytes(), "{line}");
     Ok(())
 }

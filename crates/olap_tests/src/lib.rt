@@ -3,9 +3,13 @@
 #![tactic(auto)]
 
 #[cfg(test)]
+mod carried;
+#[cfg(test)]
 mod cell;
 #[cfg(test)]
 mod faults;
+#[cfg(test)]
+mod runs;
 #[cfg(test)]
 mod sources;
 #[cfg(test)]

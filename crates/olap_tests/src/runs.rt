@@ -1,0 +1,244 @@
+//! The command `run` over the sample files in memory, from its words to the bytes that are written.
+use crate::carried::carry_out;
+use olap_base::{List, OutOfMemory, Text};
+use olap_server::Status;
+use outside::{Calls, MemoryDepot, MemorySink, MemorySource};
+use std::alloc::Global;
+use std::marker::Brand;
+use std::process::Abort;
+use std::sync::ledger::Blank;
+use std::test::Fail;
+
+/// Time without an all member, Store with one, and the cube Sales over both.
+const SCHEMA: &[u8] =
+    b"{\"dimensions\":[{\"name\":\"Time\",\"table\":\"time.csv\",\"primaryKey\":\"time_id\",\"hierarchies\":[{\"hasAll\":false,\"levels\":[{\"name\":\"Year\",\"column\":\"year\"},{\"name\":\"Quarter\",\"column\":\"quarter\"}]}]},{\"name\":\"Store\",\"table\":\"store.csv\",\"primaryKey\":\"store_id\",\"hierarchies\":[{\"levels\":[{\"name\":\"State\",\"column\":\"state\"},{\"name\":\"City\",\"column\":\"city\"}]}]}],\"cubes\":[{\"name\":\"Sales\",\"fact\":\"sales.csv\",\"dimensions\":[{\"source\":\"Time\",\"foreignKey\":\"time_id\"},{\"source\":\"Store\",\"foreignKey\":\"store_id\"}],\"measures\":[{\"name\":\"Units\",\"column\":\"units\",\"aggregator\":\"sum\"},{\"name\":\"Count\",\"column\":\"units\",\"aggregator\":\"count\"}]}]}";
+
+const FILES: [(&str, &[u8]); 4] = [
+    ("sales.json", SCHEMA),
+    (
+        "time.csv",
+        b"time_id,year,quarter\n1,1997,Q1\n2,1997,Q2\n3,1998,Q1\n",
+    ),
+    (
+        "store.csv",
+        b"store_id,state,city\n1,CA,LA\n2,CA,SF\n3,WA,Seattle\n",
+    ),
+    (
+        "sales.csv",
+        b"time_id,store_id,customer,units\n1,1,10,5\n1,2,11,7\n2,1,10,3\n3,3,12,\n",
+    ),
+];
+
+/// What comes from outside and fails there: the fetch, the read, the write of these numbers, from 0.
+#[derive(Clone, Copy)]
+struct Outside {
+    input: &'static [u8],
+    fetch: Option<u64>,
+    read: Option<u64>,
+    write: Option<u64>,
+}
+
+fn calls(alloc: Global, failing: Option<u64>) -> Result<Calls, OutOfMemory> {
+    let mut numbers = List::new(alloc);
+    if let Some(number) = failing {
+        numbers.push(number)?;
+    }
+    Ok(Calls::failing(numbers))
+}
+
+fn depot(alloc: Global, failing: Option<u64>) -> Result<MemoryDepot, OutOfMemory> {
+    let mut files = List::new(alloc);
+    for (name, bytes) in &FILES {
+        let name = Text::from_str(alloc, *name)?;
+        let bytes = List::from_vec(Vec::from_slice(alloc, *bytes)?);
+        files.push((name, bytes))?;
+    }
+    Ok(MemoryDepot::new(files, calls(alloc, failing)?))
+}
+
+/// Carries out the words, and compares the status, what was written, and how many entries the history has, where one was
+/// handed back.
+fn expect(
+    rt: &impl Abort,
+    alloc: Global,
+    words: &[&str],
+    outside: Outside,
+    status: Status,
+    told: &str,
+    entries: Option<u64>,
+) -> Result<(), Fail> {
+    let mut given = Vec::new(alloc);
+    for word in words {
+        given.push(String::from_str(alloc, *word)?)?;
+    }
+    let mut depot = depot(alloc, outside.fetch)?;
+    let bytes = List::from_vec(Vec::from_slice(alloc, outside.input)?);
+    let mut input = MemorySource::new(bytes, calls(alloc, outside.read)?, None, None);
+    let mut output = MemorySink::new(alloc, calls(alloc, outside.write)?, None);
+    let ended = carry_out::<Brand>(
+        alloc,
+        given.as_slice(),
+        &mut depot,
+        &mut input,
+        &mut output,
+        Blank::new(1),
+    );
+    assert_eq!(rt; output.taken(), told.as_bytes());
+    assert_eq!(rt; ended.status, status);
+    match (ended.history, entries) {
+        (Some(history), Some(count)) => assert_eq!(rt; history.len(), count),
+        (None, None) => {}
+        (_, _) => return Err(Fail::from("a history too many or too few")),
+    }
+    Ok(())
+}
+
+/// An input that comes whole, and nothing that fails.
+fn whole(input: &'static [u8]) -> Outside {
+    Outside {
+        input,
+        fetch: None,
+        read: None,
+        write: None,
+    }
+}
+
+const WORDS: [&str; 3] = ["run", "--schema", "sales.json"];
+
+const QUERIES: &[u8] = b"MDX SELECT {[Measures].[Units]} ON COLUMNS FROM [Sales]
+MDX SELECT {[Time].[1998]} ON COLUMNS FROM [Sales]
+MDX SELECT {[Time].[1998]} ON COLUMNS FROM [Sales]
+MDX SELECT {[Time].[1997].[Q1]} ON COLUMNS FROM [Sales]
+HELLO
+MDX SELECT {[Measures].[Profit]} ON COLUMNS FROM [Sales]
+MDX SELECT {[Measures].[Units]} ON COLUMNS FROM [Budget]
+";
+
+const REPLIES: &str = "GRID 4 1 1
+C\t[Measures].[Units]
+R\t\t15
+.
+GRID 7 1 1
+C\t[Time].[1998]
+R\t\t
+.
+GRID 8 1 1
+C\t[Time].[1998]
+R\t\t
+.
+GRID 11 1 1
+C\t[Time].[1997].[Q1]
+R\t\t12
+.
+ERR 17 UNBUILT
+ERR 6 MEMBER [Profit]
+ERR 5 CUBE [Budget]
+";
+
+#[test]
+fn run_answers_the_lines_of_its_input(rt: HostRuntime) -> Result<(), Fail> {
+    let alloc = rt.alloc();
+    expect(
+        &rt,
+        alloc,
+        &WORDS,
+        whole(QUERIES),
+        Status::Done,
+        REPLIES,
+        Some(11),
+    )?;
+    expect(
+        &rt,
+        alloc,
+        &["run", "--schema=sales.json"],
+        whole(b"QUIT"),
+        Status::Done,
+        "BYE\n",
+        Some(1),
+    )?;
+    expect(&rt, alloc, &WORDS, whole(b""), Status::Done, "", Some(1))
+}
+
+#[test]
+fn run_tells_why_it_ends(rt: HostRuntime) -> Result<(), Fail> {
+    let alloc = rt.alloc();
+    let hello = whole(b"HELLO\nHELLO\n");
+    let none = ["run", "--schema", "none.json"];
+    let other = ["run", "--schema", "time.csv"];
+    expect(&rt, alloc, &["run"], hello, Status::Usage, "USAGE\n", None)?;
+    expect(
+        &rt,
+        alloc,
+        &["run", "--schema", "-x"],
+        hello,
+        Status::Usage,
+        "USAGE\n",
+        None,
+    )?;
+    expect(
+        &rt,
+        alloc,
+        &["run", "--schema="],
+        hello,
+        Status::Usage,
+        "USAGE\n",
+        None,
+    )?;
+    expect(
+        &rt,
+        alloc,
+        &none,
+        hello,
+        Status::NoFile,
+        "NO FILE [none.json]\n",
+        None,
+    )?;
+    expect(
+        &rt,
+        alloc,
+        &other,
+        hello,
+        Status::Schema,
+        "UNBUILT [time.csv]\n",
+        None,
+    )?;
+    let unfetched = Outside {
+        fetch: Some(2),
+        ..hello
+    };
+    expect(
+        &rt,
+        alloc,
+        &WORDS,
+        unfetched,
+        Status::Source,
+        "SOURCE\n",
+        None,
+    )?;
+    let unread = Outside {
+        read: Some(0),
+        ..hello
+    };
+    expect(
+        &rt,
+        alloc,
+        &WORDS,
+        unread,
+        Status::Source,
+        "SOURCE\n",
+        Some(1),
+    )?;
+    let unsent = Outside {
+        write: Some(1),
+        ..hello
+    };
+    expect(
+        &rt,
+        alloc,
+        &WORDS,
+        unsent,
+        Status::Sink,
+        "ERR 17 UNBUILT\n",
+        Some(1),
+    )
+}
