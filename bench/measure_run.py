@@ -37,6 +37,18 @@ def memory(words, given):
         return int(it.read()) / 1024
 
 
+def held(name):
+    """The resident set in bytes once the cache is open and a line is answered, while the input waits."""
+    with subprocess.Popen([olapd, "run", "--schema", f"{name}.json"], stdin=subprocess.PIPE, stdout=subprocess.PIPE, text=True) as it:
+        it.stdin.write("HELLO\n")
+        it.stdin.flush()
+        it.stdout.readline()
+        with open(f"/proc/{it.pid}/status") as status:
+            size = next(int(line.split()[1]) for line in status if line.startswith("VmRSS"))
+        it.communicate("")
+    return size * 1024
+
+
 olapd, plain, rounds = sys.argv[1], sys.argv[2], int(sys.argv[3])
 sqlite = ["sqlite3", "-batch", ":memory:"]
 cases = {}
@@ -86,3 +98,4 @@ for name in ("small", "large"):
     print(f"| {name} | {answer(told[name, 'olapd cold'])} | {cold} | {warm} |")
 a, b, c = (best["large", it] for it in ("olapd open", "plain open", "sqlite3 import"))
 print(f"\nopening large: {a / b:.2f} times the plain program's time (mark: at most 2), {c / a:.1f} times as fast as sqlite3's import (mark: above 1)")
+print(f"memory held: {(held('large') - held('small')) / 900_000:.1f} bytes for a fact row of two dimensions and two fact columns (mark: at most 44)")

@@ -21,7 +21,7 @@ const FILES: [(&str, &[u8]); 4] = [
     ),
     (
         "store.csv",
-        b"store_id,state,city\n1,CA,LA\n2,CA,SF\n3,WA,Seattle\n",
+        b"store_id,state,city\n1,CA,LA\n2,C]A,SF\n3,WA,Seattle\n",
     ),
     (
         "sales.csv",
@@ -29,10 +29,13 @@ const FILES: [(&str, &[u8]); 4] = [
     ),
 ];
 
-/// What comes from outside and fails there: the fetch, the read, the write of these numbers, from 0.
+/// What comes from outside, how many bytes a read gives at most and the output takes, and what fails there: the fetch, the
+/// read, the write of these numbers, from 0.
 #[derive(Clone, Copy)]
 struct Outside {
     input: &'static [u8],
+    most: Option<usize>,
+    room: Option<u64>,
     fetch: Option<u64>,
     read: Option<u64>,
     write: Option<u64>,
@@ -73,8 +76,8 @@ fn expect(
     }
     let mut depot = depot(alloc, outside.fetch)?;
     let bytes = List::from_vec(Vec::from_slice(alloc, outside.input)?);
-    let mut input = MemorySource::new(bytes, calls(alloc, outside.read)?, None, None);
-    let mut output = MemorySink::new(alloc, calls(alloc, outside.write)?, None);
+    let mut input = MemorySource::new(bytes, calls(alloc, outside.read)?, None, outside.most);
+    let mut output = MemorySink::new(alloc, calls(alloc, outside.write)?, outside.room);
     let ended = carry_out::<Brand>(
         alloc,
         given.as_slice(),
@@ -97,6 +100,8 @@ fn expect(
 fn whole(input: &'static [u8]) -> Outside {
     Outside {
         input,
+        most: None,
+        room: None,
         fetch: None,
         read: None,
         write: None,
@@ -157,6 +162,119 @@ fn run_answers_the_lines_of_its_input(rt: HostRuntime) -> Result<(), Fail> {
         Some(1),
     )?;
     expect(&rt, alloc, &WORDS, whole(b""), Status::Done, "", Some(1))
+}
+
+/// An input, what is written, and how many entries there are then. The base batch is the first.
+const INPUTS: [(&[u8], &str, u64); 10] = [
+    (
+        b"mdx\tselect{ [measures] . [units] }on columns from[SALES]\t\n",
+        "GRID 4 1 1\nC\t[Measures].[Units]\nR\t\t15\n.\n",
+        4,
+    ),
+    (
+        b"MDX SELECT {[Store].[C]]A]} ON COLUMNS FROM [Sales]",
+        "GRID 4 1 1\nC\t[Store].[C]]A]\nR\t\t7\n.\n",
+        4,
+    ),
+    (b"HELLO\r\nQUIT\r\nHELLO", "ERR 17 UNBUILT\nBYE\n", 1),
+    (b"\n \t\n\r\nHELLO", "ERR 17 UNBUILT\n", 1),
+    (b"\xff\nQUIT", "ERR 2 UTF8\nBYE\n", 1),
+    (
+        b"QUIT now\nCACHE\nMDX",
+        "ERR 17 UNBUILT\nERR 17 UNBUILT\nERR 17 UNBUILT\n",
+        1,
+    ),
+    (
+        b"MDX SELECT {[Product]} ON COLUMNS FROM [Sales]",
+        "ERR 6 MEMBER [Product]\n",
+        1,
+    ),
+    (
+        b"MDX SELECT {[Store].[CA].[SF]} ON COLUMNS FROM [Sales]",
+        "ERR 6 MEMBER [SF]\n",
+        1,
+    ),
+    (
+        b"MDX SELECT {[Store].[CA]} ON COLUMNS FROM [Sales]",
+        "GRID 4 1 1\nC\t[Store].[CA]\nR\t\t8\n.\n",
+        4,
+    ),
+    (b"", "", 1),
+];
+
+#[test]
+fn run_reads_lines_however_they_come(rt: HostRuntime) -> Result<(), Fail> {
+    let alloc = rt.alloc();
+    for (input, told, entries) in &INPUTS {
+        for most in [None, Some(1usize)] {
+            let outside = Outside {
+                most,
+                ..whole(*input)
+            };
+            expect(
+                &rt,
+                alloc,
+                &WORDS,
+                outside,
+                Status::Done,
+                *told,
+                Some(*entries),
+            )?;
+        }
+    }
+    let cut = Outside {
+        most: Some(1),
+        ..whole(QUERIES)
+    };
+    expect(&rt, alloc, &WORDS, cut, Status::Done, REPLIES, Some(11))?;
+    expect(
+        &rt,
+        alloc,
+        &WORDS,
+        whole(&[b' '; 65_536]),
+        Status::Done,
+        "",
+        Some(1),
+    )?;
+    let long = whole(&[b' '; 65_537]);
+    expect(
+        &rt,
+        alloc,
+        &WORDS,
+        long,
+        Status::Done,
+        "ERR 1 LINE 65536\n",
+        Some(1),
+    )?;
+    // The third read fails, in the middle of the first line.
+    let unread = Outside {
+        most: Some(10),
+        read: Some(2),
+        ..whole(QUERIES)
+    };
+    expect(
+        &rt,
+        alloc,
+        &WORDS,
+        unread,
+        Status::Source,
+        "SOURCE\n",
+        Some(1),
+    )?;
+    // Of the first reply ten bytes are taken. Its cell was answered.
+    let narrow = Outside {
+        room: Some(10),
+        ..whole(QUERIES)
+    };
+    expect(
+        &rt,
+        alloc,
+        &WORDS,
+        narrow,
+        Status::Sink,
+        "GRID 4 1 1",
+        Some(4),
+    )
 }
 
 #[test]
