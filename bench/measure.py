@@ -4,9 +4,9 @@ In each round each program runs once on each case, one after the other, so that 
 alike. The time of a program is its best round, from its start to its end; its memory is its greatest resident set.
 """
 import os
-import subprocess
 import sys
-import time
+
+from timed import memory, run
 
 CASES = [
     ("rows.csv", "units", "sum", []),
@@ -31,21 +31,6 @@ def script(file, column, aggregator, pairs):
 .import --skip 1 {file} facts
 SELECT {value} FROM facts{' WHERE ' * bool(where)}{where};
 """
-
-
-def run(words, given):
-    began = time.perf_counter()
-    ran = subprocess.run(words, input=given, capture_output=True, text=True)
-    seconds = time.perf_counter() - began
-    if ran.returncode:
-        sys.exit(f"{words}: status {ran.returncode}\n{ran.stdout}{ran.stderr}")
-    return seconds, ran.stdout.strip()
-
-
-def memory(words, given):
-    run(["time", "-o", "memory", "-f", "%M", *words], given)
-    with open("memory") as it:
-        return int(it.read()) / 1024
 
 
 def agrees(aggregator, mine, other):

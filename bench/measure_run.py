@@ -6,7 +6,8 @@ alike. The time of a program is its best round, from its start to its end; its m
 import os
 import subprocess
 import sys
-import time
+
+from timed import memory, run
 
 LINE = "MDX SELECT {[Time].[Y1]} ON COLUMNS FROM [Sales]\n"
 WARM = 1000
@@ -20,21 +21,6 @@ CREATE TABLE facts (time_id INTEGER, store_id INTEGER, customer INTEGER, units I
 """
 INDEXES = "CREATE INDEX by_time ON facts (time_id);\nCREATE INDEX by_store ON facts (store_id);\n"
 QUERY = "SELECT sum(nullif(units, '')) FROM facts JOIN time USING (time_id) WHERE year = 'Y1';\n"
-
-
-def run(words, given):
-    began = time.perf_counter()
-    ran = subprocess.run(words, input=given, capture_output=True, text=True)
-    seconds = time.perf_counter() - began
-    if ran.returncode:
-        sys.exit(f"{words}: status {ran.returncode}\n{ran.stdout}{ran.stderr}")
-    return seconds, ran.stdout
-
-
-def memory(words, given):
-    run(["time", "-o", "memory", "-f", "%M", *words], given)
-    with open("memory") as it:
-        return int(it.read()) / 1024
 
 
 def held(name):

@@ -29,6 +29,7 @@ def ids(count):
         yield f"{i * 999983 % 1000003},{i % 100}\n"
 
 
-for name, lines in (("rows.csv", rows), ("ids.csv", ids)):
-    with open(name, "w", newline="") as file:
-        file.writelines(lines(int(sys.argv[1])))
+if __name__ == "__main__":
+    for name, lines in (("rows.csv", rows), ("ids.csv", ids)):
+        with open(name, "w", newline="") as file:
+            file.writelines(lines(int(sys.argv[1])))

@@ -8,19 +8,7 @@ NAME.csv, whose rows are drawn as those of rows.csv: see rows.py.
 import json
 import sys
 
-SEED = 1
-
-
-def rows(count):
-    x = SEED
-    yield "time_id,store_id,customer,units\n"
-    for _ in range(count):
-        drawn = []
-        for k in (48, 50, 1000, 101):
-            x = (x * 6364136223846793005 + 1442695040888963407) % 2**64
-            drawn.append((x >> 33) % k)
-        time, store, customer, units = drawn
-        yield f"{time + 1},{store + 1},{customer},{'' if units == 100 else units}\n"
+from rows import rows
 
 
 def times():
