@@ -31,15 +31,6 @@ front_past before middle after first more sent front =
 sent_past : (before middle after : Option (List ℕ)) (first more : List ℕ) → middle ≡ with_bytes before first → after ≡ with_bytes middle more → after ≡ with_bytes before (first ++ more)
 sent_past before middle after first more sent then = then ∙ ap (λ taken. with_bytes taken more) sent ∙ with_both before first more
 
-sent_then : (end : SessionEnd) (before middle after : Option (List ℕ)) (reply text : List ℕ) → middle ≡ with_bytes before reply → AreSent end middle after text → AreSent end before after (reply ++ text)
-sent_then Quit before middle after reply text sent then = sent_past before middle after reply text sent then
-sent_then EndOfInput before middle after reply text sent then = sent_past before middle after reply text sent then
-sent_then LongLine before middle after reply text sent then = sent_past before middle after reply (text ++ too_long_reply) sent then ∙ ap (with_bytes before) (sym (append_assoc reply text too_long_reply))
-sent_then ReceiveFault before middle after reply text sent then = sent_past before middle after reply text sent then
-sent_then SendFault before middle after reply text sent (inl front) = inl (front_past before middle after reply text sent front)
-sent_then SendFault before middle after reply text sent (inr front) = inr (subst (TakesFront before after) (sym (append_assoc reply text too_long_reply)) (front_past before middle after reply (text ++ too_long_reply) sent front))
-sent_then TooManyLines before middle after reply text sent then = sent_past before middle after reply text sent then
-
 -- a line that does not end the session before others that do not
 going : (line : List ℕ) (lines : List (List ℕ)) → ends line ≡ false → go_on lines ≡ true → go_on (line ∷ lines) ≡ true
 going line lines goes on = and_from _ _ (not_from_false _ goes) on
@@ -77,6 +68,22 @@ told_then P Q add None rest step same holds = tt
 told_then P Q add (Some bytes) None step same holds = absurd (cc same)
 told_then P Q add (Some bytes) (Some more) step same holds = step (lines_of bytes) (lines_of more) (cc same) holds
 
+sent_then :
+    (end : SessionEnd) (left rest : Option (List ℕ)) (line : List ℕ) (lines : List (List ℕ)) (before middle after : Option (List ℕ)) (reply text : List ℕ) → ends line ≡ false
+    → option_map lines_of left ≡ option_map (λ bytes. lines_then (line ∷ []) (lines_of bytes)) rest → middle ≡ with_bytes before reply → AreSent end rest lines middle after text → AreSent end left (line ∷ lines) before after (reply ++ text)
+sent_then Quit left rest line lines before middle after reply text goes first sent then = sent_past before middle after reply text sent then
+sent_then EndOfInput left rest line lines before middle after reply text goes first sent then = sent_past before middle after reply text sent then
+sent_then LongLine left rest line lines before middle after reply text goes first sent then =
+    sent_past before middle after reply (text ++ too_long_reply) sent then ∙ ap (with_bytes before) (sym (append_assoc reply text too_long_reply))
+sent_then ReceiveFault left rest line lines before middle after reply text goes first sent then = sent_past before middle after reply text sent then
+sent_then SendFault left rest line lines before middle after reply text goes first sent (inl front) = inl (front_past before middle after reply text sent front)
+sent_then SendFault left rest line lines before middle after reply text goes first sent (inr (all, front)) =
+    inr (
+      told_then (AreAll lines true) (AreAll (line ∷ lines) true) (lines_then (line ∷ [])) left rest (λ whole more is are. all_then line lines true whole more goes is are) first all,
+      subst (TakesFront before after) (sym (append_assoc reply text too_long_reply)) (front_past before middle after reply (text ++ too_long_reply) sent front),
+    )
+sent_then TooManyLines left rest line lines before middle after reply text goes first sent then = sent_past before middle after reply text sent then
+
 -- a turn, and then a session from the next number on
 pub turn_then :
     (n : ℕ) (end : SessionEnd) (before middle after : CacheOf) (left rest sent sent_mid sent_last : Option (List ℕ)) → Turns n before middle left rest sent sent_mid → IsServed (n + 1) end middle after rest sent_mid sent_last
@@ -88,7 +95,7 @@ turn_then n end before middle after left rest sent sent_mid sent_last turn serve
   handled =
       told_then (AreHandled (n + 1) end served.lines) (AreHandled n end (turn.line ∷ served.lines)) (lines_then (turn.line ∷ [])) left rest
       (λ all more whole are. handled_then n end turn.line served.lines all more turn.goes_on whole are) turn.first served.handled;
-  sent = sent_then end sent sent_mid sent_last turn.reply (flat_map (λ reply. reply) served.replies) turn.sent served.sent;
+  sent = sent_then end left rest turn.line served.lines sent sent_mid sent_last turn.reply (flat_map (λ reply. reply) served.replies) turn.goes_on turn.first turn.sent served.sent;
 }
 
 -- the lines of the bytes that are left, where they are told
@@ -151,13 +158,15 @@ long_served n cache left rest sent sent_last first told = record {
 }
 
 -- and its reply could not be sent whole
-pub long_cut_off : (n : ℕ) (cache : CacheOf) (left sent sent_last : Option (List ℕ)) → TakesFront sent sent_last too_long_reply → IsServed n SendFault cache cache left sent sent_last
-long_cut_off n cache left sent sent_last front = record {
+pub long_cut_off :
+    (n : ℕ) (cache : CacheOf) (left rest sent sent_last : Option (List ℕ)) → option_map lines_of left ≡ option_map (λ bytes. record { lines = []; broken_off = true }) rest → TakesFront sent sent_last too_long_reply
+    → IsServed n SendFault cache cache left sent sent_last
+long_cut_off n cache left rest sent sent_last first front = record {
   lines = [];
   replies = [];
   session = refl;
   handled = weaker left (first_of_all left);
-  sent = inr front;
+  sent = inr (told_lines (AreAll [] true) (λ more. record { lines = []; broken_off = true }) left rest (λ all more whole. (refl, whole)) first, front);
 }
   where
     weaker : (o : Option (List ℕ)) → IfSome o (λ bytes. AreFirst [] (lines_of bytes)) → IfSome o (λ bytes. AreHandled n SendFault [] (lines_of bytes))
@@ -193,7 +202,7 @@ pub long_turn :
     (n : ℕ) (cache : CacheOf) (left rest sent sent_last : Option (List ℕ)) (end : SessionEnd) → option_map lines_of left ≡ option_map (λ bytes. record { lines = []; broken_off = true }) rest → (end ≡ LongLine) ⊎ (end ≡ SendFault)
     → (end ≡ LongLine → sent_last ≡ with_bytes sent too_long_reply) → (end ≡ SendFault → TakesFront sent sent_last too_long_reply) → IsServed n end cache cache left sent sent_last
 long_turn n cache left rest sent sent_last end first (inl long) all front = subst (λ (e : SessionEnd). IsServed n e cache cache left sent sent_last) (sym long) (long_served n cache left rest sent sent_last first (all long))
-long_turn n cache left rest sent sent_last end first (inr cut) all front = subst (λ (e : SessionEnd). IsServed n e cache cache left sent sent_last) (sym cut) (long_cut_off n cache left sent sent_last (front cut))
+long_turn n cache left rest sent sent_last end first (inr cut) all front = subst (λ (e : SessionEnd). IsServed n e cache cache left sent sent_last) (sym cut) (long_cut_off n cache left rest sent sent_last first (front cut))
 
 -- where nothing is held, all bytes that are left are not given
 pub none_held : (left : Option (List ℕ)) → not_given [] left ≡ left

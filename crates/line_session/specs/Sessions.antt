@@ -61,11 +61,15 @@ AreHandled number ReceiveFault lines all = AreFirst lines all
 AreHandled number SendFault lines all = AreFirst lines all ⊎ EndAtLast lines all
 AreHandled number TooManyLines lines all = AreFirst lines all × (number + length lines ≡ 2 ^ 64 - 1)
 
+-- a write has failed: of the replies joined a front was sent; or too long a line came behind all these lines, and of the replies and that to it a front was sent
+abbrev pub IsCutOff : Option (List ℕ) → List (List ℕ) → Option (List ℕ) → Option (List ℕ) → List ℕ → Type 0
+IsCutOff left lines before after text = TakesFront before after text ⊎ (IfSome left (λ bytes. AreAll lines true (lines_of bytes)) × TakesFront before after (text ++ too_long_reply))
+
 -- what was sent, by how the session ended: the replies joined, and that to too long a line; after a failed write a front of this
-abbrev pub AreSent : SessionEnd → Option (List ℕ) → Option (List ℕ) → List ℕ → Type 0
-AreSent LongLine before after text = after ≡ with_bytes before (text ++ too_long_reply)
-AreSent SendFault before after text = TakesFront before after text ⊎ TakesFront before after (text ++ too_long_reply)
-AreSent end before after text = after ≡ with_bytes before text
+abbrev pub AreSent : SessionEnd → Option (List ℕ) → List (List ℕ) → Option (List ℕ) → Option (List ℕ) → List ℕ → Type 0
+AreSent LongLine left lines before after text = after ≡ with_bytes before (text ++ too_long_reply)
+AreSent SendFault left lines before after text = IsCutOff left lines before after text
+AreSent end left lines before after text = after ≡ with_bytes before text
 
 -- a session was served from one number on: the lines that were handled are those of the input, each with its reply, and the replies were sent
 pub record IsServed (number : ℕ) (end : SessionEnd) (before after : CacheOf) (left : Option (List ℕ)) (sent_before sent_after : Option (List ℕ)) : Type 0 where
@@ -73,7 +77,7 @@ pub record IsServed (number : ℕ) (end : SessionEnd) (before after : CacheOf) (
   pub replies : List (List ℕ)
   pub session : IsSession before number lines replies after
   pub handled : IfSome left (λ bytes. AreHandled number end lines (lines_of bytes))
-  pub sent : AreSent end sent_before sent_after (flat_map (λ reply. reply) replies)
+  pub sent : AreSent end left lines sent_before sent_after (flat_map (λ reply. reply) replies)
 
 -- a turn: one line was handled and its reply sent, and the session goes on
 pub record Turns (number : ℕ) (before after : CacheOf) (left_before left_after sent_before sent_after : Option (List ℕ)) : Type 0 where

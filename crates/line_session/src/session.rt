@@ -162,8 +162,8 @@ fn take_turn<S: Source, O: Sink, L: Ledger>(
 /// Serves a session over a manager: answers the lines of an input, one after another, until one ends the session, the
 /// input ends, or a line is too long. Each reply is sent before the next line is waited for.
 ///
-/// It answers want of memory only before anything is read. The lines are those of the input, however it comes in pieces. As many steps are added at most as the loads that were
-/// started have rows.
+/// It answers want of memory only before anything is read. The lines are those of the input, however it comes in pieces.
+/// As many steps are added at most as the loads that were started have rows.
 pub fn serve<S: Source, O: Sink, L: Ledger>(
     alloc: Global,
     manager: &mut Manager,

@@ -20,18 +20,19 @@ cache_is history after same entries =
 
 -- a session was served, and then the last was said
 pub served_run :
-    (opened after : CacheOf) (history : HistoryOf) (left sent_before sent sent_after : Option (List ℕ)) (end : SessionEnd) (status : Status) → history.setting ≡ after.setting → history.entries ≡ after.entries
-    → IsServed 1 end opened after left sent_before sent → IsLast end sent sent_after status → EndsRun opened history left sent_before sent_after status
-served_run opened after history left sent_before sent sent_after end status same entries served last =
+    (opened after : CacheOf) (history : HistoryOf) (left left_after sent_before sent sent_after : Option (List ℕ)) (end : SessionEnd) (status : Status) → history.setting ≡ after.setting → history.entries ≡ after.entries
+    → IsServed 1 end opened after left sent_before sent → IsLast end sent sent_after status → EndsRun opened history left left_after sent_before sent_after status
+served_run opened after history left left_after sent_before sent sent_after end status same entries served last =
     inl (record { end = end; sent = sent; served = subst (λ (k : CacheOf). IsServed 1 end opened k left sent_before sent) (sym (cache_is history after same entries)) served; last = last })
 
 -- there was no memory to begin
 pub unserved_run :
-    (opened after : CacheOf) (history : HistoryOf) (left sent_before sent sent_after : Option (List ℕ)) (status : Status) (said : Said) → history.setting ≡ after.setting → history.entries ≡ after.entries
-    → after ≡ opened → sent ≡ sent_before → said ≡ no_memory → IsLastLine said.status said.text sent sent_after status → EndsRun opened history left sent_before sent_after status
-unserved_run opened after history left sent_before sent sent_after status said same entries unserved unsent is last =
+    (opened after : CacheOf) (history : HistoryOf) (left left_after sent_before sent sent_after : Option (List ℕ)) (status : Status) (said : Said) → history.setting ≡ after.setting → history.entries ≡ after.entries
+    → after ≡ opened → left_after ≡ left → sent ≡ sent_before → said ≡ no_memory → IsLastLine said.status said.text sent sent_after status → EndsRun opened history left left_after sent_before sent_after status
+unserved_run opened after history left left_after sent_before sent sent_after status said same entries unserved untaken unsent is last =
     inr (
       cache_is history after same entries ∙ unserved,
+      untaken,
       subst (λ (o : Option (List ℕ)). IsLastLine no_memory.status no_memory.text o sent_after status) unsent (subst (λ (s : Said). IsLastLine s.status s.text sent sent_after status) is last),
     )
 

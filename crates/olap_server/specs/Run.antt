@@ -155,20 +155,21 @@ pub record HasServed (opened after : CacheOf) (left : Option (List ℕ)) (sent_b
 abbrev pub cache_of : HistoryOf → CacheOf
 cache_of history = record { setting = history.setting; entries = history.entries }
 
--- a run ends over a cache that was opened: its session was served, or there was no memory to begin
-abbrev pub EndsRun : CacheOf → HistoryOf → Option (List ℕ) → Option (List ℕ) → Option (List ℕ) → Status → Type 0
-EndsRun opened history left sent_before sent_after status =
-    HasServed opened (cache_of history) left sent_before sent_after status ⊎ ((cache_of history ≡ opened) × IsLastLine Memory (line (codes "MEMORY")) sent_before sent_after status)
+-- a run ends over a cache that was opened: its session was served, or there was no memory to begin, and nothing was taken from the input
+abbrev pub EndsRun : CacheOf → HistoryOf → Option (List ℕ) → Option (List ℕ) → Option (List ℕ) → Option (List ℕ) → Status → Type 0
+EndsRun opened history left_before left_after sent_before sent_after status =
+    HasServed opened (cache_of history) left_before sent_before sent_after status
+    ⊎ ((cache_of history ≡ opened) × (left_after ≡ left_before) × IsLastLine Memory (line (codes "MEMORY")) sent_before sent_after status)
 
 -- as many steps were added at most as the loads have rows that were started in a cache
 abbrev pub IsWithin : CacheOf → HistoryOf → ℕ → ℕ → Type 0
 IsWithin opened history before after = (before ≤ after) × (after ≤ before + rows_started opened.entries history.entries)
 
 -- a run of the words opened a cache from their schema's file, and served a session over it
-pub record RunsSession (words : List (List ℕ)) (files : Option (List (List ℕ × List ℕ))) (history : HistoryOf) (left sent_before sent_after : Option (List ℕ)) (steps_before steps_after : ℕ) (status : Status) : Type 0 where
+pub record RunsSession (words : List (List ℕ)) (files : Option (List (List ℕ × List ℕ))) (history : HistoryOf) (left_before left_after sent_before sent_after : Option (List ℕ)) (steps_before steps_after : ℕ) (status : Status) : Type 0 where
   pub file : List ℕ
   pub command : run_file words ≡ Some file
   pub cache : CacheOf
   pub opened : IsOpened files file cache
-  pub ends : EndsRun cache history left sent_before sent_after status
+  pub ends : EndsRun cache history left_before left_after sent_before sent_after status
   pub steps : IsWithin cache history steps_before steps_after

@@ -75,7 +75,7 @@ pub(crate) fn serve_opened<S: Source, O: Sink, L: Ledger>(
 ) -> Ended
     requires call { IsTrue (is_next_call opened.entries (asker 1)) }
     requires idle { NoneFlies opened.entries }
-    ensures served { IfSome result.history (λ history. EndsRun opened history (S.left input.old) (O.taken output.old) (O.taken output.new) result.status) }
+    ensures served { IfSome result.history (λ history. EndsRun opened history (S.left input.old) (S.left input.new) (O.taken output.old) (O.taken output.new) result.status) }
     ensures there { result.history ≢ None }
     ensures legal { IfSome result.history (λ history. Legal history.setting history.entries) }
     ensures cost { IfSome result.history (λ history. IsWithin opened history steps.old steps.new) }

@@ -35,7 +35,7 @@ pub fn run<D: Depot, S: Source, O: Sink, L: Ledger>(
     steps: &mut Steps<L>,
 ) -> Ended
     // Where a cache was opened, a session was served over it.
-    ensures session { IfSome result.history (λ history. RunsSession (map string_bytes words.now) (D.files depot.old) history (S.left input.old) (O.taken output.old) (O.taken output.new) steps.old steps.new result.status) }
+    ensures session { IfSome result.history (λ history. RunsSession (map string_bytes words.now) (D.files depot.old) history (S.left input.old) (S.left input.new) (O.taken output.old) (O.taken output.new) steps.old steps.new result.status) }
     ensures legal { IfSome result.history (λ history. Legal history.setting history.entries) }
     ensures receive { IfSome result.history (λ _. result.status ≡ Status.Source → S.faults input.old < S.faults input.new) }
 
@@ -86,7 +86,7 @@ fn run_session<D: Depot, S: Source, O: Sink, L: Ledger>(
 ) -> Ended
     ensures session { IfSome result.history (λ history. (opened : CacheOf)
         × IsOpened (D.files depot.old) file.now opened
-        × EndsRun opened history (S.left input.old) (O.taken output.old) (O.taken output.new) result.status
+        × EndsRun opened history (S.left input.old) (S.left input.new) (O.taken output.old) (O.taken output.new) result.status
         × IsWithin opened history steps.old steps.new) }
     ensures legal { IfSome result.history (λ history. Legal history.setting history.entries) }
     ensures receive { IfSome result.history (λ _. result.status ≡ Status.Source → S.faults input.old < S.faults input.new) }
