@@ -1,12 +1,13 @@
 """Measures the cases below. usage: measure.py OLAPD PLAIN ROUNDS, in the folder of rows.csv and ids.csv.
 
 In each round each program runs once on each case, one after the other, so that what else the machine does falls on all
-alike. The time of a program is its best round, from its start to its end; its memory is its greatest resident set.
+alike. The time of a program is its best round, from its start to its end; its memory is its greatest resident set. Busy is the time of
+the processors over all threads, in further runs.
 """
 import os
 import sys
 
-from timed import memory, run
+from timed import busy, memory, run
 
 CASES = [
     ("rows.csv", "units", "sum", []),
@@ -54,8 +55,8 @@ for _ in range(rounds):
             best[case, i] = min(seconds, best.get((case, i), seconds))
 
 rustc, sqlite = (run([it, "--version"], "")[1].split() for it in ("rustc", "sqlite3"))
-print(f"{os.cpu_count()} cores, rustc {rustc[1]}, sqlite3 {sqlite[0]}, best of {rounds} rounds\n")
-heads = "cell|answer|olapd ms|plain ms|sqlite3 ms|olapd / plain|sqlite3 / olapd|olapd MB|plain MB|sqlite3 MB"
+print(f"{len(os.sched_getaffinity(0))} cores, rustc {rustc[1]}, sqlite3 {sqlite[0]}, best of {rounds} rounds\n")
+heads = "cell|answer|olapd ms|plain ms|sqlite3 ms|olapd / plain|sqlite3 / olapd|olapd busy ms|plain busy ms|olapd MB|plain MB|sqlite3 MB"
 print(f"| {heads.replace('|', ' | ')} |\n{'|---' * (heads.count('|') + 1)}|")
 met = True
 for case, (file, column, aggregator, pairs) in enumerate(CASES):
@@ -67,6 +68,7 @@ for case, (file, column, aggregator, pairs) in enumerate(CASES):
         met = met and a <= TARGET_PLAIN * b and c >= TARGET_SQLITE * a
     times = f"{a * 1e3:.0f} | {b * 1e3:.0f} | {c * 1e3:.0f} | {a / b:.2f} | {c / a:.1f}"
     sizes = " | ".join(f"{memory(*it):.1f}" for it in programs[case])
-    print(f"| {' '.join([file, column, aggregator, *pairs])} | {mine} | {times} | {sizes} |")
+    work = " | ".join(f"{busy(*it) * 1e3:.0f}" for it in programs[case][:2])
+    print(f"| {' '.join([file, column, aggregator, *pairs])} | {mine} | {times} | {work} | {sizes} |")
 told_mark = "met" if met else "not met"
 print(f"\n{MARKED}: at most {TARGET_PLAIN} times the plain program's time, and {TARGET_SQLITE} times as fast as sqlite3: {told_mark}")

@@ -1,3 +1,2 @@
-pub mod LevelFacts
 pub mod JobFacts
 pub mod CallFacts

@@ -2,9 +2,10 @@
 //!
 //! The columns are year, quarter, state and city, and the values of each are numbered from 0 by first appearance. The
 //! measures are the units, by their sum and by their count.
-use crate::opened::{LATER, SALES};
+use crate::opened::LATER;
 use crate::steps::{Act, Step, play};
 use olap_meaning::Who;
+use sample_catalogs::SALES;
 use std::test::Fail;
 
 const FIRST: Who = Who { seat: 1, call: 1 };

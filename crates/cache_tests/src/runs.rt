@@ -3,13 +3,14 @@ ghost use Rattle.std.specs.Prelude.{◌≡◌, ◌≤◌, All, IfOk};
 ghost use Rattle.cache_manager.specs.Runs.{MayCall};
 
 use crate::checks::are_known;
-use crate::opened::{LATER, SALES, open, read};
+use crate::opened::{LATER, open, read};
 use crate::steps::{Asked, asked_cells};
 use crate::told::told_reply;
 use cache_manager::{Call, Run, run_calls};
 use fact_batches::Steps;
 use olap_catalog::Catalog;
 use olap_meaning::{CubeId, List, OutOfMemory, ROW_LIMIT};
+use sample_catalogs::SALES;
 use std::alloc::Global;
 use std::marker::Brand;
 use std::process::Abort;

@@ -2,18 +2,17 @@
 ghost use Rattle.std.specs.Prelude.{◌≡◌, ◌<◌, IsTrue, length};
 ghost use Rattle.fact_rows.specs.BatchFiles.{HasDimensions};
 
-use crate::opened::{SCHEMA, STORE, TIME, open};
+use crate::opened::{SCHEMA, STORE, open};
 use fact_batches::{Batch, Piece, Steps};
 use fact_rows::{BatchFault, read_batch};
 use olap_catalog::Catalog;
 use olap_meaning::{CubeId, OutOfMemory};
+use sample_catalogs::{SALES, TIME};
 use std::alloc::Global;
 use std::marker::Brand;
 use std::process::Abort;
 use std::sync::ledger::{Blank, Ledger};
 use std::test::Fail;
-
-const SALES: &[u8] = b"time_id,store_id,customer,units\n1,1,10,5\n1,2,11,7\n2,1,10,3\n3,3,12,\n";
 
 // The same rows in another order of columns, with one column twice and one more, quoted fields, lines that end with
 // CRLF, a byte order mark, a blank line, and no end of the last line.

@@ -1,4 +1,5 @@
-//! Tests of catalogs over the sample files: names, members and boxes; and of what the files of tables and batches say.
+//! Tests of catalogs over the sample files: names, members and boxes; of what the files of tables and batches say; and of
+//! the parts of a file.
 #![tactic(auto)]
 
 #[cfg(test)]
@@ -7,5 +8,7 @@ mod batches;
 mod members;
 #[cfg(test)]
 mod opened;
+#[cfg(test)]
+mod parts;
 #[cfg(test)]
 mod tables;

@@ -1,7 +1,8 @@
 //! Members, by paths of names, and their boxes.
-use crate::opened::{SCHEMA, STORE, TIME, open};
+use crate::opened::{SCHEMA, STORE, open};
 use olap_catalog::{Catalog, NameFault};
 use olap_meaning::{ColumnId, List, Member, Text, ValueId};
+use sample_catalogs::TIME;
 use std::alloc::Global;
 use std::test::Fail;
 

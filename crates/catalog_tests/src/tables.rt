@@ -1,7 +1,8 @@
 //! What the files of dimension tables say.
-use crate::opened::{SCHEMA, TIME};
+use crate::opened::SCHEMA;
 use cube_schema::read_schema;
 use dim_tables::read_table;
+use sample_catalogs::TIME;
 use std::alloc::Global;
 use std::process::Abort;
 use std::test::Fail;

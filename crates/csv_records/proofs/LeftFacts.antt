@@ -15,7 +15,7 @@ pub if_some : (b : Bool) (r q : Read) (o : Option Read) → (if b then Some r el
 if_some true r q o e = inl (cc e)
 if_some false r q o e = inr e
 
-some_or_none : (o : Option Read) → (o ≡ None) ⊎ ((p : Read) × (o ≡ Some p))
+pub some_or_none : (o : Option Read) → (o ≡ None) ⊎ ((p : Read) × (o ≡ Some p))
 some_or_none None = inl refl
 some_or_none (Some p) = inr (p, refl)
 
@@ -37,7 +37,7 @@ rest_shorter cfg s f p (c ∷ rest) q e =
       ]
     ]
 
-from_end : (cfg : Config) (n : ℕ) → records_from cfg n st.StartRecord [] ≡ []
+pub from_end : (cfg : Config) (n : ℕ) → records_from cfg n st.StartRecord [] ≡ []
 unfolding records_from next_record
 from_end cfg zero = refl
 from_end cfg (suc n) = refl

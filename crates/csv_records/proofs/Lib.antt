@@ -2,3 +2,4 @@ pub mod LeftFacts
 pub mod FieldFacts
 pub mod NumberFacts
 pub mod AsciiFacts
+pub mod PartFacts

@@ -6,7 +6,9 @@
 #![tactic(auto)]
 
 mod fields;
+mod parts;
 mod record;
 
 pub use fields::{is_text, number};
+pub use parts::record_parts;
 pub use record::{Record, Rows};

@@ -3,3 +3,4 @@ pub mod FaultFacts
 pub mod WordFacts
 pub mod ReplyFacts
 pub mod RunFacts
+pub mod PartFacts

@@ -3,3 +3,4 @@ pub mod Faults
 pub mod Said
 pub mod Run
 pub mod RunWords
+pub mod Parted

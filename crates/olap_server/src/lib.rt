@@ -4,6 +4,7 @@
 mod bound_query;
 mod cell;
 mod command;
+mod part;
 mod query;
 mod reply;
 mod run_words;

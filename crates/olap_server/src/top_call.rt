@@ -23,10 +23,14 @@ use olap_base::{CellValue, OutOfMemory, Text, name_text, plain_text};
 use outside::{Depot, DepotRefusal, Failed, Sink, Source};
 use std::alloc::Global;
 use std::sync::ledger::Ledger;
+use std::thread::Threads;
 
 /// Carries out a command line: its words are those behind the program's name. Where it opens a cache, it serves a session
 /// from the input to the output over it, and gives the cache's history.
+///
+/// Threads of the runtime read the parts of a large file for `cell`, and end before the call does.
 pub fn run<D: Depot, S: Source, O: Sink, L: Ledger>(
+    rt: &(impl Threads + Sync),
     alloc: Global,
     words: &[String],
     depot: &mut D,
@@ -65,7 +69,7 @@ pub fn run<D: Depot, S: Source, O: Sink, L: Ledger>(
     match run_file(words) {
         Some(file) => run_session(alloc, file, depot, input, output, steps),
         None => {
-            let reply = reply_to_words(alloc, words, depot);
+            let reply = reply_to_words(rt, alloc, words, depot);
             let status = say(output, &reply);
             Ended {
                 status,
@@ -127,7 +131,12 @@ pub(crate) fn say<O: Sink>(output: &mut O, reply: &Reply) -> Status
 }
 
 // What is to be said to words that are not the command `run`.
-fn reply_to_words<D: Depot>(alloc: Global, words: &[String], depot: &mut D) -> Reply
+fn reply_to_words<D: Depot>(
+    rt: &(impl Threads + Sync),
+    alloc: Global,
+    words: &[String],
+    depot: &mut D,
+) -> Reply
     ensures { WordsTell (command_of (map string_bytes words.now)) (record {
       files = D.files depot.old;
       faults_before = D.faults depot.old;
@@ -137,7 +146,7 @@ fn reply_to_words<D: Depot>(alloc: Global, words: &[String], depot: &mut D) -> R
     }) result.status result.text }
 {
     match read_command(alloc, words) {
-        Ok(Some(command)) => reply_to_command(alloc, &command, depot),
+        Ok(Some(command)) => reply_to_command(rt, alloc, &command, depot),
         Ok(None) => Reply::fixed(Status::Usage, "USAGE\n"),
         Err(OutOfMemory) => no_memory(),
     }
@@ -150,7 +159,12 @@ pub(crate) fn no_memory() -> Reply
 }
 
 // What is to be said to a command.
-fn reply_to_command<D: Depot>(alloc: Global, command: &CellCommand<'_>, depot: &mut D) -> Reply
+fn reply_to_command<D: Depot>(
+    rt: &(impl Threads + Sync),
+    alloc: Global,
+    command: &CellCommand<'_>,
+    depot: &mut D,
+) -> Reply
     ensures { CommandTells command.now (record {
       files = D.files depot.old;
       faults_before = D.faults depot.old;
@@ -160,7 +174,7 @@ fn reply_to_command<D: Depot>(alloc: Global, command: &CellCommand<'_>, depot: &
     }) result.status result.text }
 {
     match depot.fetch(alloc, command.file()) {
-        Ok(bytes) => reply_to_file(alloc, command, bytes.as_slice()),
+        Ok(bytes) => reply_to_file(rt, alloc, command, bytes.as_slice()),
         Err(DepotRefusal::Missing) => made_reply(
             Status::NoFile,
             missing_line(alloc, command.file()),
@@ -171,11 +185,17 @@ fn reply_to_command<D: Depot>(alloc: Global, command: &CellCommand<'_>, depot: &
 }
 
 // What is to be said of the command's file.
-fn reply_to_file(alloc: Global, command: &CellCommand<'_>, bytes: &[u8]) -> Reply
+fn reply_to_file(
+    rt: &(impl Threads + Sync),
+    alloc: Global,
+    command: &CellCommand<'_>,
+    bytes: &[u8],
+) -> Reply
     ensures { AnswerTells (answer_of command.now.query (file_records bytes.now)) command.now.file result.status result.text
         ⊎ (result ≡ no_memory) }
 {
     match cell_of_csv(
+        rt,
         alloc,
         bytes,
         command.column(),

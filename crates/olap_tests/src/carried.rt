@@ -6,9 +6,11 @@ use olap_server::{Ended, run};
 use outside::{MemoryDepot, MemorySink, MemorySource};
 use std::alloc::Global;
 use std::sync::ledger::{Blank, Ledger};
+use std::thread::Threads;
 
 /// Carries out a command line, with a counter of steps of its own.
 pub(crate) fn carry_out<L: Ledger>(
+    rt: &(impl Threads + Sync),
     alloc: Global,
     words: &[String],
     depot: &mut MemoryDepot,
@@ -21,5 +23,5 @@ pub(crate) fn carry_out<L: Ledger>(
     requires one { blank.parts ≡ 1 }
 {
     let mut steps: Steps<L> = Steps::new(blank);
-    run(alloc, words, depot, input, output, &mut steps)
+    run(rt, alloc, words, depot, input, output, &mut steps)
 }

@@ -3,15 +3,13 @@ use crate::carried::carry_out;
 use olap_base::{List, OutOfMemory, Text};
 use olap_server::Status;
 use outside::{Calls, MemoryDepot, MemorySink, MemorySource};
+use sample_catalogs::{SALES, TIME};
 use std::alloc::{AllocError, Global};
 use std::marker::Brand;
 use std::process::Abort;
 use std::sync::ledger::Blank;
 use std::test::Fail;
-
-const SALES: &[u8] = b"time_id,store_id,customer,units\n1,1,10,5\n1,2,11,7\n2,1,10,3\n3,3,12,\n";
-
-const TIME: &[u8] = b"time_id,year,quarter\n1,1997,Q1\n2,1997,Q2\n3,1998,Q1\n";
+use std::thread::Threads;
 
 // Words parted by white space.
 fn words_of(alloc: Global, line: &str) -> Result<Vec<String>, AllocError> {
@@ -45,21 +43,21 @@ fn plan(alloc: Global, first_fails: bool) -> Result<Calls, OutOfMemory> {
     Ok(Calls::failing(failing))
 }
 
-// What the outside holds, and whether and where it fails.
+/// What the outside holds, and whether and where it fails.
 #[derive(Clone, Copy)]
-struct Outside {
+pub(crate) struct Outside<'a> {
     name: &'static str,
-    bytes: &'static [u8],
+    bytes: &'a [u8],
     fetch_fails: bool,
     write_fails: bool,
     room: Option<u64>,
 }
 
-// Runs the words over the outside, and compares how it ends and what is written.
-fn expect(
-    rt: &impl Abort,
+/// Runs the words over the outside, and compares how it ends and what is written.
+pub(crate) fn expect(
+    rt: &(impl Abort + Threads + Sync),
     alloc: Global,
-    outside: Outside,
+    outside: Outside<'_>,
     line: &str,
     status: Status,
     told: &str,
@@ -74,6 +72,7 @@ fn expect(
     let mut output = MemorySink::new(alloc, plan(alloc, outside.write_fails)?, outside.room);
     let mut input = MemorySource::new(List::new(alloc), Calls::passing(alloc), None, None);
     let ended = carry_out::<Brand>(
+        rt,
         alloc,
         words.as_slice(),
         &mut depot,
@@ -86,8 +85,8 @@ fn expect(
     Ok(())
 }
 
-// An outside that holds one file and never fails.
-fn holding(name: &'static str, bytes: &'static [u8]) -> Outside {
+/// An outside that holds one file and never fails.
+pub(crate) fn holding<'a>(name: &'static str, bytes: &'a [u8]) -> Outside<'a> {
     Outside {
         name,
         bytes,

@@ -9,6 +9,8 @@ mod cell;
 #[cfg(test)]
 mod faults;
 #[cfg(test)]
+mod large;
+#[cfg(test)]
 mod runs;
 #[cfg(test)]
 mod sources;

@@ -3,30 +3,22 @@ use crate::carried::carry_out;
 use olap_base::{List, OutOfMemory, Text};
 use olap_server::Status;
 use outside::{Calls, MemoryDepot, MemorySink, MemorySource};
+use sample_catalogs::{SALES, SCHEMA, TIME};
 use std::alloc::Global;
 use std::marker::Brand;
 use std::process::Abort;
 use std::sync::ledger::Blank;
 use std::test::Fail;
-
-/// Time without an all member, Store with one, and the cube Sales over both.
-const SCHEMA: &[u8] =
-    b"{\"dimensions\":[{\"name\":\"Time\",\"table\":\"time.csv\",\"primaryKey\":\"time_id\",\"hierarchies\":[{\"hasAll\":false,\"levels\":[{\"name\":\"Year\",\"column\":\"year\"},{\"name\":\"Quarter\",\"column\":\"quarter\"}]}]},{\"name\":\"Store\",\"table\":\"store.csv\",\"primaryKey\":\"store_id\",\"hierarchies\":[{\"levels\":[{\"name\":\"State\",\"column\":\"state\"},{\"name\":\"City\",\"column\":\"city\"}]}]}],\"cubes\":[{\"name\":\"Sales\",\"fact\":\"sales.csv\",\"dimensions\":[{\"source\":\"Time\",\"foreignKey\":\"time_id\"},{\"source\":\"Store\",\"foreignKey\":\"store_id\"}],\"measures\":[{\"name\":\"Units\",\"column\":\"units\",\"aggregator\":\"sum\"},{\"name\":\"Count\",\"column\":\"units\",\"aggregator\":\"count\"}]}]}";
+use std::thread::Threads;
 
 const FILES: [(&str, &[u8]); 4] = [
     ("sales.json", SCHEMA),
-    (
-        "time.csv",
-        b"time_id,year,quarter\n1,1997,Q1\n2,1997,Q2\n3,1998,Q1\n",
-    ),
+    ("time.csv", TIME),
     (
         "store.csv",
         b"store_id,state,city\n1,CA,LA\n2,C]A,SF\n3,WA,Seattle\n",
     ),
-    (
-        "sales.csv",
-        b"time_id,store_id,customer,units\n1,1,10,5\n1,2,11,7\n2,1,10,3\n3,3,12,\n",
-    ),
+    ("sales.csv", SALES),
 ];
 
 /// What comes from outside, how many bytes a read gives at most and the output takes, and what fails there: the fetch, the
@@ -62,7 +54,7 @@ fn depot(alloc: Global, failing: Option<u64>) -> Result<MemoryDepot, OutOfMemory
 /// Carries out the words, and compares the status, what was written, and how many entries the history has, where one was
 /// handed back.
 fn expect(
-    rt: &impl Abort,
+    rt: &(impl Abort + Threads + Sync),
     alloc: Global,
     words: &[&str],
     outside: Outside,
@@ -79,6 +71,7 @@ fn expect(
     let mut input = MemorySource::new(bytes, calls(alloc, outside.read)?, None, outside.most);
     let mut output = MemorySink::new(alloc, calls(alloc, outside.write)?, outside.room);
     let ended = carry_out::<Brand>(
+        rt,
         alloc,
         given.as_slice(),
         &mut depot,

@@ -12,6 +12,7 @@ use std::marker::Brand;
 use std::process::ExitCode;
 use std::rt::Env;
 use std::sync::ledger::{Blank, Ledger};
+use std::thread::Threads;
 use std::{env, io};
 
 // The words behind the program's name.
@@ -21,6 +22,7 @@ fn words(rt: &(impl Env + AllocGlobal)) -> io::Result<Vec<String>> {
 
 // Carries out the words, with a counter of steps that begins at 0.
 fn carry_out<D: Depot, S: Source, O: Sink, L: Ledger>(
+    rt: &(impl Threads + Sync),
     alloc: Global,
     words: &[String],
     depot: &mut D,
@@ -33,7 +35,7 @@ fn carry_out<D: Depot, S: Source, O: Sink, L: Ledger>(
     requires one { blank.parts ≡ 1 }
 {
     let mut steps: Steps<L> = Steps::new(blank);
-    run(alloc, words, depot, input, output, &mut steps).status
+    run(rt, alloc, words, depot, input, output, &mut steps).status
 }
 
 fn main(rt: HostRuntime) -> ExitCode {
@@ -53,6 +55,7 @@ fn main(rt: HostRuntime) -> ExitCode {
         }
     };
     let status = carry_out::<_, _, _, Brand>(
+        &rt,
         rt.alloc(),
         words.as_slice(),
         &mut depot,

@@ -1,9 +1,10 @@
 //! Caches opened from files in memory, and refused ones.
-use crate::sample::{SALES, SCHEMA, STORE, TIME};
+use crate::sample::STORE;
 use cache_manager::Manager;
 use cache_opening::{OpenFault, open_cache};
 use olap_meaning::{CubeId, List, OutOfMemory, Text};
 use outside::{Calls, MemoryDepot};
+use sample_catalogs::{SALES, SCHEMA, TIME};
 use std::alloc::Global;
 use std::process::Abort;
 use std::test::Fail;

@@ -6,21 +6,14 @@ use fact_batches::Steps;
 use line_session::{SessionEnd, serve};
 use olap_meaning::{List, OutOfMemory, Text};
 use outside::{Calls, MemoryDepot, MemorySink, MemorySource};
+use sample_catalogs::{SALES, SCHEMA, TIME};
 use std::alloc::Global;
 use std::process::Abort;
 use std::sync::ledger::{Blank, Ledger};
 use std::test::Fail;
 
-/// Time without an all member, Store with one, and the cube Sales over both.
-pub(crate) const SCHEMA: &[u8] =
-    b"{\"dimensions\":[{\"name\":\"Time\",\"table\":\"time.csv\",\"primaryKey\":\"time_id\",\"hierarchies\":[{\"hasAll\":false,\"levels\":[{\"name\":\"Year\",\"column\":\"year\"},{\"name\":\"Quarter\",\"column\":\"quarter\"}]}]},{\"name\":\"Store\",\"table\":\"store.csv\",\"primaryKey\":\"store_id\",\"hierarchies\":[{\"levels\":[{\"name\":\"State\",\"column\":\"state\"},{\"name\":\"City\",\"column\":\"city\"}]}]}],\"cubes\":[{\"name\":\"Sales\",\"fact\":\"sales.csv\",\"dimensions\":[{\"source\":\"Time\",\"foreignKey\":\"time_id\"},{\"source\":\"Store\",\"foreignKey\":\"store_id\"}],\"measures\":[{\"name\":\"Units\",\"column\":\"units\",\"aggregator\":\"sum\"},{\"name\":\"Count\",\"column\":\"units\",\"aggregator\":\"count\"}]}]}";
-
-pub(crate) const TIME: &[u8] = b"time_id,year,quarter\n1,1997,Q1\n2,1997,Q2\n3,1998,Q1\n";
-
+/// The stores of the sample, with a bracket in a name.
 pub(crate) const STORE: &[u8] = b"store_id,state,city\n1,C]A,LA\n2,C]A,SF\n3,WA,Seattle\n";
-
-pub(crate) const SALES: &[u8] =
-    b"time_id,store_id,customer,units\n1,1,10,5\n1,2,11,7\n2,1,10,3\n3,3,12,\n";
 
 const FILES: [(&str, &[u8]); 4] = [
     ("sales.json", SCHEMA),
