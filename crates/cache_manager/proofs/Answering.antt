@@ -9,14 +9,13 @@ use Rattle.olap_meaning.specs.declared.cells.Who.{Who}
 use Rattle.olap_meaning.specs.declared.tables.Catalog.{Catalog}
 use Rattle.olap_meaning.specs.declared.tables.Setting.{Setting}
 use Rattle.olap_meaning.specs.History.{Entry, Answer, Load, exact_source, floor, load_at, load_version}
-use Rattle.olap_meaning.specs.Legal.{IsAnswered, IsSource, Legal, LegalStep, is_next_call}
+use Rattle.olap_meaning.specs.Legal.{IsAnswered, IsSource, Legal, LegalStep, is_next_call, is_cell}
 use Rattle.olap_meaning.specs.Worth.{answered_version}
 use Rattle.olap_meaning.proofs.Fresh.{answers_are_fresh}
 use Rattle.olap_meaning.proofs.Growing.{floor_grows, legal_grows}
 use Rattle.olap_meaning.proofs.Positions.{get_last}
-use Rattle.cache_manager.specs.declared.answers.Answered.{Answered}
-use Rattle.cache_manager.specs.Answers.{source_of}
-use Rattle.cache_manager.specs.Groups.{is_known}
+use Rattle.history_core.specs.declared.answers.Answered.{Answered}
+use Rattle.history_core.specs.Answers.{source_of}
 use Rattle.cache_manager.proofs.Pushes.{load_on}
 
 pub some_number : (o : Option ℕ) → is_some o ≡ true → (n : ℕ) × (o ≡ Some n)
@@ -27,11 +26,11 @@ some_number (Some n) h = (n, refl)
 pub source_is : (catalog : Catalog) (entries : List Entry) (cell : Cell) → is_some (exact_source entries cell) ≡ true → IsSource catalog entries cell (option_to_list (exact_source entries cell))
 source_is catalog entries cell served = let found = some_number (exact_source entries cell) served in rw found.1 refl
 
-one_answered : (setting : Setting) (entries : List Entry) (cell : Cell) → is_known setting.catalog cell ≡ true → is_some (exact_source entries cell) ≡ true → IsAnswered setting entries (source_of entries cell)
-one_answered setting entries cell known served = record { known = (and_parts _ _ known).0; source = source_is setting.catalog entries cell served }
+one_answered : (setting : Setting) (entries : List Entry) (cell : Cell) → is_cell setting.catalog cell ≡ true → is_some (exact_source entries cell) ≡ true → IsAnswered setting entries (source_of entries cell)
+one_answered setting entries cell known served = record { known = known; source = source_is setting.catalog entries cell served }
 
 pub each_answered :
-    (setting : Setting) (entries : List Entry) (cells : List Cell) → list_all (is_known setting.catalog) cells ≡ true → list_all (λ cell. is_some (exact_source entries cell)) cells ≡ true
+    (setting : Setting) (entries : List Entry) (cells : List Cell) → list_all (is_cell setting.catalog) cells ≡ true → list_all (λ cell. is_some (exact_source entries cell)) cells ≡ true
     → Each (IsAnswered setting entries) (map (source_of entries) cells)
 each_answered setting entries [] known served = tt
 each_answered setting entries (cell ∷ cells) known served =
@@ -42,7 +41,7 @@ some_version None v h = absurd (cc)
 some_version (Some load) v h = (load, refl, cc)
 
 -- no cell is answered in a version below its floor
-fresh_one : (setting : Setting) (entries : List Entry) (who : Who) (cell : Cell) (v : ℕ) → Legal setting entries → is_next_call entries who ≡ true → is_known setting.catalog cell ≡ true → answered_version entries (source_of entries cell) ≡ Some v → floor entries cell ≤ v
+fresh_one : (setting : Setting) (entries : List Entry) (who : Who) (cell : Cell) (v : ℕ) → Legal setting entries → is_next_call entries who ≡ true → is_cell setting.catalog cell ≡ true → answered_version entries (source_of entries cell) ≡ Some v → floor entries cell ≤ v
 fresh_one setting entries who cell v legal call known at = by (exact_source entries cell) refl at
   where
     source : CellSource
@@ -69,7 +68,7 @@ fresh_one setting entries who cell v legal call known at = by (exact_source entr
         omega (arith, floors, fresh.2, same)
 
 pub all_fresh :
-    (setting : Setting) (entries : List Entry) (who : Who) (cells : List Cell) (answered : List Answered) → Legal setting entries → is_next_call entries who ≡ true → list_all (is_known setting.catalog) cells ≡ true
+    (setting : Setting) (entries : List Entry) (who : Who) (cells : List Cell) (answered : List Answered) → Legal setting entries → is_next_call entries who ≡ true → list_all (is_cell setting.catalog) cells ≡ true
     → map (λ cell. answered_version entries (source_of entries cell)) cells ≡ map (λ one. Some one.version) answered
     → list_all (λ pair. nat_le (floor entries pair.0) pair.1.version) (zip cells answered) ≡ true
 all_fresh setting entries who [] answered legal call known same = refl

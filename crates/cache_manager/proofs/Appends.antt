@@ -6,15 +6,16 @@ use Rattle.olap_meaning.specs.declared.cells.Who.{Who}
 use Rattle.olap_meaning.specs.History.{Append, version}
 use Rattle.olap_meaning.specs.Legal.{IsLegalAppend, Legal, is_next_call}
 use Rattle.olap_meaning.proofs.Growing.{version_grows}
-use Rattle.fact_batches.specs.FactRows.{FactRows}
+use Rattle.fact_versions.specs.FactRows.{FactRows}
 use Rattle.fact_versions.specs.declared.faults.AppendFault.{AppendFault}
-use Rattle.fact_versions.specs.Facts.{FactsOf, IsAlike, append_fault, batches_of, with_batch}
+use Rattle.fact_versions.specs.Facts.{FactsOf, IsAlike, append_fault, arrival, batches_of, with_batch}
 use Rattle.history_core.specs.History.{HistoryOf}
 use Rattle.segment_load.specs.Loads.{is_batch}
-use Rattle.cache_manager.specs.Cache.{CacheOf, append_refusal}
+use Rattle.history_core.specs.Cache.{CacheOf}
+use Rattle.cache_manager.specs.Arrivals.{arrival_in}
 use Rattle.cache_manager.specs.Kept.{AreFactsOf}
 use Rattle.cache_manager.proofs.Ends.{cache_of}
-use Rattle.cache_manager.proofs.Facts.{admitted, all_alike, next_version, same_refusal}
+use Rattle.cache_manager.proofs.Facts.{admitted, all_alike, next_version, same_arrival}
 
 module _ (cache : CacheOf) (history : HistoryOf) (facts : FactsOf) (who : Who) (cube : ℕ) (batch : FactRows) (is : cache_of history ≡ cache) (are : AreFactsOf history.setting history.entries facts) (known : cube < length cache.setting.catalog.cubes) (fits : IsTrue (is_batch cache.setting.catalog cube batch)) where
   fits_here : is_batch history.setting.catalog cube batch ≡ true
@@ -32,16 +33,16 @@ module _ (cache : CacheOf) (history : HistoryOf) (facts : FactsOf) (who : Who) (
   pub alike_all : All (IsAlike batch) (batches_of facts cube)
   alike_all = all_alike history.setting.catalog cube batch (batches_of facts cube) fits_here (are.fit cube)
 
-  pub refused : (o : Option AppendFault) → append_fault facts cube batch ≡ o → append_refusal cache cube batch.rows ≡ o
-  refused o h = ap (λ (k : CacheOf). append_refusal k cube batch.rows) (sym is) ∙ sym (same_refusal (cache_of history) facts cube batch are) ∙ h
+  pub refused : (o : Option AppendFault) → append_fault (arrival facts cube batch) ≡ o → append_fault (arrival_in cache cube batch.rows) ≡ o
+  refused o h = ap (λ (k : CacheOf). append_fault (arrival_in k cube batch.rows)) (sym is) ∙ sym (ap append_fault (same_arrival (cache_of history) facts cube batch are)) ∙ h
 
   module _ (v : ℕ) (made : v ≡ length (batches_of (with_batch facts cube batch) cube)) where
     next : v ≡ version history.entries cube + 1
     next = next_version (cache_of history) facts cube v batch are known_cube made
 
-    pub legal_append : Legal history.setting history.entries → IsTrue (is_next_call cache.entries who) → append_fault facts cube batch ≡ None → IsLegalAppend history.setting history.entries who cube v batch.rows
+    pub legal_append : Legal history.setting history.entries → IsTrue (is_next_call cache.entries who) → append_fault (arrival facts cube batch) ≡ None → IsLegalAppend history.setting history.entries who cube v batch.rows
     legal_append legal call passes =
-        admitted (cache_of history) who cube v batch legal (sym (same_refusal (cache_of history) facts cube batch are) ∙ passes) next
+        admitted (cache_of history) who cube v batch legal (sym (ap append_fault (same_arrival (cache_of history) facts cube batch are)) ∙ passes) next
         (subst (λ (k : CacheOf). IsTrue (is_next_call k.entries who)) (sym is) call) known_here fits_here
 
     pub entry_is : history.entries ++ Append who cube v batch.rows ∷ [] ≡ cache.entries ++ Append who cube (version cache.entries cube + 1) batch.rows ∷ []

@@ -13,7 +13,7 @@ use Rattle.fact_versions.specs.Facts.{FactsOf}
 use Rattle.history_core.specs.History.{HistoryOf}
 use Rattle.cache_manager.specs.declared.kept.Kept.{Kept}
 use Rattle.cache_manager.specs.declared.kept.Flight.{Flight}
-use Rattle.cache_manager.specs.Cache.{CacheOf}
+use Rattle.history_core.specs.Cache.{CacheOf}
 use Rattle.cache_manager.specs.Jobs.{IsOwn, IsOwnBody}
 use Rattle.cache_manager.specs.Kept.{IsKept, IsManager}
 use Rattle.segment_body.specs.BodyOf.{BodyOf}

@@ -19,11 +19,11 @@ use Rattle.olap_meaning.specs.declared.tables.Cube.{Cube}
 use Rattle.olap_meaning.proofs.Growing.{version_grows}
 use Rattle.olap_meaning.proofs.Positions.{take-push}
 use Rattle.olap_meaning.specs.Legal as legal
-use Rattle.fact_batches.specs.FactRows.{FactRows}
-use Rattle.fact_versions.specs.Facts.{FactsOf, IsAlike, append_fault, batches_of, rows_held, rows_of_batches, with_batch}
-use Rattle.fact_versions.specs.declared.faults.AppendFault.{AppendFault}
+use Rattle.fact_versions.specs.FactRows.{FactRows}
+use Rattle.fact_versions.specs.Facts.{Arrival, FactsOf, IsAlike, append_fault, arrival, batches_of, rows_held, rows_of_batches, with_batch}
 use Rattle.fact_versions.specs.declared.faults.AppendFault.TheVariants.{TooManyRows, TooManyVersions}
-use Rattle.cache_manager.specs.Cache.{CacheOf, append_refusal}
+use Rattle.history_core.specs.Cache.{CacheOf}
+use Rattle.cache_manager.specs.Arrivals.{arrival_in}
 use Rattle.fact_versions.proofs.Grown.{batches_of-with_batch, batches_of-with_batch_other, length-cubes}
 use Rattle.segment_load.specs.Loads.{are_batches, is_batch, rows_in}
 use Rattle.cache_manager.specs.Kept.{AreFactsOf}
@@ -53,12 +53,12 @@ module _ (setting : Setting) (entries : List Entry) (facts : FactsOf) (are : Are
 
 -- an entry that appends nothing leaves the facts
 pub facts_on :
-    (setting : Setting) (entries : List Entry) (facts : FactsOf) (entry : Entry) → ((cube : ℕ) → appended cube entry ≡ None) → legal.rows_in entry ≡ 0
+    (setting : Setting) (entries : List Entry) (facts : FactsOf) (entry : Entry) → ((cube : ℕ) → appended cube entry ≡ None) → legal.rows_added entry ≡ 0
     → AreFactsOf setting entries facts → AreFactsOf setting (entries ++ entry ∷ []) facts
 facts_on setting entries facts entry none nothing are = record {
   limit = are.limit;
   cubes = are.cubes;
-  held = are.held ∙ sym (sum_by_push legal.rows_in entries entry ∙ ap (λ n. legal.rows_held entries + n) nothing ∙ omega arith);
+  held = are.held ∙ sym (sum_by_push legal.rows_added entries entry ∙ ap (λ n. legal.rows_held entries + n) nothing ∙ omega arith);
   each = λ cube. are.each cube ∙ sym (filter_map-append (appended cube) entries (entry ∷ []) ∙ rw (none cube) (append-nil (filter_map (appended cube) entries)));
   fit = are.fit;
 }
@@ -70,7 +70,7 @@ pub facts_more :
 facts_more setting entries facts who cube v batch known fits are = record {
   limit = are.limit;
   cubes = length-cubes facts cube batch ∙ are.cubes;
-  held = omega (arith, held_more, are.held, sum_by_push legal.rows_in entries (Append who cube v batch.rows));
+  held = omega (arith, held_more, are.held, sum_by_push legal.rows_added entries (Append who cube v batch.rows));
   each = λ other. by other (cases_eq other cube);
   fit = λ other. fits_in other (cases_eq other cube);
 }
@@ -137,15 +137,15 @@ all_alike catalog cube batch (one ∷ others) fits all =
     All-cons (IsAlike batch) one others (alike catalog cube batch one fits parts.0) (all_alike catalog cube batch others fits parts.1)
 
 -- why so many rows are refused, by the limit, the rows held and the version
-abbrev fault_of : ℕ → ℕ → ℕ → ℕ → Option AppendFault
-fault_of rows limit held v = cond (nat_lt limit (held + rows)) (Some (TooManyRows (held + rows) limit)) (cond (v == VERSION_LIMIT) (Some (TooManyVersions VERSION_LIMIT)) None)
+abbrev found_by : ℕ → ℕ → ℕ → ℕ → Arrival
+found_by rows limit held v = record { limit = limit; held = held; version = v; brought = rows }
 
--- a batch is refused by the facts as by the history
-pub same_refusal : (cache : CacheOf) (facts : FactsOf) (cube : ℕ) (batch : FactRows) → AreFactsOf cache.setting cache.entries facts → append_fault facts cube batch ≡ append_refusal cache cube batch.rows
-same_refusal cache facts cube batch are =
-    ap (λ (limit : ℕ). fault_of (length batch.rows) limit (rows_held facts) (length (batches_of facts cube))) are.limit
-    ∙ ap (λ (held : ℕ). fault_of (length batch.rows) cache.setting.row_limit held (length (batches_of facts cube))) are.held
-    ∙ ap (λ (v : ℕ). fault_of (length batch.rows) cache.setting.row_limit (legal.rows_held cache.entries) v) (version_held cache.setting cache.entries facts are cube)
+-- a batch finds in the facts what it finds in the history
+pub same_arrival : (cache : CacheOf) (facts : FactsOf) (cube : ℕ) (batch : FactRows) → AreFactsOf cache.setting cache.entries facts → arrival facts cube batch ≡ arrival_in cache cube batch.rows
+same_arrival cache facts cube batch are =
+    ap (λ (limit : ℕ). found_by (length batch.rows) limit (rows_held facts) (length (batches_of facts cube))) are.limit
+    ∙ ap (λ (held : ℕ). found_by (length batch.rows) cache.setting.row_limit held (length (batches_of facts cube))) are.held
+    ∙ ap (λ (v : ℕ). found_by (length batch.rows) cache.setting.row_limit (legal.rows_held cache.entries) v) (version_held cache.setting cache.entries facts are cube)
 
 -- a legal history has no version above the greatest
 version_limit : (setting : Setting) (entries : List Entry) (cube n : ℕ) → legal.Legal setting entries → n ≤ length entries → version (take n entries) cube ≤ VERSION_LIMIT
@@ -176,7 +176,7 @@ version_limit setting entries cube (suc n) lawful l = by (slice_get entries n) r
 
 -- a batch that is not refused may be appended
 pub admitted :
-    (cache : CacheOf) (who : Who) (cube v : ℕ) (batch : FactRows) → legal.Legal cache.setting cache.entries → append_refusal cache cube batch.rows ≡ None → v ≡ version cache.entries cube + 1
+    (cache : CacheOf) (who : Who) (cube v : ℕ) (batch : FactRows) → legal.Legal cache.setting cache.entries → append_fault (arrival_in cache cube batch.rows) ≡ None → v ≡ version cache.entries cube + 1
     → IsTrue (legal.is_next_call cache.entries who) → cube < length cache.setting.catalog.cubes → is_batch cache.setting.catalog cube batch ≡ true
     → legal.IsLegalAppend cache.setting cache.entries who cube v batch.rows
 admitted cache who cube v batch lawful passes next call known fits = by (nat_lt cache.setting.row_limit (legal.rows_held cache.entries + length batch.rows)) (version cache.entries cube == VERSION_LIMIT) refl refl passes

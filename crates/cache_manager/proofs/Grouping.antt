@@ -1,5 +1,5 @@
 -- Cells that may share a load, and the header of their load.
-use Rattle.std.proofs.Common.{◌≡◌, refl, sym, ◌∙◌, ap, subst, ℕ, zero, suc, ◌<◌, List, [], ◌∷◌, ◌++◌, length, map, filter, filter_map, Bool, true, false, cond, ◌&&◌, ◌||◌, ◌==◌, inl, inr, Option, Some, None, slice_get, option_map, bytes_eq, arith, Contains, append_assoc, drop, get_or}
+use Rattle.std.proofs.Common.{◌≡◌, refl, sym, ◌∙◌, ap, subst, ℕ, zero, suc, ◌+◌, ◌<◌, List, [], ◌∷◌, ◌++◌, length, map, filter, Bool, true, false, cond, ◌&&◌, ◌||◌, ◌==◌, inl, inr, Option, Some, None, slice_get, option_map, bytes_eq, arith, Contains, append_assoc, drop, take, get_or}
 use Rattle.std.specs.Prelude.{nat_lt}
 use Rattle.std.specs.List.{find, list_all, list_any}
 use Rattle.std.proofs.lemmas.Bool.{and_from, and_parts, eq-eqb, eqb-true, lt-ltb, ltb-true, or_cases, or_left, or_right}
@@ -9,13 +9,18 @@ use Rattle.olap_meaning.specs.declared.cells.Allowed.{Allowed}
 use Rattle.olap_meaning.specs.declared.cells.Allowed.TheVariants.{Set}
 use Rattle.olap_meaning.specs.declared.cells.Cell.{Cell}
 use Rattle.olap_meaning.specs.declared.tables.Catalog.{Catalog}
+use Rattle.olap_meaning.specs.Catalog.{values}
 use Rattle.olap_meaning.specs.Covering.{allows, among, header_covers, just_covers, names_column}
-use Rattle.olap_meaning.specs.Legal.{rise}
+use Rattle.olap_meaning.specs.Legal.{is_cell, is_column_of, is_value, rise}
 use Rattle.segment_header.specs.Headers.{is_header, is_set}
-use Rattle.cache_manager.specs.Groups.{alike, columns_of, firsts, header_for, is_known, value_on, values_on}
-use Rattle.cache_manager.proofs.Rising.{above_one, among_each, rise_put_all, same_rising}
-use Rattle.segment_load.specs.Loads.{is_column_of, is_loadable}
-use Rattle.std.proofs.lemmas.List.Folds.{list_all-map}
+use Rattle.cache_manager.specs.Groups.{alike, columns_of, firsts, has_on, header_for, value_on, values_on}
+use Rattle.cache_manager.proofs.Fronts.{front_more}
+use Rattle.cache_manager.proofs.Numbers.{passing_there, rise_passing, there_passes}
+use Rattle.cache_manager.proofs.Rising.{above_one, same_rising}
+use Rattle.segment_load.specs.Loads.{is_loadable}
+use Rattle.std.proofs.lemmas.List.{map_push}
+use Rattle.std.proofs.lemmas.List.Elements.{filter-append}
+use Rattle.std.proofs.lemmas.List.Folds.{list_all-map, list_any-append}
 use Rattle.olap_meaning.specs.History.{is_some_and}
 use Rattle.olap_meaning.specs.declared.tables.Cube.{Cube}
 
@@ -39,8 +44,8 @@ abbrev pub names : List (ℕ × ℕ) → List ℕ
 names at = map (λ pair. pair.0) at
 
 -- the columns of the header of some cells, with their values
-abbrev columns_for : List Cell → List (ℕ × ℕ) → List (ℕ × Allowed)
-columns_for cells at = map (λ pair. (pair.0, Set (values_on pair.0 cells))) at
+abbrev columns_for : Catalog → List Cell → List (ℕ × ℕ) → List (ℕ × Allowed)
+columns_for catalog cells at = map (λ pair. (pair.0, Set (values_on catalog cells pair.0))) at
 
 pub all_from : {A : Type 0} (p : A → Bool) (xs : List A) → ((k : ℕ) (x : A) → slice_get xs k ≡ Some x → p x ≡ true) → list_all p xs ≡ true
 all_from p [] each = refl
@@ -73,28 +78,71 @@ found_pair (p ∷ ps) (suc k) pair up h = rw (above_one p.0 pair.0 (name_above p
 value_here : (cell : Cell) (k : ℕ) (pair : ℕ × ℕ) → rise (columns_of cell) ≡ true → slice_get cell.at k ≡ Some pair → value_on pair.0 cell ≡ Some pair.1
 value_here cell k pair up h = ap (option_map (λ (q : ℕ × ℕ). q.1)) (found_pair cell.at k pair up h)
 
--- a cell of a group has its value among the group's
-in_group : (column v : ℕ) (cells : List Cell) (i : ℕ) (cell : Cell) → slice_get cells i ≡ Some cell → value_on column cell ≡ Some v → among (filter_map (value_on column) cells) v ≡ true
-in_group column v [] i cell at has = absurd (cc)
-in_group column v (c ∷ cs) zero cell at has =
-    let same : c ≡ cell = cc in
-    let here : value_on column c ≡ Some v = ap (value_on column) same ∙ has in
-    rw here (or_left _ _ (eq-eqb v v refl))
-in_group column v (c ∷ cs) (suc i) cell at has = by (value_on column c) refl (in_group column v cs i cell at has)
+-- a value that a cell of a catalog has in a column is one of the column
+found_value :
+    (catalog : Catalog) (column v : ℕ) (at : List (ℕ × ℕ)) → list_all (λ pair. nat_lt pair.0 (length catalog.columns) && is_value catalog pair.0 pair.1) at ≡ true
+    → is_some_and (λ (own : ℕ). own == v) (option_map (λ (q : ℕ × ℕ). q.1) (find (λ p. p.0 == column) at)) ≡ true → v < length (values catalog column)
+found_value catalog column v [] all h = absurd (cc)
+found_value catalog column v (p ∷ ps) all h = by (p.0 == column) refl h (found_value catalog column v ps (and_parts _ _ all).1)
   where
-    by : (o : Option ℕ) → value_on column c ≡ o → among (filter_map (value_on column) cs) v ≡ true → among (filter_map (value_on column) (c ∷ cs)) v ≡ true
-    by None e rest = rw e rest
-    by (Some w) e rest = rw e (or_right _ _ rest)
+    by : (b : Bool) → (p.0 == column) ≡ b → is_some_and (λ (own : ℕ). own == v) (option_map (λ (q : ℕ × ℕ). q.1) (find (λ q. q.0 == column) (p ∷ ps))) ≡ true
+        → (is_some_and (λ (own : ℕ). own == v) (option_map (λ (q : ℕ × ℕ). q.1) (find (λ q. q.0 == column) ps)) ≡ true → v < length (values catalog column)) → v < length (values catalog column)
+    by true e k later =
+        let same : p.1 ≡ v = eqb-true p.1 v (rw e at k) in
+        let here : is_value catalog p.0 p.1 ≡ true = (and_parts (nat_lt p.0 (length catalog.columns)) (is_value catalog p.0 p.1) (and_parts _ _ all).0).1 in
+        let l : p.1 < length (values catalog p.0) = ltb-true p.1 (length (values catalog p.0)) here in
+        let column_is : length (values catalog p.0) ≡ length (values catalog column) = ap (λ (n : ℕ). length (values catalog n)) (eqb-true p.0 column e) in
+        omega (arith, l, same, column_is)
+    by false e k later = later (rw e at k)
 
-has_value_on : (cells : List Cell) (i : ℕ) (cell : Cell) (k : ℕ) (pair : ℕ × ℕ) → rise (columns_of cell) ≡ true → slice_get cells i ≡ Some cell → slice_get cell.at k ≡ Some pair → among (values_on pair.0 cells) pair.1 ≡ true
-has_value_on cells i cell k pair up at there = among_each (filter_map (value_on pair.0) cells) [] pair.1 (in_group pair.0 pair.1 cells i cell at (value_here cell k pair up there))
+known_values : (catalog : Catalog) (cell : Cell) → is_cell catalog cell ≡ true → list_all (λ pair. nat_lt pair.0 (length catalog.columns) && is_value catalog pair.0 pair.1) cell.at ≡ true
+known_values catalog cell known = (and_parts _ _ (and_parts _ _ (and_parts _ _ known).0).0).1
 
-any_column : (cells : List Cell) (at : List (ℕ × ℕ)) (x v : ℕ) → among (names at) x ≡ true → among (values_on x cells) v ≡ true → list_any (λ column. (column.0 == x) && allows column.1 v) (columns_for cells at) ≡ true
-any_column cells [] x v h has = absurd (cc)
-any_column cells (p ∷ ps) x v h has =
+pub known_rises : (catalog : Catalog) (cell : Cell) → is_cell catalog cell ≡ true → rise (columns_of cell) ≡ true
+known_rises catalog cell known = (and_parts _ _ (and_parts _ _ known).0).1
+
+had_value : (catalog : Catalog) (cells : List Cell) (column v : ℕ) → list_all (is_cell catalog) cells ≡ true → list_any (has_on column v) cells ≡ true → v < length (values catalog column)
+had_value catalog [] column v known h = absurd (cc)
+had_value catalog (cell ∷ cells) column v known h =
+    elim (or_cases (has_on column v cell) (list_any (has_on column v) cells) h) [
+      | inl here ↦ found_value catalog column v cell.at (known_values catalog cell (and_parts _ _ known).0) here
+      | inr there ↦ had_value catalog cells column v (and_parts _ _ known).1 there
+    ]
+
+-- the values of cells of a catalog in a column are the one rising list of just these
+pub values_are :
+    (catalog : Catalog) (cells : List Cell) (column : ℕ) (found : List ℕ) → list_all (is_cell catalog) cells ≡ true → rise found ≡ true → ((v : ℕ) → among found v ≡ list_any (has_on column v) cells)
+    → found ≡ values_on catalog cells column
+values_are catalog cells column found known up just =
+    same_rising found (values_on catalog cells column) up (rise_passing passes 0 count)
+    (λ v h. let has : list_any (has_on column v) cells ≡ true = sym (just v) ∙ h in let l = had_value catalog cells column v known has in passing_there passes 0 count v (omega arith) (omega (arith, l)) has)
+    (λ v h. just v ∙ there_passes passes 0 count v h)
+  where
+    passes : ℕ → Bool
+    passes value = list_any (has_on column value) cells
+
+    count : ℕ
+    count = length (values catalog column)
+
+-- a cell of a group has its value among the group's
+in_group : (column v : ℕ) (cells : List Cell) (i : ℕ) (cell : Cell) → slice_get cells i ≡ Some cell → has_on column v cell ≡ true → list_any (has_on column v) cells ≡ true
+in_group column v [] i cell at has = absurd (cc)
+in_group column v (c ∷ cs) zero cell at has = let same : c ≡ cell = cc in or_left _ _ (ap (has_on column v) same ∙ has)
+in_group column v (c ∷ cs) (suc i) cell at has = or_right _ _ (in_group column v cs i cell at has)
+
+has_value_on : (catalog : Catalog) (cells : List Cell) (i : ℕ) (cell : Cell) (k : ℕ) (pair : ℕ × ℕ) → is_cell catalog cell ≡ true → slice_get cells i ≡ Some cell → slice_get cell.at k ≡ Some pair → among (values_on catalog cells pair.0) pair.1 ≡ true
+has_value_on catalog cells i cell k pair known at there =
+    let value : value_on pair.0 cell ≡ Some pair.1 = value_here cell k pair (known_rises catalog cell known) there in
+    let has : has_on pair.0 pair.1 cell ≡ true = ap (is_some_and (λ (own : ℕ). own == pair.1)) value ∙ eq-eqb pair.1 pair.1 refl in
+    let l : pair.1 < length (values catalog pair.0) = found_value catalog pair.0 pair.1 cell.at (known_values catalog cell known) has in
+    passing_there (λ v. list_any (has_on pair.0 v) cells) 0 (length (values catalog pair.0)) pair.1 (omega arith) (omega (arith, l)) (in_group pair.0 pair.1 cells i cell at has)
+
+any_column : (catalog : Catalog) (cells : List Cell) (at : List (ℕ × ℕ)) (x v : ℕ) → among (names at) x ≡ true → among (values_on catalog cells x) v ≡ true → list_any (λ column. (column.0 == x) && allows column.1 v) (columns_for catalog cells at) ≡ true
+any_column catalog cells [] x v h has = absurd (cc)
+any_column catalog cells (p ∷ ps) x v h has =
     elim (or_cases (p.0 == x) (among (names ps) x) h) [
-      | inl here ↦ or_left _ _ (and_from _ _ here (ap (λ (n : ℕ). among (values_on n cells) v) (eqb-true p.0 x here) ∙ has))
-      | inr there ↦ or_right _ _ (any_column cells ps x v there has)
+      | inl here ↦ or_left _ _ (and_from _ _ here (ap (λ (n : ℕ). among (values_on catalog cells n) v) (eqb-true p.0 x here) ∙ has))
+      | inr there ↦ or_right _ _ (any_column catalog cells ps x v there has)
     ]
 
 named_as : (cell : Cell) (x : ℕ) → names_column cell x ≡ among (columns_of cell) x
@@ -104,61 +152,59 @@ named_as cell x = by cell.at
     by [] = refl
     by (p ∷ ps) = ap (λ (b : Bool). (p.0 == x) || b) (by ps)
 
-all_named : (cells : List Cell) (cell : Cell) (at : List (ℕ × ℕ)) → ((x : ℕ) → among (names at) x ≡ true → among (columns_of cell) x ≡ true) → list_all (λ column. names_column cell column.0) (columns_for cells at) ≡ true
-all_named cells cell [] each = refl
-all_named cells cell (p ∷ ps) each =
+all_named : (catalog : Catalog) (cells : List Cell) (cell : Cell) (at : List (ℕ × ℕ)) → ((x : ℕ) → among (names at) x ≡ true → among (columns_of cell) x ≡ true) → list_all (λ column. names_column cell column.0) (columns_for catalog cells at) ≡ true
+all_named catalog cells cell [] each = refl
+all_named catalog cells cell (p ∷ ps) each =
     and_from _ _ (named_as cell p.0 ∙ each p.0 (or_left _ _ (eq-eqb p.0 p.0 refl)))
-    (all_named cells cell ps (λ x h. each x (or_right (p.0 == x) (among (names ps) x) h)))
+    (all_named catalog cells cell ps (λ x h. each x (or_right (p.0 == x) (among (names ps) x) h)))
 
 -- the header of a group covers each of its cells with just its columns
-pub group_covered : (first : Cell) (cells : List Cell) (i : ℕ) (cell : Cell) → Alike first cell → rise (columns_of cell) ≡ true → slice_get cells i ≡ Some cell → just_covers (header_for first cells) cell ≡ true
-group_covered first cells i cell is up at =
-    and_from _ _ (and_from _ _ (and_from _ _ (eq-eqb _ _ is.cube) (eq-eqb _ _ is.measure)) covered) (all_named cells cell first.at (λ x h. subst (λ (ns : List ℕ). among ns x ≡ true) is.columns h))
+pub group_covered : (catalog : Catalog) (first : Cell) (cells : List Cell) (i : ℕ) (cell : Cell) → Alike first cell → is_cell catalog cell ≡ true → slice_get cells i ≡ Some cell → just_covers (header_for catalog first cells) cell ≡ true
+group_covered catalog first cells i cell is known at =
+    and_from _ _ (and_from _ _ (and_from _ _ (eq-eqb _ _ is.cube) (eq-eqb _ _ is.measure)) covered) (all_named catalog cells cell first.at (λ x h. subst (λ (ns : List ℕ). among ns x ≡ true) is.columns h))
   where
-    covered : list_all (λ pair. list_any (λ column. (column.0 == pair.0) && allows column.1 pair.1) (header_for first cells).columns) cell.at ≡ true
+    covered : list_all (λ pair. list_any (λ column. (column.0 == pair.0) && allows column.1 pair.1) (header_for catalog first cells).columns) cell.at ≡ true
     covered =
-        all_from (λ pair. list_any (λ column. (column.0 == pair.0) && allows column.1 pair.1) (header_for first cells).columns) cell.at
+        all_from (λ pair. list_any (λ column. (column.0 == pair.0) && allows column.1 pair.1) (header_for catalog first cells).columns) cell.at
         (λ k pair there.
-        any_column cells first.at pair.0 pair.1 (subst (λ (ns : List ℕ). among ns pair.0 ≡ true) (sym is.columns) (name_at cell.at k pair there)) (has_value_on cells i cell k pair up at there))
+        any_column catalog cells first.at pair.0 pair.1 (subst (λ (ns : List ℕ). among ns pair.0 ≡ true) (sym is.columns) (name_at cell.at k pair there)) (has_value_on catalog cells i cell k pair known at there))
 
-names_kept : (cells : List Cell) (at : List (ℕ × ℕ)) → map (λ column. column.0) (columns_for cells at) ≡ names at
-names_kept cells [] = refl
-names_kept cells (p ∷ ps) = ap (λ (ns : List ℕ). p.0 ∷ ns) (names_kept cells ps)
+names_kept : (catalog : Catalog) (cells : List Cell) (at : List (ℕ × ℕ)) → map (λ column. column.0) (columns_for catalog cells at) ≡ names at
+names_kept catalog cells [] = refl
+names_kept catalog cells (p ∷ ps) = ap (λ (ns : List ℕ). p.0 ∷ ns) (names_kept catalog cells ps)
 
-pub group_columns : (first : Cell) (cells : List Cell) → map (λ column. column.0) (header_for first cells).columns ≡ columns_of first
-group_columns first cells = names_kept cells first.at
+pub group_columns : (catalog : Catalog) (first : Cell) (cells : List Cell) → map (λ column. column.0) (header_for catalog first cells).columns ≡ columns_of first
+group_columns catalog first cells = names_kept catalog cells first.at
 
 some_among : (ns : List ℕ) (v : ℕ) → among ns v ≡ true → nat_lt 0 (length ns) ≡ true
 some_among [] v h = absurd (cc)
 some_among (n ∷ ns) v h = lt-ltb 0 (length (n ∷ ns)) (omega arith)
 
-sets : (cells : List Cell) (at : List (ℕ × ℕ)) → ((k : ℕ) (pair : ℕ × ℕ) → slice_get at k ≡ Some pair → among (values_on pair.0 cells) pair.1 ≡ true) → list_all (λ column. is_set column.1) (columns_for cells at) ≡ true
-sets cells [] each = refl
-sets cells (p ∷ ps) each =
-    and_from _ _ (and_from _ _ (some_among (values_on p.0 cells) p.1 (each 0 p refl)) (rise_put_all (filter_map (value_on p.0) cells) [] refl)) (sets cells ps (λ k pair h. each (suc k) pair h))
+sets : (catalog : Catalog) (cells : List Cell) (at : List (ℕ × ℕ)) → ((k : ℕ) (pair : ℕ × ℕ) → slice_get at k ≡ Some pair → among (values_on catalog cells pair.0) pair.1 ≡ true) → list_all (λ column. is_set column.1) (columns_for catalog cells at) ≡ true
+sets catalog cells [] each = refl
+sets catalog cells (p ∷ ps) each =
+    and_from _ _ (and_from _ _ (some_among (values_on catalog cells p.0) p.1 (each 0 p refl)) (rise_passing (λ v. list_any (has_on p.0 v) cells) 0 (length (values catalog p.0)))) (sets catalog cells ps (λ k pair h. each (suc k) pair h))
 
 -- and it is well formed
-pub group_header : (first : Cell) (cells : List Cell) (i : ℕ) → rise (columns_of first) ≡ true → slice_get cells i ≡ Some first → is_header (header_for first cells) ≡ true
-group_header first cells i up at = and_from _ _ (ap rise (group_columns first cells) ∙ up) (sets cells first.at (λ k pair there. has_value_on cells i first k pair up at there))
+pub group_header : (catalog : Catalog) (first : Cell) (cells : List Cell) (i : ℕ) → is_cell catalog first ≡ true → slice_get cells i ≡ Some first → is_header (header_for catalog first cells) ≡ true
+group_header catalog first cells i known at =
+    and_from _ _ (ap rise (group_columns catalog first cells) ∙ known_rises catalog first known) (sets catalog cells first.at (λ k pair there. has_value_on catalog cells i first k pair known at there))
 
 -- it can be loaded, where its first cell is known
-pub group_loadable : (catalog : Catalog) (first : Cell) (cells : List Cell) → is_known catalog first ≡ true → is_loadable catalog (header_for first cells) ≡ true
+pub group_loadable : (catalog : Catalog) (first : Cell) (cells : List Cell) → is_cell catalog first ≡ true → is_loadable catalog (header_for catalog first cells) ≡ true
 group_loadable catalog first cells known =
     let parts = and_parts _ _ known in
     and_from _ _ (and_parts _ _ (and_parts _ _ parts.0).0).0 (by (slice_get catalog.cubes first.cube) parts.1)
   where
     by : (o : Option Cube) → is_some_and (λ (cube : Cube). list_all (λ pair. is_column_of catalog cube.dimensions pair.0) first.at) o ≡ true
-        → is_some_and (λ (cube : Cube). list_all (λ column. is_column_of catalog cube.dimensions column.0) (header_for first cells).columns) o ≡ true
+        → is_some_and (λ (cube : Cube). list_all (λ column. is_column_of catalog cube.dimensions column.0) (header_for catalog first cells).columns) o ≡ true
     by None h = absurd (cc)
-    by (Some cube) h = list_all-map (λ (column : ℕ × Allowed). is_column_of catalog cube.dimensions column.0) (λ (pair : ℕ × ℕ). (pair.0, Set (values_on pair.0 cells))) first.at ∙ h
-
-pub known_rises : (catalog : Catalog) (cell : Cell) → is_known catalog cell ≡ true → rise (columns_of cell) ≡ true
-known_rises catalog cell known = (and_parts _ _ (and_parts _ _ known).0).1
+    by (Some cube) h = list_all-map (λ (column : ℕ × Allowed). is_column_of catalog cube.dimensions column.0) (λ (pair : ℕ × ℕ). (pair.0, Set (values_on catalog cells pair.0))) first.at ∙ h
 
 -- a cell that it covers with just its columns is alike to the first
-pub covered_alike : (first : Cell) (cells : List Cell) (cell : Cell) → rise (columns_of first) ≡ true → rise (columns_of cell) ≡ true → just_covers (header_for first cells) cell ≡ true → alike cell first ≡ true
-covered_alike first cells cell up over h =
-    let whole = and_parts (header_covers (header_for first cells) cell) (list_all (λ column. names_column cell column.0) (header_for first cells).columns) h in
+pub covered_alike : (catalog : Catalog) (first : Cell) (cells : List Cell) (cell : Cell) → rise (columns_of first) ≡ true → rise (columns_of cell) ≡ true → just_covers (header_for catalog first cells) cell ≡ true → alike cell first ≡ true
+covered_alike catalog first cells cell up over h =
+    let whole = and_parts (header_covers (header_for catalog first cells) cell) (list_all (λ column. names_column cell column.0) (header_for catalog first cells).columns) h in
     let front = and_parts _ _ whole.0 in
     let both = and_parts (first.cube == cell.cube) (first.measure == cell.measure) front.0 in
     alike_from cell first
@@ -168,15 +214,15 @@ covered_alike first cells cell up over h =
       columns = same_rising (columns_of cell) (columns_of first) over up (λ x k. into cell.at front.1 x k) (λ x k. back first.at whole.1 x k);
     })
   where
-    any_name : (at : List (ℕ × ℕ)) (x v : ℕ) → list_any (λ column. (column.0 == x) && allows column.1 v) (columns_for cells at) ≡ true → among (names at) x ≡ true
+    any_name : (at : List (ℕ × ℕ)) (x v : ℕ) → list_any (λ column. (column.0 == x) && allows column.1 v) (columns_for catalog cells at) ≡ true → among (names at) x ≡ true
     any_name [] x v k = absurd (cc)
     any_name (p ∷ ps) x v k =
-        elim (or_cases ((p.0 == x) && allows (Set (values_on p.0 cells)) v) (list_any (λ column. (column.0 == x) && allows column.1 v) (columns_for cells ps)) k) [
-          | inl here ↦ or_left (p.0 == x) (among (names ps) x) (and_parts (p.0 == x) (allows (Set (values_on p.0 cells)) v) here).0
+        elim (or_cases ((p.0 == x) && allows (Set (values_on catalog cells p.0)) v) (list_any (λ column. (column.0 == x) && allows column.1 v) (columns_for catalog cells ps)) k) [
+          | inl here ↦ or_left (p.0 == x) (among (names ps) x) (and_parts (p.0 == x) (allows (Set (values_on catalog cells p.0)) v) here).0
           | inr there ↦ or_right (p.0 == x) (among (names ps) x) (any_name ps x v there)
         ]
 
-    into : (at : List (ℕ × ℕ)) → list_all (λ pair. list_any (λ column. (column.0 == pair.0) && allows column.1 pair.1) (header_for first cells).columns) at ≡ true → (x : ℕ) → among (names at) x ≡ true → among (columns_of first) x ≡ true
+    into : (at : List (ℕ × ℕ)) → list_all (λ pair. list_any (λ column. (column.0 == pair.0) && allows column.1 pair.1) (header_for catalog first cells).columns) at ≡ true → (x : ℕ) → among (names at) x ≡ true → among (columns_of first) x ≡ true
     into [] all x k = absurd (cc)
     into (p ∷ ps) all x k =
         elim (or_cases (p.0 == x) (among (names ps) x) k) [
@@ -184,7 +230,7 @@ covered_alike first cells cell up over h =
           | inr there ↦ into ps (and_parts _ _ all).1 x there
         ]
 
-    back : (at : List (ℕ × ℕ)) → list_all (λ column. names_column cell column.0) (columns_for cells at) ≡ true → (x : ℕ) → among (names at) x ≡ true → among (columns_of cell) x ≡ true
+    back : (at : List (ℕ × ℕ)) → list_all (λ column. names_column cell column.0) (columns_for catalog cells at) ≡ true → (x : ℕ) → among (names at) x ≡ true → among (columns_of cell) x ≡ true
     back [] all x k = absurd (cc)
     back (p ∷ ps) all x k =
         elim (or_cases (p.0 == x) (among (names ps) x) k) [
@@ -212,8 +258,8 @@ pub group_place : (first : Cell) (wanted : List Cell) → Contains wanted first 
 group_place first wanted has = kept_place (alike first) wanted has.0 first (slice_get_read wanted (length wanted) has.0 first refl has.1 (sym has.2)) (alike_self first)
 
 -- the header of the group of a cell
-pub header_formed : (catalog : Catalog) (first : Cell) (wanted : List Cell) → is_known catalog first ≡ true → Contains wanted first → is_header (header_for first (filter (alike first) wanted)) ≡ true
-header_formed catalog first wanted known has = let place = group_place first wanted has in group_header first (filter (alike first) wanted) place.0 (known_rises catalog first known) place.1
+pub header_formed : (catalog : Catalog) (first : Cell) (wanted : List Cell) → is_cell catalog first ≡ true → Contains wanted first → is_header (header_for catalog first (filter (alike first) wanted)) ≡ true
+header_formed catalog first wanted known has = let place = group_place first wanted has in group_header catalog first (filter (alike first) wanted) place.0 known place.1
 
 drop_at : {A : Type 0} (xs : List A) (i : ℕ) (x : A) → i < length xs → x ≡ get_or xs i x → drop i xs ≡ x ∷ drop (suc i) xs
 drop_at [] i x l is = absurd (omega arith)
@@ -268,3 +314,44 @@ first_contained cells i cell l is =
 
 pub first_passes : (p : Cell → Bool) (cells : List Cell) (i : ℕ) (cell : Cell) → list_all p cells ≡ true → i < length (firsts [] cells) → cell ≡ get_or (firsts [] cells) i cell → p cell ≡ true
 first_passes p cells i cell all l is = all_get p (firsts [] cells) i cell (firsts_all p [] cells all) (slice_get_read (firsts [] cells) (length (firsts [] cells)) i cell refl l is)
+
+-- what cells of a group have, with one cell more
+pub had_more :
+    (first : Cell) (column v : ℕ) (cells : List Cell) (i : ℕ) (cell : Cell) (so_far : Bool) → i < length cells → cell ≡ get_or cells i cell
+    → so_far ≡ list_any (has_on column v) (filter (alike first) (take i cells))
+    → so_far || (alike first cell && has_on column v cell) ≡ list_any (has_on column v) (filter (alike first) (take (i + 1) cells))
+had_more first column v cells i cell so_far l is had =
+    ap (λ (b : Bool). b || (alike first cell && has_on column v cell)) had
+    ∙ ap (λ (b : Bool). list_any (has_on column v) (filter (alike first) (take i cells)) || b) (by (alike first cell) refl)
+    ∙ sym (list_any-append (has_on column v) (filter (alike first) (take i cells)) (filter (alike first) (cell ∷ [])))
+    ∙ ap (list_any (has_on column v)) (sym (filter-append (alike first) (take i cells) (cell ∷ [])))
+    ∙ ap (λ (cs : List Cell). list_any (has_on column v) (filter (alike first) cs)) (sym (front_more cells i cell l is))
+  where
+    or_none : (b : Bool) → b ≡ b || false
+    or_none true = refl
+    or_none false = refl
+
+    by : (b : Bool) → alike first cell ≡ b → (alike first cell && has_on column v cell) ≡ list_any (has_on column v) (filter (alike first) (cell ∷ []))
+    by true e = rw e (or_none (has_on column v cell))
+    by false e = rw e refl
+
+-- what holds of cells holds of those of a group
+pub group_known : (catalog : Catalog) (keep : Cell → Bool) (cells : List Cell) → list_all (is_cell catalog) cells ≡ true → list_all (is_cell catalog) (filter keep cells) ≡ true
+group_known catalog keep [] all = refl
+group_known catalog keep (cell ∷ cells) all = by (keep cell) refl (group_known catalog keep cells (and_parts _ _ all).1)
+  where
+    by : (b : Bool) → keep cell ≡ b → list_all (is_cell catalog) (filter keep cells) ≡ true → list_all (is_cell catalog) (filter keep (cell ∷ cells)) ≡ true
+    by true e rest = rw e (and_from _ _ (and_parts _ _ all).0 rest)
+    by false e rest = rw e rest
+
+-- one column more of the header of a group
+pub column_more :
+    (catalog : Catalog) (first : Cell) (cells : List Cell) (at : List (ℕ × ℕ)) (i : ℕ) (pair : ℕ × ℕ) (columns : List (ℕ × Allowed)) (found : List ℕ) → i < length at → pair ≡ get_or at i pair → list_all (is_cell catalog) cells ≡ true
+    → rise found ≡ true → ((v : ℕ) → among found v ≡ list_any (has_on pair.0 v) (filter (alike first) cells))
+    → columns ≡ columns_for catalog (filter (alike first) cells) (take i at) → columns ++ (pair.0, Set found) ∷ [] ≡ columns_for catalog (filter (alike first) cells) (take (i + 1) at)
+column_more catalog first cells at i pair columns found l is known up just so_far =
+    let these : found ≡ values_on catalog (filter (alike first) cells) pair.0 = values_are catalog (filter (alike first) cells) pair.0 found (group_known catalog (alike first) cells known) up just in
+    ap (λ (cs : List (ℕ × Allowed)). cs ++ (pair.0, Set found) ∷ []) so_far
+    ∙ ap (λ (vs : List ℕ). columns_for catalog (filter (alike first) cells) (take i at) ++ (pair.0, Set vs) ∷ []) these
+    ∙ sym (map_push (λ (p : ℕ × ℕ). (p.0, Set (values_on catalog (filter (alike first) cells) p.0))) (take i at) pair)
+    ∙ ap (λ (ps : List (ℕ × ℕ)). columns_for catalog (filter (alike first) cells) ps) (sym (front_more at i pair l is))

@@ -5,7 +5,10 @@ pub mod Moves
 pub mod Own
 pub mod Ends
 pub mod Appends
+pub mod Fronts
+pub mod Lending
 pub mod Rising
+pub mod Numbers
 pub mod Grouping
 pub mod Serving
 pub mod Answering
@@ -14,4 +17,5 @@ pub mod Wanting
 pub mod Planning
 pub mod Looking
 pub mod Ready
+pub mod JobFacts
 pub mod Running

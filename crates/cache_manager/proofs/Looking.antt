@@ -7,14 +7,14 @@ use Rattle.olap_meaning.specs.declared.cells.Cell.{Cell}
 use Rattle.olap_meaning.specs.declared.cells.Who.{Who}
 use Rattle.olap_meaning.specs.declared.tables.Setting.{Setting}
 use Rattle.olap_meaning.specs.History.{Entry, awaited, awaited_load, exact_source, flushed_after, flying, load_just_covers}
-use Rattle.olap_meaning.specs.Legal.{Legal}
+use Rattle.olap_meaning.specs.Legal.{Legal, is_cell}
 use Rattle.fact_versions.specs.Facts.{FactsOf}
 use Rattle.cache_manager.specs.declared.kept.Flight.{Flight}
 use Rattle.cache_manager.specs.declared.kept.Kept.{Kept}
 use Rattle.cache_manager.specs.declared.starts.Planned.{Planned}
-use Rattle.cache_manager.specs.Cache.{CacheOf}
-use Rattle.cache_manager.specs.Groups.{firsts, is_known, wanting}
-use Rattle.cache_manager.specs.Answers.{HasSource, SomeWants}
+use Rattle.history_core.specs.Cache.{CacheOf}
+use Rattle.cache_manager.specs.Groups.{firsts, wanting}
+use Rattle.history_core.specs.Answers.{HasSource, SomeWants}
 use Rattle.cache_manager.proofs.Answering.{source_is}
 use Rattle.cache_manager.specs.Jobs.{IsJobOf, NoneFlies}
 use Rattle.cache_manager.specs.Kept.{IsManager}
@@ -44,7 +44,7 @@ refit setting entries spare left facts held places free flights is room place = 
   places_fit = place;
 }
 
-module _ (cache : CacheOf) (who : Who) (wanted : List Cell) (plans : List Planned) (legal : Legal cache.setting cache.entries) (known : list_all (is_known cache.setting.catalog) wanted ≡ true) (unserved : list_all (λ cell. not (is_some (exact_source cache.entries cell))) wanted ≡ true) (idle : NoneFlies cache.entries) (are : ArePlanned cache who wanted (length cache.entries + 1) (firsts [] wanted) plans) where
+module _ (cache : CacheOf) (who : Who) (wanted : List Cell) (plans : List Planned) (legal : Legal cache.setting cache.entries) (known : list_all (is_cell cache.setting.catalog) wanted ≡ true) (unserved : list_all (λ cell. not (is_some (exact_source cache.entries cell))) wanted ≡ true) (idle : NoneFlies cache.entries) (are : ArePlanned cache who wanted (length cache.entries + 1) (firsts [] wanted) plans) where
   pub all_legal : AreLegalSteps cache.setting cache.entries (map step_of plans)
   all_legal =
       subst (λ (steps : List Entry). AreLegalSteps cache.setting cache.entries steps) (sym (planned_steps cache who wanted (length cache.entries + 1) (firsts [] wanted) plans are))

@@ -9,7 +9,7 @@ use Rattle.olap_meaning.specs.declared.tables.Setting.{Setting}
 use Rattle.olap_meaning.specs.Covering.{among}
 use Rattle.olap_meaning.specs.History.{Entry, Append, Start, Done, Drop, Answer, Load, delivers, flying, load_version}
 use Rattle.olap_meaning.specs.Legal.{Legal}
-use Rattle.fact_batches.specs.FactRows.{FactRows}
+use Rattle.fact_versions.specs.FactRows.{FactRows}
 use Rattle.fact_versions.specs.Facts.{FactsOf, with_batch}
 use Rattle.segment_load.specs.Loads.{is_batch}
 use Rattle.cache_manager.specs.declared.kept.Kept.{Kept}

@@ -8,7 +8,7 @@ use Rattle.olap_meaning.specs.History.{Entry, Append, Flush, Start, Done, Drop, 
 use Rattle.olap_meaning.specs.Legal.{Legal, LegalStep, IsLegalEnd}
 use Rattle.olap_meaning.proofs.Positions.{after_passes, entry_from-take}
 use Rattle.olap_meaning.proofs.Loads.{load_start, start_load}
-use Rattle.cache_manager.specs.Cache.{CacheOf}
+use Rattle.history_core.specs.Cache.{CacheOf}
 use Rattle.cache_manager.specs.Jobs.{IsOwn, actor}
 use Rattle.cache_manager.proofs.Pushes.{flying_from}
 

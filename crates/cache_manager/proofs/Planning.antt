@@ -15,7 +15,7 @@ use Rattle.segment_load.specs.Loads.{JobOf, rows_in}
 use Rattle.cache_manager.specs.declared.kept.Flight.{Flight}
 use Rattle.cache_manager.specs.declared.kept.Kept.{Kept}
 use Rattle.cache_manager.specs.declared.starts.Planned.{Planned}
-use Rattle.cache_manager.specs.Cache.{CacheOf}
+use Rattle.history_core.specs.Cache.{CacheOf}
 use Rattle.cache_manager.specs.Groups.{load_for}
 use Rattle.cache_manager.specs.Jobs.{IsJobOf, IsOwn, actor, entries_of, numbers_from}
 use Rattle.cache_manager.specs.Kept.{IsManager}
@@ -41,7 +41,7 @@ unended_by entries j seat none = false_from_ne_true _ (λ h. both_ways _ none (a
 
 module _ (cache : CacheOf) (who : Who) (wanted : List Cell) where
   abbrev load_of : Cell → Load
-  load_of cell = load_for who cache.entries wanted cell
+  load_of cell = load_for cache who wanted cell
 
   pub planned_steps : (n : ℕ) (cells : List Cell) (plans : List Planned) → ArePlanned cache who wanted n cells plans → map step_of plans ≡ map Start (map load_of cells)
   planned_steps n [] [] are = refl

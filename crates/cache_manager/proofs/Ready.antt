@@ -13,13 +13,14 @@ use Rattle.olap_meaning.specs.Covering.{header_covers, just_covers, names_column
 use Rattle.olap_meaning.specs.History.{Entry, Start, Load, entry_at, exact_source, flushed_after, flushes, is_some_and, kept, live, load_at, load_covers, load_just_covers}
 use Rattle.olap_meaning.proofs.Loads.{live_on, load_start, some_and, start_load}
 use Rattle.olap_meaning.proofs.Positions.{after_passes, entry-append, entry_within, latest_bounds, latest_found}
-use Rattle.cache_manager.specs.Answers.{HasSource}
-use Rattle.cache_manager.specs.Cache.{CacheOf}
-use Rattle.cache_manager.specs.Groups.{alike, firsts, header_for, is_known, load_for, loads_for, wanting}
+use Rattle.history_core.specs.Answers.{HasSource}
+use Rattle.history_core.specs.Cache.{CacheOf}
+use Rattle.cache_manager.specs.Groups.{alike, firsts, header_for, load_for, loads_for, wanting}
+use Rattle.olap_meaning.specs.Legal.{is_cell}
 use Rattle.cache_manager.specs.Jobs.{numbers_from}
 use Rattle.cache_manager.specs.Laws.{DeliveredLooksAreReady}
 use Rattle.cache_manager.proofs.Answering.{source_is}
-use Rattle.cache_manager.proofs.Grouping.{alike_from, alike_self, alike_told, group_covered, kept_place, known_rises, Alike}
+use Rattle.cache_manager.proofs.Grouping.{alike_from, alike_self, alike_told, group_covered, kept_place, Alike}
 
 -- a load that serves a cell makes for an exact source
 serves_source : (entries : List Entry) (j : ℕ) (cell : Cell) (load : Load) → load_at entries j ≡ Some load → live entries j cell ≡ true → load_just_covers entries j cell ≡ true → is_some (exact_source entries cell) ≡ true
@@ -127,14 +128,14 @@ module _ (cache : CacheOf) (who : Who) (cells : List Cell) (later : List Entry) 
   wanted = wanting cache.entries cells
 
   abbrev loads : List Load
-  loads = loads_for who cache.entries cells
+  loads = loads_for cache who cells
 
   abbrev final : List Entry
   final = cache.entries ++ (map Start loads ++ later)
 
   -- a cell that wanted a source has the load of its group
   wanted_served :
-      (i : ℕ) (cell : Cell) → is_known cache.setting.catalog cell ≡ true → slice_get wanted i ≡ Some cell → list_any (flushes cell) later ≡ false
+      (i : ℕ) (cell : Cell) → is_cell cache.setting.catalog cell ≡ true → slice_get wanted i ≡ Some cell → list_any (flushes cell) later ≡ false
       → All (λ j. IsTrue (kept final j)) (numbers_from (length cache.entries + 1) (length loads)) → is_some (exact_source final cell) ≡ true
   wanted_served i cell known at none all = elim (first_of [] wanted i cell at) [ inl old ↦ absurd (cc) | inr found ↦ served found.0 found.1 found.2 found.3 ]
     where
@@ -143,20 +144,20 @@ module _ (cache : CacheOf) (who : Who) (cells : List Cell) (later : List Entry) 
           let told = alike_told cell first like in
           let back : Alike first cell = record { cube = sym told.cube; measure = sym told.measure; columns = sym told.columns } in
           let member = kept_place (alike first) wanted i cell at (alike_from first cell back) in
-          let covers : just_covers (header_for first (filter (alike first) wanted)) cell ≡ true = group_covered first (filter (alike first) wanted) member.0 cell back (known_rises cache.setting.catalog cell known) member.1 in
-          let load : slice_get loads k ≡ Some (load_for who cache.entries wanted first) = slice_get-map (load_for who cache.entries wanted) (firsts [] wanted) k ∙ ap (option_map (load_for who cache.entries wanted)) place in
-          let start : slice_get (map Start loads) k ≡ Some (Start (load_for who cache.entries wanted first)) = slice_get-map Start loads k ∙ ap (option_map Start) load in
+          let covers : just_covers (header_for cache.setting.catalog first (filter (alike first) wanted)) cell ≡ true = group_covered cache.setting.catalog first (filter (alike first) wanted) member.0 cell back known member.1 in
+          let load : slice_get loads k ≡ Some (load_for cache who wanted first) = slice_get-map (load_for cache who wanted) (firsts [] wanted) k ∙ ap (option_map (load_for cache who wanted)) place in
+          let start : slice_get (map Start loads) k ≡ Some (Start (load_for cache who wanted first)) = slice_get-map Start loads k ∙ ap (option_map Start) load in
           let number : length cache.entries + 1 + k ≡ suc (length cache.entries + k) = omega arith in
-          let at_final : load_at final (suc (length cache.entries + k)) ≡ Some (load_for who cache.entries wanted first) =
-          start_load final (suc (length cache.entries + k)) (load_for who cache.entries wanted first) (get_of_rest cache.entries (map Start loads ++ later) k _ (get_front (map Start loads) later k _ start)) in
+          let at_final : load_at final (suc (length cache.entries + k)) ≡ Some (load_for cache who wanted first) =
+          start_load final (suc (length cache.entries + k)) (load_for cache who wanted first) (get_of_rest cache.entries (map Start loads ++ later) k _ (get_front (map Start loads) later k _ start)) in
           let delivered : kept final (suc (length cache.entries + k)) ≡ true = subst (λ (j : ℕ). kept final j ≡ true) number (number_at (λ j. IsTrue (kept final j)) (length cache.entries + 1) (length loads) k all (get_within loads k _ load)) in
           let just : load_just_covers final (suc (length cache.entries + k)) cell ≡ true = ap (is_some_and (λ (l : Load). just_covers l.header cell)) at_final ∙ covers in
           let wide : load_covers final (suc (length cache.entries + k)) cell ≡ true =
           ap (is_some_and (λ (l : Load). header_covers l.header cell)) at_final
-          ∙ (and_parts (header_covers (header_for first (filter (alike first) wanted)) cell) (list_all (λ column. names_column cell column.0) (header_for first (filter (alike first) wanted)).columns) covers).0 in
+          ∙ (and_parts (header_covers (header_for cache.setting.catalog first (filter (alike first) wanted)) cell) (list_all (λ column. names_column cell column.0) (header_for cache.setting.catalog first (filter (alike first) wanted)).columns) covers).0 in
           let open_still : flushed_after final (suc (length cache.entries + k)) cell ≡ false =
           unflushed_rest cache.entries (map Start loads ++ later) (suc (length cache.entries + k)) cell (omega arith) (starts_flush_none cell loads later none) in
-          serves_source final (suc (length cache.entries + k)) cell (load_for who cache.entries wanted first) at_final
+          serves_source final (suc (length cache.entries + k)) cell (load_for cache who wanted first) at_final
           (and_from (kept final (suc (length cache.entries + k)) && load_covers final (suc (length cache.entries + k)) cell) (not (flushed_after final (suc (length cache.entries + k)) cell)) (and_from _ _ delivered wide) (not_from_false _ open_still)) just
 
   -- a cell that had a source still has one
@@ -172,7 +173,7 @@ module _ (cache : CacheOf) (who : Who) (cells : List Cell) (later : List Entry) 
   -- each cell, with its place among all
   all_sourced :
       (some : List Cell) → ((i : ℕ) (cell : Cell) → slice_get some i ≡ Some cell → is_some (exact_source cache.entries cell) ≡ false → (k : ℕ) × (slice_get wanted k ≡ Some cell))
-      → list_all (is_known cache.setting.catalog) some ≡ true → All (λ cell. list_any (flushes cell) later ≡ false) some → All (λ j. IsTrue (kept final j)) (numbers_from (length cache.entries + 1) (length loads))
+      → list_all (is_cell cache.setting.catalog) some ≡ true → All (λ cell. list_any (flushes cell) later ≡ false) some → All (λ j. IsTrue (kept final j)) (numbers_from (length cache.entries + 1) (length loads))
       → All (HasSource (record { setting = cache.setting; entries = final })) some
   all_sourced [] places known none all = All-nil _
   all_sourced (cell ∷ others) places known none all =

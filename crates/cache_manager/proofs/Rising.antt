@@ -1,6 +1,6 @@
--- Numbers put into rising numbers.
-use Rattle.std.proofs.Common.{◌≡◌, refl, sym, ◌∙◌, ap, ℕ, zero, suc, ◌<◌, ◌≤◌, List, [], ◌∷◌, length, get_or, Bool, true, false, ◌==◌, inl, inr, arith, Ok, Err}
-use Rattle.std.specs.Prelude.{nat_lt, insert}
+-- Numbers put into rising numbers, and rising lists of the same numbers.
+use Rattle.std.proofs.Common.{◌≡◌, refl, sym, ◌∙◌, ap, ℕ, zero, suc, ◌<◌, ◌≤◌, List, [], ◌∷◌, length, get_or, Bool, true, false, ◌||◌, ◌==◌, inl, inr, arith, Ok, Err}
+use Rattle.std.specs.Prelude.{if◌then◌else◌, nat_lt, insert}
 use Rattle.std.specs.List.{list_all}
 use Rattle.std.specs.List.Sorted.{IsBinarySearchResult}
 use Rattle.std.specs.Ordering.{nat_cmp}
@@ -8,7 +8,11 @@ use Rattle.std.proofs.lemmas.Bool.{and_from, and_parts, cases_order, eq-eqb, eqb
 use Rattle.std.proofs.lemmas.List.Sorted.{searched}
 use Rattle.olap_meaning.specs.Covering.{among}
 use Rattle.olap_meaning.specs.Legal.{rise}
-use Rattle.cache_manager.specs.Groups.{put, put_all}
+
+-- a number put into rising numbers, where it is not among them
+abbrev pub put : ℕ → List ℕ → List ℕ
+put n [] = n ∷ []
+put n (m ∷ ms) = if nat_lt n m then n ∷ m ∷ ms else if n == m then m ∷ ms else m ∷ put n ms
 
 pub not_below : (a b : ℕ) → b ≤ a → nat_lt a b ≡ false
 not_below a b le = false_from_ne_true (nat_lt a b) (λ h. let l : a < b = ltb-true a b h in absurd (omega (arith, le, l)))
@@ -80,43 +84,35 @@ rise_put x (y ∷ ys) up =
       ]
     ]
 
--- what was put is there, and what was there still is
-among_put : (x : ℕ) (xs : List ℕ) → among (put x xs) x ≡ true
-among_put x [] = or_left _ _ (eq-eqb x x refl)
-among_put x (y ∷ ys) = by (nat_lt x y) (x == y) refl refl (among_put x ys)
+or_again : (a b : Bool) → (a || b) || a ≡ a || b
+or_again true b = refl
+or_again false true = refl
+or_again false false = refl
+
+or_turned : (a b c : Bool) → a || (b || c) ≡ (a || b) || c
+or_turned true b c = refl
+or_turned false b c = refl
+
+-- what was put is there, and beside it what was there
+pub among_put : (x : ℕ) (xs : List ℕ) (v : ℕ) → among (put x xs) v ≡ among xs v || (x == v)
+among_put x [] v = by (x == v)
   where
-    by : (less same : Bool) → nat_lt x y ≡ less → (x == y) ≡ same → among (put x ys) x ≡ true → among (put x (y ∷ ys)) x ≡ true
-    by true same e f rest = rw e (or_left _ _ (eq-eqb x x refl))
-    by false true e f rest = rw (e, f) (or_left _ _ (eq-eqb y x (sym (eqb-true x y f))))
-    by false false e f rest = rw (e, f) (or_right _ _ rest)
-
-among_still : (x : ℕ) (xs : List ℕ) (v : ℕ) → among xs v ≡ true → among (put x xs) v ≡ true
-among_still x [] v h = absurd (cc)
-among_still x (y ∷ ys) v h = by (nat_lt x y) (x == y) refl refl (among_still x ys v)
+    by : (b : Bool) → b || false ≡ b
+    by true = refl
+    by false = refl
+among_put x (y ∷ ys) v = by (nat_lt x y) (x == y) refl refl (among_put x ys v)
   where
-    by : (less same : Bool) → nat_lt x y ≡ less → (x == y) ≡ same → (among ys v ≡ true → among (put x ys) v ≡ true) → among (put x (y ∷ ys)) v ≡ true
-    by true same e f rest = rw e (or_right (x == v) (among (y ∷ ys) v) h)
-    by false true e f rest = rw (e, f) h
-    by false false e f rest = rw (e, f) (elim (or_cases (y == v) (among ys v) h) [
-      | inl here ↦ or_left (y == v) (among (put x ys) v) here
-      | inr there ↦ or_right (y == v) (among (put x ys) v) (rest there)
-    ])
+    turned : (a b : Bool) → a || b ≡ b || a
+    turned true true = refl
+    turned true false = refl
+    turned false true = refl
+    turned false false = refl
 
--- what was put into nothing rises
-pub rise_put_all : (ns into : List ℕ) → rise into ≡ true → rise (put_all ns into) ≡ true
-rise_put_all [] into up = up
-rise_put_all (n ∷ ns) into up = rise_put_all ns (put n into) (rise_put n into up)
-
-pub among_put_all : (ns into : List ℕ) (v : ℕ) → among into v ≡ true → among (put_all ns into) v ≡ true
-among_put_all [] into v h = h
-among_put_all (n ∷ ns) into v h = among_put_all ns (put n into) v (among_still n into v h)
-
-pub among_each : (ns into : List ℕ) (v : ℕ) → among ns v ≡ true → among (put_all ns into) v ≡ true
-among_each [] into v h = absurd (cc)
-among_each (n ∷ ns) into v h = elim (or_cases (n == v) (among ns v) h) [
-  | inl here ↦ among_put_all ns (put n into) v (ap (among (put n into)) (sym (eqb-true n v here)) ∙ among_put n into)
-  | inr there ↦ among_each ns (put n into) v there
-]
+    by : (less same : Bool) → nat_lt x y ≡ less → (x == y) ≡ same → among (put x ys) v ≡ among ys v || (x == v) → among (put x (y ∷ ys)) v ≡ ((y == v) || among ys v) || (x == v)
+    by true same e f rest = rw e (turned (x == v) ((y == v) || among ys v))
+    by false true e f rest =
+        rw (e, f) (sym (or_again (y == v) (among ys v)) ∙ ap (λ (n : ℕ). ((y == v) || among ys v) || (n == v)) (sym (eqb-true x y f)))
+    by false false e f rest = rw (e, f) (ap (λ (b : Bool). (y == v) || b) rest ∙ or_turned (y == v) (among ys v) (x == v))
 
 -- a number above one is not that one
 pub above_one : (a b : ℕ) → a < b → (a == b) ≡ false

@@ -1,23 +1,23 @@
 -- Where a run stands after one more call.
 use Rattle.std.proofs.Common.{◌≡◌, refl, sym, ◌∙◌, ap, ℕ, zero, suc, ◌+◌, ◌<◌, List, [], ◌∷◌, ◌++◌, length, map, filter, Bool, true, false, not, ◌==◌, inl, inr, Option, Some, None, get_or, arith, All, nat_lt}
 use Rattle.std.specs.Prelude.{insert, option_map, option_to_list, remove}
-use Rattle.std.specs.List.{list_all, list_any}
+use Rattle.std.specs.List.{list_all}
 use Rattle.std.proofs.lemmas.Bool.{and_from, and_parts, both_ways, eqb-true, eq-eqb, false_from_ne_true, lt-ltb, ltb-true, not-true, not_from_false, or_cases, or_left, or_right}
 use Rattle.std.proofs.lemmas.List.{append-nil}
-use Rattle.std.proofs.lemmas.List.Elements.{All-cons, All-head, All-nil, All-tail, filter-append}
+use Rattle.std.proofs.lemmas.List.Elements.{All-cons, All-head, All-tail}
 use Rattle.std.proofs.lemmas.List.Folds.{list_all-append}
 use Rattle.olap_meaning.specs.declared.cells.Who.{Who}
 use Rattle.olap_meaning.specs.declared.tables.Setting.{Setting}
 use Rattle.olap_meaning.specs.Covering.{among}
-use Rattle.olap_meaning.specs.History.{Entry, Start, Load, ends, is_some_and, load_at, rows_of}
+use Rattle.olap_meaning.specs.History.{Entry, Start, Load, ends, is_some_and}
 use Rattle.olap_meaning.specs.Legal.{Legal, caller, is_call_below, is_call_of, is_next_call}
 use Rattle.segment_load.specs.Loads.{JobOf}
-use Rattle.cache_manager.specs.Cache.{CacheOf}
-use Rattle.cache_manager.specs.Jobs.{IsJobOf, actor, entries_of, numbers_from}
+use Rattle.history_core.specs.Cache.{CacheOf}
+use Rattle.cache_manager.specs.Jobs.{IsJobOf, numbers_from}
 use Rattle.cache_manager.specs.Runs.{IsRun, MayReply, MayReplyAll, Stage, apart, ending, is_below, next_stage, stage_after, stage_of}
 use Rattle.cache_manager.specs.declared.calls.Call.{Call}
 use Rattle.cache_manager.specs.declared.calls.Reply.{Reply}
-use Rattle.cache_manager.proofs.Pushes.{any_none, load_on, recorded, rows_on}
+use Rattle.cache_manager.proofs.JobFacts.{apart_numbers, jobs_stay, other_loads}
 
 below_next : (n : ℕ) (o : Option Who) → is_below n o ≡ true → is_below (n + 1) o ≡ true
 below_next n None h = refl
@@ -45,55 +45,20 @@ next_call who (e ∷ es) all = by (caller e) refl (and_parts _ _ all).0 (next_ca
         mine false own = rw (told, own) rest
 
 module _ (before after : CacheOf) (entry : Entry) (same : after.setting ≡ before.setting) (grown : after.entries ≡ before.entries ++ entry ∷ []) (legal : Legal before.setting before.entries) where
-  unended_on : (who : Who) (j : ℕ) → ends j entry ≡ false → list_any (ends j) (entries_of before.entries who.seat) ≡ false → list_any (ends j) (entries_of after.entries who.seat) ≡ false
-  unended_on who j other none =
-      ap (λ (es : List Entry). list_any (ends j) (entries_of es who.seat)) grown
-      ∙ ap (list_any (ends j)) (filter-append (λ e. (actor e).seat == who.seat) before.entries (entry ∷ []))
-      ∙ by ((actor entry).seat == who.seat) refl
-    where
-      by : (b : Bool) → ((actor entry).seat == who.seat) ≡ b → list_any (ends j) (entries_of before.entries who.seat ++ entries_of (entry ∷ []) who.seat) ≡ false
-      by true e = rw e (any_none (ends j) (entries_of before.entries who.seat) entry none other)
-      by false e = rw (e, append-nil (entries_of before.entries who.seat)) none
-
-  -- a job stays one of the cache's, where the entry does not end its load
-  job_stays : (job : JobOf) → ends job.load entry ≡ false → IsJobOf before job → IsJobOf after job
-  job_stays job other is =
-      let rows : rows_of after.entries is.load.header.cube is.load.version ≡ rows_of before.entries is.load.header.cube is.load.version =
-      ap (λ (es : List Entry). rows_of es is.load.header.cube is.load.version) grown
-      ∙ rows_on before.entries entry is.load.header.cube is.load.version (recorded before.setting before.entries job.load is.load legal is.flies.started) in
-      record {
-        load = is.load;
-        catalog = is.catalog ∙ sym (ap (λ (s : Setting). s.catalog) same);
-        flies = record {
-          started = ap (λ (es : List Entry). load_at es job.load) grown ∙ load_on before.entries entry job.load is.load is.flies.started;
-          own = is.flies.own;
-          unended = unended_on job.who job.load other is.flies.unended;
-        };
-        header = is.header;
-        rows = is.rows ∙ sym rows;
-        costs = is.costs ∙ sym (ap length rows);
-      }
-
-  jobs_stay : (jobs : List JobOf) → All (λ job. ends job.load entry ≡ false) jobs → All (IsJobOf before) jobs → All (IsJobOf after) jobs
-  jobs_stay [] others all = All-nil (IsJobOf after)
-  jobs_stay (job ∷ jobs) others all =
-      All-cons (IsJobOf after) job jobs (job_stays job (All-head (λ j. ends j.load entry ≡ false) job jobs others) (All-head (IsJobOf before) job jobs all))
-      (jobs_stay jobs (All-tail (λ j. ends j.load entry ≡ false) job jobs others) (All-tail (IsJobOf before) job jobs all))
-
   below_on : (n : ℕ) → is_below (n + 1) (caller entry) ≡ true → list_all (λ e. is_below n (caller e)) before.entries ≡ true → list_all (λ e. is_below (n + 1) (caller e)) after.entries ≡ true
   below_on n here all =
       ap (list_all (λ e. is_below (n + 1) (caller e))) grown ∙ list_all-append (λ e. is_below (n + 1) (caller e)) before.entries (entry ∷ []) ∙ and_from _ _ (all_below_next n before.entries all) (and_from _ _ here refl)
 
   -- one more entry, which ends no load that is out
   pub run_on : (jobs : List JobOf) (n : ℕ) → All (λ job. ends job.load entry ≡ false) jobs → is_below (n + 1) (caller entry) ≡ true → IsRun before jobs n → IsRun after jobs (n + 1)
-  run_on jobs n others here run = record { jobs_are = jobs_stay jobs others run.jobs_are; jobs_apart = run.jobs_apart; below = below_on n here run.below }
+  run_on jobs n others here run = record { jobs_are = jobs_stay before after entry same grown legal jobs others run.jobs_are; jobs_apart = run.jobs_apart; below = below_on n here run.below }
 
   -- one more entry, which ends the load of a job that is taken out
   pub run_ended : (jobs : List JobOf) (i n : ℕ) (job : JobOf) → i < length jobs → job ≡ get_or jobs i job → ((j : ℕ) → ends j entry ≡ (job.load == j)) → caller entry ≡ None → IsRun before jobs n → IsRun after (remove jobs i) (n + 1)
   run_ended jobs i n job l at just uncalled run =
       let out = taken_out jobs i job l at run.jobs_apart in
       record {
-        jobs_are = jobs_stay (remove jobs i) (λ k d m. just _ ∙ out.1 k d m) (All-removed (IsJobOf before) jobs i run.jobs_are);
+        jobs_are = jobs_stay before after entry same grown legal (remove jobs i) (λ k d m. just _ ∙ out.1 k d m) (All-removed (IsJobOf before) jobs i run.jobs_are);
         jobs_apart = out.0;
         below = below_on n (rw uncalled refl) run.below;
       }
@@ -119,20 +84,13 @@ module _ (before after : CacheOf) (entry : Entry) (same : after.setting ≡ befo
       load_there (x ∷ xs) zero job l at = or_left _ _ (eq-eqb x.load job.load (ap (λ (j : JobOf). j.load) (sym at)))
       load_there (x ∷ xs) (suc i) job l at = or_right (x.load == job.load) (among (map (λ j. j.load) xs) job.load) (load_there xs i job (omega (arith, l)) at)
 
-      others : (v : ℕ) (jobs : List JobOf) → among (map (λ job. job.load) jobs) v ≡ false → All (λ job. (v == job.load) ≡ false) jobs
-      others v [] none = All-nil (λ job. (v == job.load) ≡ false)
-      others v (x ∷ xs) none =
-          All-cons (λ job. (v == job.load) ≡ false) x xs
-          (false_from_ne_true (v == x.load) (λ h. both_ways _ none (or_left (x.load == v) (among (map (λ job. job.load) xs) v) (eq-eqb x.load v (sym (eqb-true v x.load h))))))
-          (others v xs (false_from_ne_true _ (λ h. both_ways _ none (or_right (x.load == v) (among (map (λ job. job.load) xs) v) h))))
-
       taken_out : (jobs : List JobOf) (i : ℕ) (job : JobOf) → i < length jobs → job ≡ get_or jobs i job → apart (map (λ j. j.load) jobs) ≡ true
           → (apart (map (λ j. j.load) (remove jobs i)) ≡ true) × All (λ j. (job.load == j.load) ≡ false) (remove jobs i)
       taken_out [] i job l at h = absurd (omega (arith, l))
       taken_out (x ∷ xs) zero job l at h =
           let parts = and_parts (not (among (map (λ j. j.load) xs) x.load)) (apart (map (λ j. j.load) xs)) h in
           let none : among (map (λ j. j.load) xs) job.load ≡ false = ap (λ (j : JobOf). among (map (λ o. o.load) xs) j.load) at ∙ not-true _ parts.0 in
-          (parts.1, others job.load xs none)
+          (parts.1, other_loads job.load xs none)
       taken_out (x ∷ xs) (suc i) job l at h =
           let parts = and_parts (not (among (map (λ j. j.load) xs) x.load)) (apart (map (λ j. j.load) xs)) h in
           let rest = taken_out xs i job (omega (arith, l)) at parts.1 in
@@ -147,17 +105,6 @@ pub put_back : {A : Type 0} (xs : List A) (i : ℕ) (x : A) → i < length xs �
 put_back [] i x l at = absurd (omega (arith, l))
 put_back (y ∷ ys) zero x l at = ap (λ z. z ∷ ys) at
 put_back (y ∷ ys) (suc i) x l at = ap (λ zs. y ∷ zs) (put_back ys i x (omega (arith, l)) at)
-
-above_numbers : (v first count : ℕ) → v < first → among (numbers_from first count) v ≡ false
-above_numbers v first zero l = refl
-above_numbers v first (suc count) l = false_from_ne_true _ (λ h. elim (or_cases (first == v) (among (numbers_from (suc first) count) v) h) [
-  | inl here ↦ let e : first ≡ v = eqb-true first v here in omega (arith, e, l)
-  | inr there ↦ both_ways _ (above_numbers v (suc first) count (omega (arith, l))) there
-])
-
-apart_numbers : (first count : ℕ) → apart (numbers_from first count) ≡ true
-apart_numbers first zero = refl
-apart_numbers first (suc count) = and_from _ _ (not_from_false _ (above_numbers first (suc first) count (omega arith))) (apart_numbers (suc first) count)
 
 starts_below : (n : ℕ) (loads : List Load) → list_all (λ e. is_below n (caller e)) (map Start loads) ≡ true
 starts_below n [] = refl

@@ -15,7 +15,7 @@ use Rattle.olap_meaning.proofs.Positions.{after_passes, latest_bounds, latest_fo
 use Rattle.cache_manager.specs.declared.kept.Kept.{Kept}
 use Rattle.cache_manager.specs.Kept.{IsKept, is_flush}
 use Rattle.cache_manager.specs.Search.{IsGreatest}
-use Rattle.cache_manager.specs.Answers.{source_of}
+use Rattle.history_core.specs.Answers.{source_of}
 use Rattle.segment_load.specs.Loads.{body_value}
 use Rattle.segment_load.proofs.LawFacts.{body_value-version}
 use Rattle.cache_manager.proofs.Ends.{body_header}

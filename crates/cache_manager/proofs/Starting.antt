@@ -5,11 +5,10 @@ use Rattle.std.proofs.lemmas.Option.{slice_get-map, slice_get_read}
 use Rattle.olap_meaning.specs.declared.tables.Setting.{Setting}
 use Rattle.olap_meaning.specs.History.{Entry}
 use Rattle.olap_meaning.specs.Legal.{LegalStep}
-use Rattle.olap_meaning.proofs.Positions.{take-push}
 use Rattle.olap_meaning.specs.declared.cells.Cell.{Cell}
 use Rattle.olap_meaning.specs.declared.cells.Who.{Who}
 use Rattle.cache_manager.specs.declared.starts.Planned.{Planned}
-use Rattle.cache_manager.specs.Cache.{CacheOf}
+use Rattle.history_core.specs.Cache.{CacheOf}
 use Rattle.cache_manager.specs.Plans.{AreLegalSteps, ArePlanned, IsPlanned}
 
 -- the step at a place is legal after those before it
@@ -38,7 +37,3 @@ planned_more cache who wanted number [] [] next cell planned are at is = (subst 
 planned_more cache who wanted number [] (p ∷ ps) next cell planned are at is = absurd are
 planned_more cache who wanted number (c ∷ cs) [] next cell planned are at is = absurd are
 planned_more cache who wanted number (c ∷ cs) (p ∷ ps) next cell planned are at is = (are.0, planned_more cache who wanted (suc number) cs ps next cell planned are.1 (omega (arith, at)) is)
-
--- the first items of a list, with one more
-pub front_more : {A : Type 0} (xs : List A) (i : ℕ) (x : A) → i < length xs → x ≡ get_or xs i x → take (i + 1) xs ≡ take i xs ++ x ∷ []
-front_more xs i x l is = let next : i + 1 ≡ suc i = omega arith in ap (λ (n : ℕ). take n xs) next ∙ take-push xs i x (slice_get_read xs (length xs) i x refl l is)

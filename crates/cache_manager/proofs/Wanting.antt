@@ -9,10 +9,10 @@ use Rattle.olap_meaning.specs.declared.tables.Setting.{Setting}
 use Rattle.olap_meaning.specs.Covering.{just_covers}
 use Rattle.olap_meaning.specs.History.{Entry, Start, Load, awaited, awaited_load, ends, exact_source, version}
 use Rattle.olap_meaning.specs.Growth.{greater}
-use Rattle.olap_meaning.specs.Legal.{IsLegalStart, Legal, rise}
+use Rattle.olap_meaning.specs.Legal.{IsLegalStart, Legal, rise, is_cell}
 use Rattle.olap_meaning.proofs.Growing.{latest_agree, legal_grows, version_grows}
 use Rattle.olap_meaning.proofs.Sources.{awaited_load_grows, exact_source_grows}
-use Rattle.cache_manager.specs.Groups.{alike, firsts, is_known, load_for}
+use Rattle.cache_manager.specs.Groups.{alike, firsts, load_for}
 use Rattle.cache_manager.specs.Plans.{AreLegalSteps}
 use Rattle.cache_manager.proofs.Grouping.{covered_alike, group_columns, group_covered, group_place, known_rises}
 
@@ -32,35 +32,35 @@ still_free setting entries load cell legal other unserved unawaited = (
 
 module _ (setting : Setting) (history : List Entry) (who : Who) (wanted : List Cell) where
   abbrev load_of : Cell → Load
-  load_of cell = load_for who history wanted cell
+  load_of cell = load_for (record { setting = setting; entries = history }) who wanted cell
 
   -- what each group still finds: a known cell without a source, and alike to none of the first cells so far, has no source and no awaited load
   abbrev Free : List Entry → List Cell → Type 0
-  Free entries before = (cell : Cell) → is_known setting.catalog cell ≡ true → exact_source history cell ≡ None → list_any (alike cell) before ≡ false → (exact_source entries cell ≡ None) × (awaited_load entries cell ≡ None)
+  Free entries before = (cell : Cell) → is_cell setting.catalog cell ≡ true → exact_source history cell ≡ None → list_any (alike cell) before ≡ false → (exact_source entries cell ≡ None) × (awaited_load entries cell ≡ None)
 
-  covers_self : (cell : Cell) → is_known setting.catalog cell ≡ true → Contains wanted cell → just_covers (load_of cell).header cell ≡ true
+  covers_self : (cell : Cell) → is_cell setting.catalog cell ≡ true → Contains wanted cell → just_covers (load_of cell).header cell ≡ true
   covers_self cell known has =
       let place = group_place cell wanted has in
-      group_covered cell (filter (alike cell) wanted) place.0 cell (record { cube = refl; measure = refl; columns = refl }) (known_rises setting.catalog cell known) place.1
+      group_covered setting.catalog cell (filter (alike cell) wanted) place.0 cell (record { cube = refl; measure = refl; columns = refl }) known place.1
 
   start_legal :
-      (entries : List Entry) (cell : Cell) → ((cube : ℕ) → version entries cube ≡ version history cube) → is_known setting.catalog cell ≡ true → Contains wanted cell → (exact_source entries cell ≡ None) × (awaited_load entries cell ≡ None)
+      (entries : List Entry) (cell : Cell) → ((cube : ℕ) → version entries cube ≡ version history cube) → is_cell setting.catalog cell ≡ true → Contains wanted cell → (exact_source entries cell ≡ None) × (awaited_load entries cell ≡ None)
       → IsLegalStart setting entries (load_of cell)
   start_legal entries cell versions known has free = record {
-    known = (and_parts _ _ known).0;
-    rising = ap rise (group_columns cell (filter (alike cell) wanted)) ∙ known_rises setting.catalog cell known;
+    known = known;
+    rising = ap rise (group_columns setting.catalog cell (filter (alike cell) wanted)) ∙ known_rises setting.catalog cell known;
     covers = covers_self cell known has;
     present = sym (versions cell.cube);
     needed = record { exact = free.0; rolled = λ loads rolled. rolled };
     unawaited = free.1;
   }
 
-  free_on : (entries : List Entry) (before : List Cell) (first : Cell) → Legal setting entries → is_known setting.catalog first ≡ true → Free entries before → Free (entries ++ Start (load_of first) ∷ []) (before ++ first ∷ [])
+  free_on : (entries : List Entry) (before : List Cell) (first : Cell) → Legal setting entries → is_cell setting.catalog first ≡ true → Free entries before → Free (entries ++ Start (load_of first) ∷ []) (before ++ first ∷ [])
   free_on entries before first legal known free cell here unserved apart =
       let either : (list_any (alike cell) before || (alike cell first || false)) ≡ false = sym (list_any-append (alike cell) before (first ∷ [])) ∙ apart in
       let old : list_any (alike cell) before ≡ false = false_from_ne_true _ (λ h. both_ways _ either (or_left _ _ h)) in
       let new : alike cell first ≡ false = false_from_ne_true _ (λ h. both_ways _ either (or_right _ _ (or_left _ _ h))) in
-      let other : just_covers (load_of first).header cell ≡ false = false_from_ne_true _ (λ h. both_ways _ new (covered_alike first (filter (alike first) wanted) cell (known_rises setting.catalog first known) (known_rises setting.catalog cell here) h)) in
+      let other : just_covers (load_of first).header cell ≡ false = false_from_ne_true _ (λ h. both_ways _ new (covered_alike setting.catalog first (filter (alike first) wanted) cell (known_rises setting.catalog first known) (known_rises setting.catalog cell here) h)) in
       let was = free cell here unserved old in
       still_free setting entries (load_of first) cell legal other was.0 was.1
 
@@ -73,7 +73,7 @@ module _ (setting : Setting) (history : List Entry) (who : Who) (wanted : List C
 
   pub steps_legal :
       (entries : List Entry) (before cells : List Cell) → Legal setting entries → ((cube : ℕ) → version entries cube ≡ version history cube) → Free entries before
-      → list_all (is_known setting.catalog) cells ≡ true → list_all (λ cell. not (is_some (exact_source history cell))) cells ≡ true → ((k : ℕ) (cell : Cell) → slice_get cells k ≡ Some cell → Contains wanted cell)
+      → list_all (is_cell setting.catalog) cells ≡ true → list_all (λ cell. not (is_some (exact_source history cell))) cells ≡ true → ((k : ℕ) (cell : Cell) → slice_get cells k ≡ Some cell → Contains wanted cell)
       → AreLegalSteps setting entries (map Start (map load_of (firsts before cells)))
   steps_legal entries before [] legal versions free known unserved has = tt
   steps_legal entries before (cell ∷ cells) legal versions free known unserved has =

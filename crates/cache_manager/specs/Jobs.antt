@@ -7,7 +7,7 @@ use Rattle.olap_meaning.specs.History.{Entry, Append, Flush, Start, Done, Drop, 
 use Rattle.olap_meaning.specs.Worth.{cost}
 use Rattle.segment_body.specs.BodyOf.{BodyOf}
 use Rattle.segment_load.specs.Loads.{JobOf, body_of, rows_in}
-use Rattle.cache_manager.specs.Cache.{CacheOf}
+use Rattle.history_core.specs.Cache.{CacheOf}
 
 -- who did what an entry says
 abbrev pub actor : Entry → Who
@@ -23,7 +23,8 @@ actor (Saw who) = who
 abbrev pub entries_of : List Entry → ℕ → List Entry
 entries_of history seat = filter (λ entry. (actor entry).seat == seat) history
 
--- a load is one's own and flies, as far as one's own entries tell: it was started by this call, and no entry of the seat ends it
+-- a load is one's own and flies, as far as one's own entries tell: it was started by this call, and no entry of the
+-- seat ends it
 pub record IsOwn (cache : CacheOf) (who : Who) (j : ℕ) (load : Load) : Type 0 where
   pub started : load_at cache.entries j ≡ Some load
   pub own : load.who ≡ who
@@ -37,7 +38,8 @@ IsOwnLoad cache who j = (load : Load) × IsOwn cache who j load
 pub record IsOwnBody (cache : CacheOf) (who : Who) (j : ℕ) (body : BodyOf) : Type 0 where
   pub load : Load
   pub flies : IsOwn cache who j load
-  pub whole : body_of cache.setting.catalog load.header (rows_of cache.entries load.header.cube load.version) ≡ Some body
+  pub whole : body_of cache.setting.catalog load.header
+      (rows_of cache.entries load.header.cube load.version) ≡ Some body
 
 -- a job is that of a load of the cache: by its number, of its header, over the rows of its version, at its cost
 pub record IsJobOf (cache : CacheOf) (job : JobOf) : Type 0 where

@@ -18,21 +18,23 @@ pub record AreFactsOf (setting : Setting) (entries : List Entry) (facts : FactsO
   pub limit : facts.limit ≡ setting.row_limit
   pub cubes : length facts.cubes ≡ length setting.catalog.cubes
   pub held : rows_held facts ≡ legal.rows_held entries
-  pub each : (cube : ℕ) → map (λ batch. batch.rows) (batches_of facts cube) ≡ filter_map (appended cube) entries
-  pub fit : (cube : ℕ) → are_batches setting.catalog cube (batches_of facts cube) ≡ true
+  pub each : (cube : ℕ)
+      → map (λ batch. batch.rows) (batches_of facts cube) ≡ filter_map (appended cube) entries
+  pub fit : (cube : ℕ) → IsTrue (are_batches setting.catalog cube (batches_of facts cube))
 
 -- a kept load is one that was delivered: of its version, with the body of its header over the rows of that version
 pub record IsKept (catalog : Catalog) (entries : List Entry) (kept : Kept) : Type 0 where
   pub load : Load
   pub started : load_at entries kept.load ≡ Some load
-  pub delivered : history.kept entries kept.load ≡ true
+  pub delivered : IsTrue (history.kept entries kept.load)
   pub version : kept.version ≡ load.version
   pub formed : IsTrue (is_header load.header)
-  pub whole : body_of catalog load.header (rows_of entries load.header.cube load.version) ≡ Some kept.body
+  pub whole : body_of catalog load.header (rows_of entries load.header.cube load.version)
+      ≡ Some kept.body
 
 -- a load in flight is one that flies, of its version
 pub record IsFlight (entries : List Entry) (flight : Flight) : Type 0 where
-  pub flies : flying entries flight.load ≡ true
+  pub flies : IsTrue (flying entries flight.load)
   pub version : load_version entries flight.load ≡ Some flight.version
 
 -- an entry is a flush
@@ -40,13 +42,17 @@ abbrev pub is_flush : Entry → Bool
 is_flush (Flush who region) = true
 is_flush _ = false
 
--- what a manager keeps is what its history says: the facts, each kept load and no other, each load in flight and no other; and there is room for the end of each load in flight
-pub record IsManager (setting : Setting) (entries : List Entry) (spare : ℕ) (facts : FactsOf) (kept : List Kept) (places : ℕ) (flights : List Flight) : Type 0 where
+-- what a manager keeps is what its history says: the facts, each kept load and no other, each load in flight and no
+-- other; and there is room for the end of each load in flight
+pub record IsManager (setting : Setting) (entries : List Entry) (spare : ℕ) (facts : FactsOf)
+    (kept : List Kept) (places : ℕ) (flights : List Flight) : Type 0 where
   pub facts_are : AreFactsOf setting entries facts
   pub kept_are : All (IsKept setting.catalog entries) kept
-  pub kept_all : (j : ℕ) → history.kept entries j ≡ true → among (map (λ k. k.load) kept) j ≡ true
+  pub kept_all : (j : ℕ) → IsTrue (history.kept entries j)
+      → IsTrue (among (map (λ k. k.load) kept) j)
   pub flights_are : All (IsFlight entries) flights
-  pub flights_all : (j : ℕ) → flying entries j ≡ true → among (map (λ f. f.load) flights) j ≡ true
+  pub flights_all : (j : ℕ) → IsTrue (flying entries j)
+      → IsTrue (among (map (λ f. f.load) flights) j)
   pub unflushed : list_any is_flush entries ≡ false
   pub ends_fit : length flights ≤ spare
   pub places_fit : length flights ≤ places

@@ -4,23 +4,32 @@ use Rattle.std.specs.List.{list_all, list_any}
 use Rattle.olap_meaning.specs.declared.cells.Cell.{Cell}
 use Rattle.olap_meaning.specs.declared.cells.Who.{Who}
 use Rattle.olap_meaning.specs.History.{Entry, Load, Start, flushes, flying, kept, starter}
-use Rattle.olap_meaning.specs.Legal.{Legal}
-use Rattle.cache_manager.specs.Answers.{HasSource}
-use Rattle.cache_manager.specs.Cache.{CacheOf}
-use Rattle.cache_manager.specs.Groups.{is_known, loads_for}
+use Rattle.olap_meaning.specs.Legal.{Legal, is_cell}
+use Rattle.history_core.specs.Answers.{HasSource}
+use Rattle.history_core.specs.Cache.{CacheOf}
+use Rattle.cache_manager.specs.Groups.{loads_for}
 use Rattle.cache_manager.specs.Jobs.{IsOwn, numbers_from}
 
--- a delivered look is ready: where each load that a look started was delivered, in whatever order, and nothing that came after flushes its cells, each of them has a source
+-- a delivered look is ready: where each load that a look started was delivered, in whatever order, and nothing that
+-- came after flushes its cells, each of them has a source
 abbrev pub DeliveredLooksAreReady : Type 0
 DeliveredLooksAreReady =
     (cache : CacheOf) (who : Who) (cells : List Cell) (later : List Entry)
-    → IsTrue (list_all (is_known cache.setting.catalog) cells)
+    → IsTrue (list_all (is_cell cache.setting.catalog) cells)
     → All (λ cell. list_any (flushes cell) later ≡ false) cells
-    → All (λ j. IsTrue (kept (cache.entries ++ (map Start (loads_for who cache.entries cells) ++ later)) j)) (numbers_from (length cache.entries + 1) (length (loads_for who cache.entries cells)))
-    → All (HasSource (record { setting = cache.setting; entries = cache.entries ++ (map Start (loads_for who cache.entries cells) ++ later) })) cells
+    → All
+    (λ j. IsTrue (kept (cache.entries ++ (map Start (loads_for cache who cells) ++ later)) j))
+    (numbers_from (length cache.entries + 1) (length (loads_for cache who cells)))
+    → All
+    (HasSource
+    (record {
+      setting = cache.setting;
+      entries = cache.entries ++ (map Start (loads_for cache who cells) ++ later);
+    })) cells
 
 -- an own load flies: what one's own entries tell of it is so, since nobody else ends it
 abbrev pub OwnLoadsFly : Type 0
 OwnLoadsFly =
-    (cache : CacheOf) (who : Who) (j : ℕ) (load : Load) → Legal cache.setting cache.entries → IsOwn cache who j load
+    (cache : CacheOf) (who : Who) (j : ℕ) (load : Load) → Legal cache.setting cache.entries
+    → IsOwn cache who j load
     → IsTrue (flying cache.entries j) × (starter cache.entries j ≡ Some who)

@@ -1,6 +1,6 @@
-pub mod Cache
+pub mod Arrivals
 pub mod Groups
-pub mod Answers
+pub mod Looks
 pub mod Jobs
 pub mod Kept
 pub mod Search

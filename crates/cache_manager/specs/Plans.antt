@@ -7,27 +7,33 @@ use Rattle.olap_meaning.specs.History.{Entry, Start, rows_of, version}
 use Rattle.olap_meaning.specs.Legal.{LegalStep}
 use Rattle.history_core.specs.Entries.{entry_of}
 use Rattle.segment_load.specs.Loads.{rows_in}
-use Rattle.cache_manager.specs.Cache.{CacheOf}
+use Rattle.history_core.specs.Cache.{CacheOf}
 use Rattle.cache_manager.specs.Groups.{alike, header_for, load_for}
 use Rattle.cache_manager.specs.declared.starts.Planned.{Planned}
 
 -- what is prepared for the load of a group, which is to have this number: its Start, its flight and its job
-pub record IsPlanned (cache : CacheOf) (who : Who) (wanted : List Cell) (number : ℕ) (first : Cell) (planned : Planned) : Type 0 where
-  pub start : entry_of planned.start ≡ Start (load_for who cache.entries wanted first)
+pub record IsPlanned (cache : CacheOf) (who : Who) (wanted : List Cell) (number : ℕ) (first : Cell)
+    (planned : Planned) : Type 0 where
+  pub start : entry_of planned.start ≡ Start (load_for cache who wanted first)
   pub flight : planned.flight ≡ record { load = number; version = version cache.entries first.cube }
   pub load : planned.job.load ≡ number
   pub who_is : planned.job.who ≡ who
-  pub header : planned.job.header ≡ header_for first (filter (alike first) wanted)
+  pub header : planned.job.header
+      ≡ header_for cache.setting.catalog first (filter (alike first) wanted)
   pub catalog : planned.job.catalog ≡ cache.setting.catalog
-  pub rows : rows_in planned.job.snapshot ≡ rows_of cache.entries first.cube (version cache.entries first.cube)
+  pub rows : rows_in planned.job.snapshot
+      ≡ rows_of cache.entries first.cube (version cache.entries first.cube)
 
 -- what is prepared for some groups, whose loads are numbered from one on
 abbrev pub ArePlanned : CacheOf → Who → List Cell → ℕ → List Cell → List Planned → Type 0
 ArePlanned cache who wanted number [] [] = ⊤
-ArePlanned cache who wanted number (first ∷ firsts) (planned ∷ plans) = IsPlanned cache who wanted number first planned × ArePlanned cache who wanted (suc number) firsts plans
+ArePlanned cache who wanted number (first ∷ firsts) (planned ∷ plans) =
+    IsPlanned cache who wanted number first planned
+    × ArePlanned cache who wanted (suc number) firsts plans
 ArePlanned cache who wanted number _ _ = ⊥
 
 -- each of some entries is a legal step after those before it
 abbrev pub AreLegalSteps : Setting → List Entry → List Entry → Type 0
 AreLegalSteps setting history [] = ⊤
-AreLegalSteps setting history (entry ∷ entries) = LegalStep setting history entry × AreLegalSteps setting (history ++ entry ∷ []) entries
+AreLegalSteps setting history (entry ∷ entries) =
+    LegalStep setting history entry × AreLegalSteps setting (history ++ entry ∷ []) entries

@@ -8,22 +8,25 @@ use Rattle.olap_meaning.specs.declared.tables.Setting.{Setting}
 use Rattle.olap_meaning.specs.Covering.{among}
 use Rattle.olap_meaning.specs.History as history
 use Rattle.olap_meaning.specs.History.{Entry, load_at, version}
-use Rattle.olap_meaning.specs.Legal.{caller}
+use Rattle.olap_meaning.specs.Legal.{caller, is_cell}
+use Rattle.fact_versions.specs.Facts.{append_fault}
 use Rattle.fact_versions.specs.declared.faults.AppendFault.TheVariants as fault
 use Rattle.segment_load.specs.Loads.{JobOf, is_batch}
 use Rattle.cache_manager.specs.declared.calls.Call.{Call}
 use Rattle.cache_manager.specs.declared.calls.Call.TheVariants.{Append, Look, Deliver, Abandon}
 use Rattle.cache_manager.specs.declared.calls.Reply.{Reply}
 use Rattle.cache_manager.specs.declared.calls.Reply.TheVariants.{Appended, Refused, Ready, Loading, Busy, Ended, NoJob, OutOfMemory}
-use Rattle.cache_manager.specs.Answers.{HasSource, IsAnswer, SomeWants, source_of}
-use Rattle.cache_manager.specs.Cache.{CacheOf, append_refusal}
-use Rattle.cache_manager.specs.Groups.{is_known, loads_for}
+use Rattle.history_core.specs.Answers.{HasSource, IsAnswer, SomeWants, source_of}
+use Rattle.history_core.specs.Cache.{CacheOf}
+use Rattle.cache_manager.specs.Arrivals.{arrival_in}
+use Rattle.cache_manager.specs.Groups.{loads_for}
 use Rattle.cache_manager.specs.Jobs.{IsJobOf, NoneFlies, numbers_from}
 
 -- a call may be made on a cache over a catalog: a batch is one of a cube, and cells are known
 abbrev pub MayCall : Catalog → Call → Type 0
-MayCall catalog (Append seat cube batch) = (cube < length catalog.cubes) × IsTrue (is_batch catalog cube batch)
-MayCall catalog (Look seat cells) = IsTrue (list_all (is_known catalog) cells)
+MayCall catalog (Append seat cube batch) =
+    (cube < length catalog.cubes) × IsTrue (is_batch catalog cube batch)
+MayCall catalog (Look seat cells) = IsTrue (list_all (is_cell catalog) cells)
 MayCall catalog (Deliver job) = ⊤
 MayCall catalog (Abandon job) = ⊤
 
@@ -35,7 +38,8 @@ pub record Stage : Type 0 where
 
 -- a run begins with a cache in which nothing has happened
 abbrev pub first_stage : Setting → Stage
-first_stage setting = record { cache = record { setting = setting; entries = [] }; out = []; number = 1 }
+first_stage setting =
+    record { cache = record { setting = setting; entries = [] }; out = []; number = 1 }
 
 -- who makes the next call
 abbrev pub who_calls : Stage → ℕ → Who
@@ -43,35 +47,60 @@ who_calls stage seat = record { seat = seat; call = stage.number }
 
 -- the entry that ends the load of a job that is out, by its place: by who started it
 abbrev pub ending : (Who → ℕ → Entry) → Stage → ℕ → List Entry
-ending end stage job = option_to_list (option_and_then (λ j. option_map (λ load. end load.who j) (load_at stage.cache.entries j)) (slice_get stage.out job))
+ending end stage job =
+    option_to_list
+    (option_and_then
+    (λ j. option_map (λ load. end load.who j) (load_at stage.cache.entries j))
+    (slice_get stage.out job))
 
 -- the entries that a call adds which has this reply
 abbrev pub added : Stage → Call → Reply → List Entry
-added stage (Append seat cube batch) (Appended appended) = history.Append (who_calls stage seat) cube (version stage.cache.entries cube + 1) batch.rows ∷ []
-added stage (Look seat cells) (Ready answer) = history.Answer (who_calls stage seat) (map (source_of stage.cache.entries) cells) ∷ []
-added stage (Look seat cells) Loading = map history.Start (loads_for (who_calls stage seat) stage.cache.entries cells)
+added stage (Append seat cube batch) (Appended appended) =
+    history.Append (who_calls stage seat) cube
+    (version stage.cache.entries cube + 1) batch.rows ∷ []
+added stage (Look seat cells) (Ready answer) =
+    history.Answer (who_calls stage seat) (map (source_of stage.cache.entries) cells) ∷ []
+added stage (Look seat cells) Loading =
+    map history.Start (loads_for stage.cache (who_calls stage seat) cells)
 added stage (Deliver job) Ended = ending history.Done stage job
 added stage (Abandon job) Ended = ending history.Drop stage job
 added stage call reply = []
 
 -- the loads whose jobs are out after a call that has this reply
 abbrev pub out_after : Stage → Call → Reply → List ℕ
-out_after stage (Look seat cells) Loading = numbers_from (length stage.cache.entries + 1) (length (loads_for (who_calls stage seat) stage.cache.entries cells))
+out_after stage (Look seat cells) Loading =
+    numbers_from (length stage.cache.entries + 1)
+    (length (loads_for stage.cache (who_calls stage seat) cells))
 out_after stage (Deliver job) Ended = remove stage.out job
 out_after stage (Abandon job) Ended = remove stage.out job
 out_after stage call reply = stage.out
 
 -- a run after a call that has this reply
 abbrev pub next_stage : Stage → Call → Reply → Stage
-next_stage stage call reply = record { cache = record { setting = stage.cache.setting; entries = stage.cache.entries ++ added stage call reply }; out = out_after stage call reply; number = stage.number + 1 }
+next_stage stage call reply =
+    record {
+      cache = record {
+        setting = stage.cache.setting;
+        entries = stage.cache.entries ++ added stage call reply;
+      };
+      out = out_after stage call reply;
+      number = stage.number + 1;
+    }
 
 -- a call may have this reply: its cause holds where the run stands
 abbrev pub MayReply : Stage → Call → Reply → Type 0
 MayReply stage (Append seat cube batch) (Appended appended) =
-    (append_refusal stage.cache cube batch.rows ≡ None) × (appended.position ≡ length stage.cache.entries + 1) × (appended.version ≡ version stage.cache.entries cube + 1)
-MayReply stage (Append seat cube batch) (Refused refusal) = (refusal ≡ fault.OutOfMemory) ⊎ (append_refusal stage.cache cube batch.rows ≡ Some refusal)
-MayReply stage (Look seat cells) (Ready answer) = NoneFlies stage.cache.entries × All (HasSource stage.cache) cells × IsAnswer stage.cache cells answer
-MayReply stage (Look seat cells) Loading = NoneFlies stage.cache.entries × SomeWants stage.cache cells
+    (append_fault (arrival_in stage.cache cube batch.rows) ≡ None)
+    × (appended.position ≡ length stage.cache.entries + 1)
+    × (appended.version ≡ version stage.cache.entries cube + 1)
+MayReply stage (Append seat cube batch) (Refused refusal) =
+    (refusal ≡ fault.OutOfMemory)
+    ⊎ (append_fault (arrival_in stage.cache cube batch.rows) ≡ Some refusal)
+MayReply stage (Look seat cells) (Ready answer) =
+    NoneFlies stage.cache.entries × All (HasSource stage.cache) cells
+    × IsAnswer stage.cache cells answer
+MayReply stage (Look seat cells) Loading =
+    NoneFlies stage.cache.entries × SomeWants stage.cache cells
 MayReply stage (Look seat cells) Busy = NoneFlies stage.cache.entries → ⊥
 MayReply stage (Look seat cells) OutOfMemory = NoneFlies stage.cache.entries
 MayReply stage (Deliver job) Ended = job < length stage.out
@@ -84,12 +113,14 @@ MayReply stage call reply = ⊥
 -- calls may have these replies, one after another
 abbrev pub MayReplyAll : Stage → List Call → List Reply → Type 0
 MayReplyAll stage [] [] = ⊤
-MayReplyAll stage (call ∷ calls) (reply ∷ replies) = MayReply stage call reply × MayReplyAll (next_stage stage call reply) calls replies
+MayReplyAll stage (call ∷ calls) (reply ∷ replies) =
+    MayReply stage call reply × MayReplyAll (next_stage stage call reply) calls replies
 MayReplyAll stage calls replies = ⊥
 
 -- a run after calls that had these replies
 abbrev pub stage_after : Stage → List Call → List Reply → Stage
-stage_after stage (call ∷ calls) (reply ∷ replies) = stage_after (next_stage stage call reply) calls replies
+stage_after stage (call ∷ calls) (reply ∷ replies) =
+    stage_after (next_stage stage call reply) calls replies
 stage_after stage calls replies = stage
 
 -- numbers that are all different
@@ -102,12 +133,14 @@ abbrev pub is_below : ℕ → Option Who → Bool
 is_below n None = true
 is_below n (Some who) = nat_lt who.call n
 
--- where a run stands: the jobs that are out are the cache's, of different loads, and all calls so far have numbers below that of the next
+-- where a run stands: the jobs that are out are the cache's, of different loads, and all calls so far have numbers
+-- below that of the next
 pub record IsRun (cache : CacheOf) (jobs : List JobOf) (next : ℕ) : Type 0 where
   pub jobs_are : All (IsJobOf cache) jobs
-  pub jobs_apart : apart (map (λ job. job.load) jobs) ≡ true
-  pub below : list_all (λ entry. is_below next (caller entry)) cache.entries ≡ true
+  pub jobs_apart : IsTrue (apart (map (λ job. job.load) jobs))
+  pub below : IsTrue (list_all (λ entry. is_below next (caller entry)) cache.entries)
 
 -- where a manager and the jobs that are out stand in a run
 abbrev pub stage_of : CacheOf → List JobOf → ℕ → Stage
-stage_of cache jobs number = record { cache = cache; out = map (λ job. job.load) jobs; number = number }
+stage_of cache jobs number =
+    record { cache = cache; out = map (λ job. job.load) jobs; number = number }

@@ -1,18 +1,17 @@
 //! Whole runs of calls on one manager.
 ghost use Rattle.std.specs.Prelude.{◌≡◌, ◌≤◌, ◌<◌, ◌+◌, ℕ, All, IfOk, IsTrue, length};
 ghost use Rattle.std.specs.List.{list_all};
-ghost use Rattle.olap_meaning.specs.Legal.{Legal};
+ghost use Rattle.olap_meaning.specs.Legal.{Legal, is_cell};
 ghost use Rattle.history_core.specs.History.{setting_of};
 ghost use Rattle.segment_load.specs.Loads.{is_batch};
-ghost use Rattle.cache_manager.specs.Groups.{is_known};
 ghost use Rattle.cache_manager.specs.Jobs.{IsJobOf};
 ghost use Rattle.cache_manager.specs.Runs.{IsRun, MayCall, MayReply, MayReplyAll, first_stage, next_stage, stage_after, stage_of};
 
-use crate::answers::{Answer, Appended, Look};
 use crate::look::next;
 use crate::manager::Manager;
-use fact_batches::{Batch, Steps};
-use fact_versions::AppendFault;
+use crate::outcome::Look;
+use fact_versions::{AppendFault, Batch, Steps};
+use history_core::{Answer, Appended};
 use olap_catalog::Catalog;
 use olap_meaning::{Cell, CubeId, List, OutOfMemory, ROW_LIMIT, Who};
 use segment_load::{LoadJob, run_load};
@@ -77,11 +76,14 @@ fn run_append(
     requires known { cube < length manager.old.setting.catalog.cubes }
     requires fit { IsTrue (is_batch manager.old.setting.catalog cube batch) }
     ensures run { IsRun manager.new jobs.now (who.call + 1) }
-    ensures reply { MayReply (stage_of manager.old jobs.now who.call) (Call.Append who.seat cube batch) result }
-    ensures next { stage_of manager.new jobs.now (who.call + 1) ≡ next_stage (stage_of manager.old jobs.now who.call) (Call.Append who.seat cube batch) result }
+    ensures reply { MayReply (stage_of manager.old jobs.now who.call)
+        (Call.Append who.seat cube batch) result }
+    ensures next { stage_of manager.new jobs.now (who.call + 1)
+        ≡ next_stage (stage_of manager.old jobs.now who.call)
+        (Call.Append who.seat cube batch) result }
 {
     let _out = jobs;
-    manager.is_legal();
+    manager.steps_are_legal();
     match manager.append(who, cube, batch) {
         Ok(appended) => Reply::Appended(appended),
         Err(fault) => Reply::Refused(fault),
@@ -90,12 +92,15 @@ fn run_append(
 
 fn run_look(manager: &mut Manager, jobs: &mut Vec<LoadJob>, who: Who, cells: List<Cell>) -> Reply
     requires run { IsRun manager.old jobs.old.items who.call }
-    requires known { IsTrue (list_all (is_known manager.old.setting.catalog) cells) }
+    requires known { IsTrue (list_all (is_cell manager.old.setting.catalog) cells) }
     ensures run { IsRun manager.new jobs.new.items (who.call + 1) }
-    ensures reply { MayReply (stage_of manager.old jobs.old.items who.call) (Call.Look who.seat cells) result }
-    ensures next { stage_of manager.new jobs.new.items (who.call + 1) ≡ next_stage (stage_of manager.old jobs.old.items who.call) (Call.Look who.seat cells) result }
+    ensures reply { MayReply (stage_of manager.old jobs.old.items who.call)
+        (Call.Look who.seat cells) result }
+    ensures next { stage_of manager.new jobs.new.items (who.call + 1)
+        ≡ next_stage (stage_of manager.old jobs.old.items who.call)
+        (Call.Look who.seat cells) result }
 {
-    manager.is_legal();
+    manager.steps_are_legal();
     if !manager.is_idle() {
         return Reply::Busy;
     }
@@ -118,14 +123,17 @@ fn run_delivery<L: Ledger>(
     steps: &mut Steps<L>,
 ) -> Reply
     requires jobs { All (IsJobOf manager.old) jobs.old.items }
-    ensures run { (n : ℕ) → IsRun manager.old jobs.old.items n → IsRun manager.new jobs.new.items (n + 1) }
-    ensures reply { (n : ℕ) → MayReply (stage_of manager.old jobs.old.items n) (Call.Deliver job) result }
-    ensures next { (n : ℕ) → stage_of manager.new jobs.new.items (n + 1) ≡ next_stage (stage_of manager.old jobs.old.items n) (Call.Deliver job) result }
+    ensures run { (n : ℕ) → IsRun manager.old jobs.old.items n
+        → IsRun manager.new jobs.new.items (n + 1) }
+    ensures reply { (n : ℕ)
+        → MayReply (stage_of manager.old jobs.old.items n) (Call.Deliver job) result }
+    ensures next { (n : ℕ) → stage_of manager.new jobs.new.items (n + 1)
+        ≡ next_stage (stage_of manager.old jobs.old.items n) (Call.Deliver job) result }
 {
     if job >= jobs.len() {
         return Reply::NoJob;
     }
-    manager.is_legal();
+    manager.steps_are_legal();
     match run_load(alloc, jobs.remove(job), steps) {
         Ok(delivery) => {
             manager.deliver(delivery);
@@ -141,14 +149,17 @@ fn run_delivery<L: Ledger>(
 /// Gives a job up that is out.
 fn run_abandonment(manager: &mut Manager, jobs: &mut Vec<LoadJob>, job: usize) -> Reply
     requires jobs { All (IsJobOf manager.old) jobs.old.items }
-    ensures run { (n : ℕ) → IsRun manager.old jobs.old.items n → IsRun manager.new jobs.new.items (n + 1) }
-    ensures reply { (n : ℕ) → MayReply (stage_of manager.old jobs.old.items n) (Call.Abandon job) result }
-    ensures next { (n : ℕ) → stage_of manager.new jobs.new.items (n + 1) ≡ next_stage (stage_of manager.old jobs.old.items n) (Call.Abandon job) result }
+    ensures run { (n : ℕ) → IsRun manager.old jobs.old.items n
+        → IsRun manager.new jobs.new.items (n + 1) }
+    ensures reply { (n : ℕ)
+        → MayReply (stage_of manager.old jobs.old.items n) (Call.Abandon job) result }
+    ensures next { (n : ℕ) → stage_of manager.new jobs.new.items (n + 1)
+        ≡ next_stage (stage_of manager.old jobs.old.items n) (Call.Abandon job) result }
 {
     if job >= jobs.len() {
         return Reply::NoJob;
     }
-    manager.is_legal();
+    manager.steps_are_legal();
     manager.abandon(jobs.remove(job));
     Reply::Ended
 }
@@ -165,7 +176,8 @@ fn run_call<L: Ledger>(
     requires may { MayCall manager.old.setting.catalog call }
     ensures run { IsRun manager.new jobs.new.items (number + 1) }
     ensures reply { MayReply (stage_of manager.old jobs.old.items number) call result }
-    ensures next { stage_of manager.new jobs.new.items (number + 1) ≡ next_stage (stage_of manager.old jobs.old.items number) call result }
+    ensures next { stage_of manager.new jobs.new.items (number + 1)
+        ≡ next_stage (stage_of manager.old jobs.old.items number) call result }
 {
     match call {
         Call::Append { seat, cube, batch } => {
@@ -196,10 +208,16 @@ pub fn run_calls<L: Ledger>(
 ) -> Result<Run, OutOfMemory>
     requires limit { row_limit ≤ ROW_LIMIT }
     requires may { All (MayCall catalog.value) calls }
-    ensures setting { IfOk result (λ run. run.manager.setting ≡ setting_of catalog.value row_limit budget) }
+    ensures setting { IfOk result
+        (λ run. run.manager.setting ≡ setting_of catalog.value row_limit budget) }
     ensures legal { IfOk result (λ run. Legal run.manager.setting run.manager.entries) }
-    ensures replies { IfOk result (λ run. MayReplyAll (first_stage (setting_of catalog.value row_limit budget)) calls run.replies) }
-    ensures entries { IfOk result (λ run. run.manager ≡ (stage_after (first_stage (setting_of catalog.value row_limit budget)) calls run.replies).cache) }
+    ensures replies { IfOk result
+        (λ run. MayReplyAll
+        (first_stage (setting_of catalog.value row_limit budget)) calls run.replies) }
+    ensures entries { IfOk result
+        (λ run. run.manager
+        ≡ (stage_after
+        (first_stage (setting_of catalog.value row_limit budget)) calls run.replies).cache) }
 {
     let mut manager = Manager::new(alloc, catalog, row_limit, budget)?;
     let mut jobs = Vec::new(alloc);
@@ -209,6 +227,6 @@ pub fn run_calls<L: Ledger>(
         replies.push(run_call(alloc, &mut manager, &mut jobs, number, call, steps))?;
         number = next(number)?;
     }
-    manager.is_legal();
+    manager.steps_are_legal();
     Ok(Run { manager, replies })
 }

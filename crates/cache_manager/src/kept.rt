@@ -67,7 +67,8 @@ pub(crate) fn end_flight(flights: &mut Vec<Flight>, load: u64)
 
 /// The version of a load in flight.
 pub(crate) fn version_of(flights: &[Flight], load: u64) -> Option<Version>
-    ensures { result ≡ option_map (λ flight. flight.version) (find (λ flight. flight.load == load) flights.now) }
+    ensures { result ≡ option_map (λ flight. flight.version)
+        (find (λ flight. flight.load == load) flights.now) }
 {
     for flight in flights {
         if flight.load == load {

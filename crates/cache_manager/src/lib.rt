@@ -4,17 +4,16 @@
 //! invariant. This is the plainest form, with lists; others may take their place under the same contracts.
 #![tactic(auto)]
 
-mod answers;
 mod calls;
 mod groups;
 mod kept;
 pub mod laws;
 mod look;
 mod manager;
+mod outcome;
 mod shared;
 mod starts;
 
-pub use answers::{Answer, Answered, Appended, Look};
 pub use calls::{Call, Reply, Run, run_calls};
-pub use groups::is_known;
 pub use manager::Manager;
+pub use outcome::Look;

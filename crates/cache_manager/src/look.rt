@@ -4,20 +4,21 @@ ghost use Rattle.std.specs.List.{list_all};
 ghost use Rattle.olap_meaning.specs.Covering.{just_covers};
 ghost use Rattle.olap_meaning.specs.History as history;
 ghost use Rattle.olap_meaning.specs.History.{exact_source};
-ghost use Rattle.olap_meaning.specs.Legal.{is_next_call};
+ghost use Rattle.olap_meaning.specs.Legal.{is_cell, is_next_call};
 ghost use Rattle.olap_meaning.specs.Worth.{answered_version, worth};
-ghost use Rattle.cache_manager.specs.Answers.{HasSource, IfLoad, IfReady, IsAnswer, SomeWants, source_of};
+ghost use Rattle.history_core.specs.Answers.{HasSource, IsAnswer, SomeWants, source_of};
+ghost use Rattle.cache_manager.specs.Looks.{IfLoad, IfReady};
 ghost use Rattle.cache_manager.specs.Groups as groups;
 ghost use Rattle.cache_manager.specs.Jobs.{IsJobOf, NoneFlies, numbers_from};
 ghost use Rattle.cache_manager.specs.Kept.{IsKept};
 ghost use Rattle.cache_manager.specs.Plans.{ArePlanned, IsPlanned};
 
-use crate::answers::{Answer, Answered, Look};
 use crate::groups::{first_cells, header_for};
 use crate::kept::{Flight, Kept, place_of_source};
 use crate::manager::Manager;
+use crate::outcome::Look;
 use crate::starts::{Planned, start_all};
-use history_core::{CellSource, Entry};
+use history_core::{Answer, Answered, CellSource, Entry};
 use olap_meaning::{Cell, List, OutOfMemory, Who};
 use segment_header::{copy_cell, copy_header};
 use segment_load::LoadJob;
@@ -43,15 +44,22 @@ impl Manager {
     /// gives one load, which allows just the values that its cells have.
     pub fn look(&mut self, who: Who, cells: &[Cell]) -> Result<Look, OutOfMemory>
         requires call { IsTrue (is_next_call self.old.entries who) }
-        requires known { IsTrue (list_all (groups.is_known self.old.setting.catalog) cells.now) }
+        requires known { IsTrue (list_all (is_cell self.old.setting.catalog) cells.now) }
         requires idle { NoneFlies self.old.entries }
         ensures setting { self.new.setting ≡ self.old.setting }
         ensures ready { IfReady result (λ answer. All (HasSource self.old) cells.now) }
         ensures answer { IfReady result (λ answer. IsAnswer self.old cells.now answer) }
-        ensures answer_entry { IfReady result (λ answer. self.new.entries ≡ self.old.entries ++ history.Answer who (map (source_of self.old.entries) cells.now) ∷ []) }
+        ensures answer_entry { IfReady result
+            (λ answer. self.new.entries ≡ self.old.entries
+            ++ history.Answer who (map (source_of self.old.entries) cells.now) ∷ []) }
         ensures load { IfLoad result (λ jobs. SomeWants self.old cells.now) }
-        ensures load_entries { IfLoad result (λ jobs. self.new.entries ≡ self.old.entries ++ map history.Start (groups.loads_for who self.old.entries cells.now)) }
-        ensures numbers { IfLoad result (λ jobs. map (λ job. job.load) jobs ≡ numbers_from (length self.old.entries + 1) (length (groups.loads_for who self.old.entries cells.now))) }
+        ensures load_entries { IfLoad result
+            (λ jobs. self.new.entries ≡ self.old.entries
+            ++ map history.Start (groups.loads_for self.old who cells.now)) }
+        ensures numbers { IfLoad result
+            (λ jobs. map (λ job. job.load) jobs
+            ≡ numbers_from (length self.old.entries + 1)
+            (length (groups.loads_for self.old who cells.now))) }
         ensures jobs { IfLoad result (λ jobs. All (IsJobOf self.new) jobs) }
         ensures unchanged { OnErr result (self.new ≡ self.old) }
     {
@@ -64,8 +72,10 @@ impl Manager {
 
     /// The kept load that a cell is answered from.
     fn source(&self, cell: &Cell) -> Option<&Kept>
-        ensures source { exact_source self.now.entries cell.now ≡ option_map (λ kept. kept.load) (option_copied result) }
-        ensures kept { IfSome result (λ kept. IsKept self.now.setting.catalog self.now.entries kept.now) }
+        ensures source { exact_source self.now.entries cell.now
+            ≡ option_map (λ kept. kept.load) (option_copied result) }
+        ensures kept { IfSome result
+            (λ kept. IsKept self.now.setting.catalog self.now.entries kept.now) }
         ensures serves { IfSome result (λ kept. just_covers kept.now.body.header cell.now ≡ true) }
     {
         match place_of_source(self.kept.as_slice(), cell) {
@@ -75,13 +85,14 @@ impl Manager {
     }
 
     /// The cells that have no source, in order.
-    fn wanting(&self, cells: &[Cell]) -> Result<Vec<Cell>, OutOfMemory>
-        ensures { IfOk result (λ wanted. wanted.items ≡ groups.wanting self.now.entries cells.now) }
+    fn wanting<'a>(&self, cells: &'a [Cell]) -> Result<Vec<&'a Cell>, OutOfMemory>
+        ensures { IfOk result (λ wanted.
+            groups.lent wanted.items ≡ groups.wanting self.now.entries cells.entry.now) }
     {
         let mut wanted = Vec::new(self.alloc);
         for cell in cells {
             if self.source(cell).is_none() {
-                wanted.push(copy_cell(self.alloc, cell)?)?;
+                wanted.push(cell)?;
             }
         }
         Ok(wanted)
@@ -89,10 +100,12 @@ impl Manager {
 
     /// What a cell is worth that has a source.
     fn answered(&self, cell: &Cell) -> Answered
-        requires known { IsTrue (groups.is_known self.now.setting.catalog cell.now) }
+        requires known { IsTrue (is_cell self.now.setting.catalog cell.now) }
         requires served { IsTrue (is_some (exact_source self.now.entries cell.now)) }
-        ensures value { worth self.now.setting.catalog self.now.entries (source_of self.now.entries cell.now) ≡ Some result.value }
-        ensures version { answered_version self.now.entries (source_of self.now.entries cell.now) ≡ Some result.version }
+        ensures value { worth self.now.setting.catalog self.now.entries
+            (source_of self.now.entries cell.now) ≡ Some result.value }
+        ensures version { answered_version self.now.entries (source_of self.now.entries cell.now)
+            ≡ Some result.version }
     {
         let kept = self.source(cell).unwrap();
         let _header = kept.body.header();
@@ -118,10 +131,17 @@ impl Manager {
 
     /// What cells are worth that have sources.
     fn all_answered(&self, cells: &[Cell]) -> Result<List<Answered>, OutOfMemory>
-        requires known { IsTrue (list_all (groups.is_known self.now.setting.catalog) cells.now) }
-        requires served { IsTrue (list_all (λ cell. is_some (exact_source self.now.entries cell)) cells.now) }
-        ensures values { IfOk result (λ answered. map (λ cell. worth self.now.setting.catalog self.now.entries (source_of self.now.entries cell)) cells.now ≡ map (λ one. Some one.value) answered) }
-        ensures versions { IfOk result (λ answered. map (λ cell. answered_version self.now.entries (source_of self.now.entries cell)) cells.now ≡ map (λ one. Some one.version) answered) }
+        requires known { IsTrue (list_all (is_cell self.now.setting.catalog) cells.now) }
+        requires served { IsTrue
+            (list_all (λ cell. is_some (exact_source self.now.entries cell)) cells.now) }
+        ensures values { IfOk result
+            (λ answered. map
+            (λ cell. worth self.now.setting.catalog self.now.entries
+            (source_of self.now.entries cell)) cells.now ≡ map (λ one. Some one.value) answered) }
+        ensures versions { IfOk result
+            (λ answered. map
+            (λ cell. answered_version self.now.entries (source_of self.now.entries cell)) cells.now
+            ≡ map (λ one. Some one.version) answered) }
     {
         let mut answered = Vec::with_capacity(self.alloc, cells.len())?;
         for cell in cells {
@@ -132,7 +152,8 @@ impl Manager {
 
     /// What cells are answered from that have sources.
     fn cell_sources(&self, cells: &[Cell]) -> Result<List<CellSource>, OutOfMemory>
-        requires served { IsTrue (list_all (λ cell. is_some (exact_source self.now.entries cell)) cells.now) }
+        requires served { IsTrue
+            (list_all (λ cell. is_some (exact_source self.now.entries cell)) cells.now) }
         ensures { IfOk result (λ sources. sources ≡ map (source_of self.now.entries) cells.now) }
     {
         let mut sources = Vec::with_capacity(self.alloc, cells.len())?;
@@ -145,16 +166,19 @@ impl Manager {
     /// Answers cells that have sources.
     fn answer(&mut self, who: Who, cells: &[Cell]) -> Result<Answer, OutOfMemory>
         requires call { IsTrue (is_next_call self.old.entries who) }
-        requires known { IsTrue (list_all (groups.is_known self.old.setting.catalog) cells.now) }
-        requires served { IsTrue (list_all (λ cell. is_some (exact_source self.old.entries cell)) cells.now) }
+        requires known { IsTrue (list_all (is_cell self.old.setting.catalog) cells.now) }
+        requires served { IsTrue
+            (list_all (λ cell. is_some (exact_source self.old.entries cell)) cells.now) }
         ensures setting { self.new.setting ≡ self.old.setting }
         ensures answer { IfOk result (λ answer. IsAnswer self.old cells.now answer) }
-        ensures entry { OnOk result (self.new.entries ≡ self.old.entries ++ history.Answer who (map (source_of self.old.entries) cells.now) ∷ []) }
+        ensures entry { OnOk result
+            (self.new.entries ≡ self.old.entries
+            ++ history.Answer who (map (source_of self.old.entries) cells.now) ∷ []) }
         ensures unchanged { OnErr result (self.new ≡ self.old) }
     {
         let answered = self.all_answered(cells)?;
         let sources = self.cell_sources(cells)?;
-        self.history.is_legal();
+        self.history.steps_are_legal();
         self.history.reserve(sum(self.flights.len(), 1)?)?;
         self.history.push(Entry::Answer {
             who,
@@ -172,11 +196,14 @@ impl Manager {
         who: Who,
         load: u64,
         first: &Cell,
-        wanted: &[Cell],
+        wanted: &[&Cell],
     ) -> Result<Planned, OutOfMemory>
-        requires known { IsTrue (groups.is_known self.now.setting.catalog first.now) }
-        requires among { Contains wanted.now first.now }
-        ensures { IfOk result (λ planned. IsPlanned self.now who wanted.now load first.now planned) }
+        requires known { IsTrue (is_cell self.now.setting.catalog first.now) }
+        requires all_known { IsTrue
+            (list_all (is_cell self.now.setting.catalog) (groups.lent wanted.now)) }
+        requires among { Contains (groups.lent wanted.now) first.now }
+        ensures { IfOk result
+            (λ planned. IsPlanned self.now who (groups.lent wanted.now) load first.now planned) }
     {
         let header = header_for(self.alloc, first, wanted)?;
         let copy = copy_header(self.alloc, &header)?;
@@ -196,9 +223,12 @@ impl Manager {
     }
 
     /// Prepares the loads of the groups of some cells.
-    fn plans(&self, who: Who, wanted: &[Cell]) -> Result<Vec<Planned>, OutOfMemory>
-        requires known { IsTrue (list_all (groups.is_known self.now.setting.catalog) wanted.now) }
-        ensures { IfOk result (λ plans. ArePlanned self.now who wanted.now (length self.now.entries + 1) (groups.firsts [] wanted.now) plans.items) }
+    fn plans(&self, who: Who, wanted: &[&Cell]) -> Result<Vec<Planned>, OutOfMemory>
+        requires known { IsTrue
+            (list_all (is_cell self.now.setting.catalog) (groups.lent wanted.now)) }
+        ensures { IfOk result
+            (λ plans. ArePlanned self.now who (groups.lent wanted.now) (length self.now.entries + 1)
+            (groups.firsts [] (groups.lent wanted.now)) plans.items) }
     {
         let firsts = first_cells(self.alloc, wanted)?;
         let mut plans = Vec::with_capacity(self.alloc, firsts.len())?;
@@ -211,19 +241,30 @@ impl Manager {
     }
 
     /// Starts the loads of the groups of some cells that have no source.
-    fn start(&mut self, who: Who, wanted: &[Cell]) -> Result<List<LoadJob>, OutOfMemory>
-        requires known { IsTrue (list_all (groups.is_known self.old.setting.catalog) wanted.now) }
-        requires unserved { IsTrue (list_all (λ cell. not (is_some (exact_source self.old.entries cell))) wanted.now) }
+    fn start(&mut self, who: Who, wanted: &[&Cell]) -> Result<List<LoadJob>, OutOfMemory>
+        requires known { IsTrue
+            (list_all (is_cell self.old.setting.catalog) (groups.lent wanted.now)) }
+        requires unserved { IsTrue
+            (list_all (λ cell. not (is_some (exact_source self.old.entries cell)))
+            (groups.lent wanted.now)) }
         requires idle { NoneFlies self.old.entries }
         ensures setting { self.new.setting ≡ self.old.setting }
-        ensures entries { OnOk result (self.new.entries ≡ self.old.entries ++ map history.Start (map (groups.load_for who self.old.entries wanted.now) (groups.firsts [] wanted.now))) }
-        ensures numbers { IfOk result (λ jobs. map (λ job. job.load) jobs ≡ numbers_from (length self.old.entries + 1) (length (map (groups.load_for who self.old.entries wanted.now) (groups.firsts [] wanted.now)))) }
+        ensures entries { OnOk result
+            (self.new.entries ≡ self.old.entries
+            ++ map history.Start
+            (map (groups.load_for self.old who (groups.lent wanted.now))
+            (groups.firsts [] (groups.lent wanted.now)))) }
+        ensures numbers { IfOk result
+            (λ jobs. map (λ job. job.load) jobs
+            ≡ numbers_from (length self.old.entries + 1)
+            (length (map (groups.load_for self.old who (groups.lent wanted.now))
+            (groups.firsts [] (groups.lent wanted.now))))) }
         ensures jobs { IfOk result (λ jobs. All (IsJobOf self.new) jobs) }
         ensures unchanged { OnErr result (self.new ≡ self.old) }
     {
         let plans = self.plans(who, wanted)?;
         let mut jobs = Vec::with_capacity(self.alloc, plans.len())?;
-        self.history.is_legal();
+        self.history.steps_are_legal();
         let ends = sum(self.flights.len(), plans.len())?;
         self.kept.reserve(ends)?;
         self.flights.reserve(plans.len())?;

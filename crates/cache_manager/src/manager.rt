@@ -2,16 +2,15 @@
 ghost use Rattle.std.specs.Prelude.{◌≡◌, ◌⊎◌, ◌↔◌, ◌<◌, ◌≤◌, ◌+◌, ◌++◌, ◌∷◌, [], IfErr, IfOk, IfSome, IsTrue, None, OnErr, OnOk, Some, length, true};
 ghost use Rattle.olap_meaning.specs.History.{Append, Done, Drop, flying, load_version, rows_of, version};
 ghost use Rattle.olap_meaning.specs.Legal.{Legal, is_next_call};
+ghost use Rattle.fact_versions.specs.Facts.{append_fault};
 ghost use Rattle.history_core.specs.History.{setting_of};
 ghost use Rattle.segment_load.specs.Loads.{are_batches, is_batch, rows_in};
-ghost use Rattle.cache_manager.specs.Cache.{append_refusal};
+ghost use Rattle.cache_manager.specs.Arrivals.{arrival_in};
 ghost use Rattle.cache_manager.specs.Jobs.{IsOwnBody, IsOwnLoad, NoneFlies};
 
-use crate::answers::Appended;
 use crate::kept::{Flight, Kept, end_flight, version_of};
-use fact_batches::Batch;
-use fact_versions::{AppendFault, Facts, Snapshot};
-use history_core::{Entry, History};
+use fact_versions::{AppendFault, Batch, Facts, Snapshot};
+use history_core::{Appended, Entry, History};
 use olap_catalog::Catalog;
 use olap_meaning::{CubeId, OutOfMemory, ROW_LIMIT, Version, Who};
 use segment_load::{Delivery, LoadJob};
@@ -33,7 +32,7 @@ pub struct Manager {
 impl Model for Manager {
     ghost use Rattle.std.specs.Prelude.{◌-◌};
     ghost use Rattle.std.specs.Vec.{vec_capacity, vec_len};
-    ghost use Rattle.cache_manager.specs.Cache.{CacheOf};
+    ghost use Rattle.history_core.specs.Cache.{CacheOf};
     ghost use Rattle.cache_manager.specs.Kept.{IsManager};
 
     ghost Value = { CacheOf };
@@ -53,7 +52,9 @@ impl Manager {
         budget: u64,
     ) -> Result<Manager, OutOfMemory>
         requires { row_limit ≤ ROW_LIMIT }
-        ensures { IfOk result (λ manager. manager ≡ record { setting = setting_of catalog.value row_limit budget; entries = [] }) }
+        ensures { IfOk result
+            (λ manager. manager
+            ≡ record { setting = setting_of catalog.value row_limit budget; entries = [] }) }
     {
         let facts = Facts::new(alloc, catalog.cube_count(), row_limit)?;
         Ok(Manager {
@@ -71,14 +72,17 @@ impl Manager {
         requires known { cube < length self.old.setting.catalog.cubes }
         requires fit { IsTrue (is_batch self.old.setting.catalog cube batch) }
         ensures setting { self.new.setting ≡ self.old.setting }
-        ensures entry { OnOk result (self.new.entries ≡ self.old.entries ++ Append who cube (version self.old.entries cube + 1) batch.rows ∷ []) }
+        ensures entry { OnOk result (self.new.entries ≡ self.old.entries
+            ++ Append who cube (version self.old.entries cube + 1) batch.rows ∷ []) }
         ensures position { IfOk result (λ appended. appended.position ≡ length self.new.entries) }
-        ensures version { IfOk result (λ appended. appended.version ≡ version self.new.entries cube) }
-        ensures admitted { OnOk result (append_refusal self.old cube batch.rows ≡ None) }
-        ensures fault { IfErr result (λ fault. (fault ≡ AppendFault.OutOfMemory) ⊎ (append_refusal self.old cube batch.rows ≡ Some fault)) }
+        ensures version { IfOk result
+            (λ appended. appended.version ≡ version self.new.entries cube) }
+        ensures admitted { OnOk result (append_fault (arrival_in self.old cube batch.rows) ≡ None) }
+        ensures fault { IfErr result (λ fault. (fault ≡ AppendFault.OutOfMemory)
+            ⊎ (append_fault (arrival_in self.old cube batch.rows) ≡ Some fault)) }
         ensures unchanged { OnErr result (self.new ≡ self.old) }
     {
-        self.history.is_legal();
+        self.history.steps_are_legal();
         self.history.reserve(self.flights.len() + 1)?;
         let batch = shared(self.alloc, batch)?;
         let version = match self.facts.append(cube, shared_again(&batch)?) {
@@ -100,9 +104,13 @@ impl Manager {
     /// The present version of a cube.
     pub fn snapshot(&self, cube: CubeId) -> Result<Snapshot, OutOfMemory>
         requires { cube < length self.now.setting.catalog.cubes }
-        ensures version { IfOk result (λ snapshot. length snapshot ≡ version self.now.entries cube) }
-        ensures rows { IfOk result (λ snapshot. rows_in snapshot ≡ rows_of self.now.entries cube (version self.now.entries cube)) }
-        ensures fit { IfOk result (λ snapshot. IsTrue (are_batches self.now.setting.catalog cube snapshot)) }
+        ensures version { IfOk result
+            (λ snapshot. length snapshot ≡ version self.now.entries cube) }
+        ensures rows { IfOk result
+            (λ snapshot. rows_in snapshot
+            ≡ rows_of self.now.entries cube (version self.now.entries cube)) }
+        ensures fit { IfOk result
+            (λ snapshot. IsTrue (are_batches self.now.setting.catalog cube snapshot)) }
     {
         let snapshot = self.facts.snapshot(cube, self.facts.version(cube))?;
         Ok(snapshot)
@@ -132,10 +140,10 @@ impl Manager {
     }
 
     /// What happened is legal. This costs nothing.
-    pub fn is_legal(&self)
+    pub fn steps_are_legal(&self)
         ensures { Legal self.now.setting self.now.entries }
     {
-        self.history.is_legal();
+        self.history.steps_are_legal();
     }
 
     /// Whether no load is in flight.
@@ -157,11 +165,12 @@ impl Manager {
     pub fn deliver(&mut self, delivery: Delivery)
         requires own { IsOwnBody self.old delivery.who delivery.load delivery.body }
         ensures setting { self.new.setting ≡ self.old.setting }
-        ensures entry { self.new.entries ≡ self.old.entries ++ Done delivery.who delivery.load ∷ [] }
+        ensures entry { self.new.entries ≡ self.old.entries ++ Done delivery.who delivery.load
+            ∷ [] }
     {
         let load = delivery.load;
         let _header = delivery.body.header();
-        self.history.is_legal();
+        self.history.steps_are_legal();
         let version = self.version_in_flight(load);
         self.history.push(Entry::Done {
             who: delivery.who,
@@ -183,7 +192,7 @@ impl Manager {
         ensures entry { self.new.entries ≡ self.old.entries ++ Drop job.who job.load ∷ [] }
     {
         let load = job.load();
-        self.history.is_legal();
+        self.history.steps_are_legal();
         self.history.push(Entry::Drop {
             who: job.who(),
             load,

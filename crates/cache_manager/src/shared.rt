@@ -1,6 +1,7 @@
 //! Threads may take a manager and share what it answers: this is proved only where the bounds hold.
-use crate::answers::{Answer, Look};
 use crate::manager::Manager;
+use crate::outcome::Look;
+use history_core::Answer;
 
 fn may_be_shared<T: Send + Sync>() {}
 

@@ -23,14 +23,17 @@ pub(crate) fn start_all(
     jobs: &mut Vec<LoadJob>,
     plans: Vec<Planned>,
 )
-    requires legal { AreLegalSteps history.old.setting history.old.entries (map (λ planned. entry_of planned.start) plans.items) }
+    requires legal { AreLegalSteps history.old.setting history.old.entries
+        (map (λ planned. entry_of planned.start) plans.items) }
     requires room { length plans.items ≤ history.old.spare }
     requires flights_room { vec_len flights.old + length plans.items ≤ vec_capacity flights.old }
     requires jobs_room { vec_len jobs.old + length plans.items ≤ vec_capacity jobs.old }
     ensures setting { history.new.setting ≡ history.old.setting }
-    ensures entries { history.new.entries ≡ history.old.entries ++ map (λ planned. entry_of planned.start) plans.items }
+    ensures entries { history.new.entries ≡ history.old.entries
+        ++ map (λ planned. entry_of planned.start) plans.items }
     ensures spare { history.new.spare + length plans.items ≡ history.old.spare }
-    ensures flights { flights.new.items ≡ flights.old.items ++ map (λ planned. planned.flight) plans.items }
+    ensures flights { flights.new.items ≡ flights.old.items
+        ++ map (λ planned. planned.flight) plans.items }
     ensures jobs { jobs.new.items ≡ jobs.old.items ++ map (λ planned. planned.job) plans.items }
 {
     for planned in plans {

@@ -6,7 +6,7 @@ use Rattle.std.proofs.lemmas.List.Sums.{sum_by_push, sum_by-cons}
 use Rattle.olap_meaning.specs.declared.cells.Who.{Who}
 use Rattle.olap_meaning.specs.declared.tables.Row.{Row}
 use Rattle.olap_meaning.specs.History.{Entry, Append, appended, started, version}
-use Rattle.olap_meaning.specs.Legal.{is_call_below, is_call_of, is_next_call, rows_held, rows_in}
+use Rattle.olap_meaning.specs.Legal.{is_call_below, is_call_of, is_next_call, rows_held, rows_added}
 use Rattle.cache_manager.specs.Jobs.{NoneFlies}
 use Rattle.cache_opening.specs.Opening.{base_entries}
 
@@ -17,7 +17,7 @@ base_more k [] rows = rw (add-zero k) refl
 base_more k (b ∷ bs) rows = ap (λ (es : List Entry). Append (record { seat = 0; call = suc k }) k 1 b ∷ es) (base_more (suc k) bs rows ∙ let same : suc k + length bs ≡ k + suc (length bs) = omega arith in ap (λ (n : ℕ). base_entries (suc k) bs ++ Append (record { seat = 0; call = suc n }) n 1 rows ∷ []) same)
 
 pub held_more : (entries : List Entry) (rows : List Row) (cube : ℕ) → rows_held (entries ++ Append (record { seat = 0; call = cube + 1 }) cube 1 rows ∷ []) ≡ rows_held entries + length rows
-held_more entries rows cube = sum_by_push rows_in entries (Append (record { seat = 0; call = cube + 1 }) cube 1 rows)
+held_more entries rows cube = sum_by_push rows_added entries (Append (record { seat = 0; call = cube + 1 }) cube 1 rows)
 
 calls_below : (k call : ℕ) (batches : List (List Row)) → k + length batches < call → list_all (is_call_below call) (filter (is_call_of 0) (base_entries k batches)) ≡ true
 calls_below k call [] below = refl

@@ -11,15 +11,19 @@ use Rattle.olap_meaning.specs.declared.tables.Setting.{Setting}
 use Rattle.olap_meaning.specs.History.{Entry, Append}
 use Rattle.olap_meaning.specs.Legal.{rows_held}
 use Rattle.csv_records.proofs.FieldFacts.{drop_at}
-use Rattle.fact_batches.specs.FactRows.{FactRows}
+use Rattle.fact_versions.specs.FactRows.{FactRows}
 use Rattle.fact_versions.specs.declared.faults.AppendFault.{AppendFault}
 use Rattle.fact_versions.specs.declared.faults.AppendFault.TheVariants.{TooManyRows, TooManyVersions, OutOfMemory as NoMemory}
-use Rattle.cache_manager.specs.Cache.{CacheOf, append_refusal}
+use Rattle.history_core.specs.Cache.{CacheOf}
+use Rattle.fact_versions.specs.Facts.{append_fault}
+use Rattle.cache_manager.specs.Arrivals.{arrival_in}
+use Rattle.olap_meaning.specs.Results.{◌>>=◌}
+use Rattle.outside.specs.Told.{Files, Shown}
 use Rattle.cache_opening.specs.declared.fault.OpenFault.{OpenFault}
 use Rattle.cache_opening.specs.declared.fault.OpenFault.TheVariants.{NoFile, Unbuilt, Source, OutOfMemory}
-use Rattle.cache_opening.specs.Causes.{HasCause, IsRead, IsRefused, Shown}
+use Rattle.cache_opening.specs.Causes.{HasCause, IsRead, IsRefused}
 use Rattle.cache_opening.specs.Opening as opening
-use Rattle.cache_opening.specs.Opening.{◌>>=◌, Files, Refusal, base_entries, batch_from, batches_from, facts_from, fitting}
+use Rattle.cache_opening.specs.Opening.{Refusal, base_entries, batch_from, batches_from, facts_from, fitting}
 use Rattle.cache_opening.specs.Steps.{AreOpened, IsAppended, IsBegun, IsFileFault, IsNext, IsWhole}
 use Rattle.cache_opening.proofs.BaseFacts.{base_fresh, base_more, base_next, held_more}
 use Rattle.cache_opening.proofs.ReadingFacts.{cause_file, cause_first, read_on, shift, unshifted}
@@ -144,7 +148,7 @@ refused_by true limit held rows file found test same refused = let P : ℕ → T
 refused_by false limit held rows file found test same refused = absurd (let e : refusal_of limit held (length rows) 0 ≡ None = rw test refl in let n : ⊥ = cc in n)
 
 module _ (cache : CacheOf) (cube : ℕ) (rows : List Row) (next : IsNext cache cube) where
-  refusal_is : append_refusal cache cube rows ≡ refusal_of cache.setting.row_limit (rows_held cache.entries) (length rows) 0
+  refusal_is : append_fault (arrival_in cache cube rows) ≡ refusal_of cache.setting.row_limit (rows_held cache.entries) (length rows) 0
   unfolding refusal_of
   refusal_is = rw next.fresh refl
 
@@ -156,19 +160,19 @@ module _ (cache : CacheOf) (cube : ℕ) (rows : List Row) (next : IsNext cache c
       by None at = absurd (let past : length cache.setting.catalog.schema.cubes ≤ cube = none_past cache.setting.catalog.schema.cubes cube at in let known : cube < length cache.setting.catalog.cubes = next.known in omega (arith, next.whole.cubes))
       by (Some c) at = all c at
 
-  pub batch_fits : append_refusal cache cube rows ≡ None → IsSomeAnd (slice_get cache.setting.catalog.schema.cubes cube) (λ c. fitting c.fact (rows_held cache.entries) rows ≡ Ok rows)
+  pub batch_fits : append_fault (arrival_in cache cube rows) ≡ None → IsSomeAnd (slice_get cache.setting.catalog.schema.cubes cube) (λ c. fitting c.fact (rows_held cache.entries) rows ≡ Ok rows)
   batch_fits passes =
       found_cube (λ c. fitting c.fact (rows_held cache.entries) rows ≡ Ok rows)
       (λ c at. fits_by (nat_lt cache.setting.row_limit (rows_held cache.entries + length rows)) cache.setting.row_limit (rows_held cache.entries) rows c.fact refl (sym next.limit) (sym refusal_is ∙ passes))
 
   pub batch_refused :
       (catalog : Catalog) (name : List ℕ) (found : AppendFault) (fault : OpenFault) → catalog ≡ cache.setting.catalog → IsSomeAnd (slice_get catalog.schema.cubes cube) (λ c. name ≡ c.fact)
-      → (found ≡ NoMemory) ⊎ (append_refusal cache cube rows ≡ Some found) → (fault ≡ OutOfMemory) ⊎ ((fault ≡ Unbuilt name) × (found ≡ NoMemory → ⊥))
+      → (found ≡ NoMemory) ⊎ (append_fault (arrival_in cache cube rows) ≡ Some found) → (fault ≡ OutOfMemory) ⊎ ((fault ≡ Unbuilt name) × (found ≡ NoMemory → ⊥))
       → IsSomeAnd (slice_get cache.setting.catalog.schema.cubes cube) (λ c. IsFileFault (fitting c.fact (rows_held cache.entries) rows) fault)
   batch_refused catalog name found fault same named why is =
       found_cube (λ c. IsFileFault (fitting c.fact (rows_held cache.entries) rows) fault) (λ c at. by c (rw (same, at) at named) is why)
     where
-      by : (c : SchemaCube) → name ≡ c.fact → (fault ≡ OutOfMemory) ⊎ ((fault ≡ Unbuilt name) × (found ≡ NoMemory → ⊥)) → (found ≡ NoMemory) ⊎ (append_refusal cache cube rows ≡ Some found) → IsFileFault (fitting c.fact (rows_held cache.entries) rows) fault
+      by : (c : SchemaCube) → name ≡ c.fact → (fault ≡ OutOfMemory) ⊎ ((fault ≡ Unbuilt name) × (found ≡ NoMemory → ⊥)) → (found ≡ NoMemory) ⊎ (append_fault (arrival_in cache cube rows) ≡ Some found) → IsFileFault (fitting c.fact (rows_held cache.entries) rows) fault
       by c file (inl memory) w = rw memory tt
       by c file (inr (unbuilt, other)) (inl memory) = absurd (other memory)
       by c file (inr (unbuilt, other)) (inr refused) =

@@ -8,11 +8,13 @@ use Rattle.olap_meaning.specs.declared.tables.Row.{Row}
 use Rattle.olap_meaning.specs.declared.tables.Setting.{Setting}
 use Rattle.olap_meaning.specs.Schema.{catalog_of}
 use Rattle.history_core.specs.History.{setting_of}
-use Rattle.cache_manager.specs.Cache.{CacheOf}
+use Rattle.history_core.specs.Cache.{CacheOf}
+use Rattle.olap_meaning.specs.Results.{◌>>=◌}
+use Rattle.outside.specs.Told.{Files, Shown}
 use Rattle.cache_opening.specs.declared.fault.OpenFault.{OpenFault}
 use Rattle.cache_opening.specs.declared.opened.TheConstants.{BUDGET}
-use Rattle.cache_opening.specs.Causes.{HasCause, IsRead, Shown}
-use Rattle.cache_opening.specs.Opening.{◌>>=◌, Files, IsOpened, Opening, Refusal, batches_from, catalog_from, opening_of, schema_from, tables_from}
+use Rattle.cache_opening.specs.Causes.{HasCause, IsRead}
+use Rattle.cache_opening.specs.Opening.{IsOpened, Opening, Refusal, batches_from, catalog_from, opening_of, schema_from, tables_from}
 use Rattle.cache_opening.specs.Steps.{AreOpened, IsBegun, IsWhole}
 use Rattle.cache_opening.proofs.ReadingFacts.{cause_first, cause_on, read_on}
 

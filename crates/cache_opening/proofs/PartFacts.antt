@@ -1,9 +1,11 @@
 -- What is made of one file: of the file that a part of a schema names.
 use Rattle.std.proofs.Common.{◌≡◌, ap, subst, ℕ, List, Option, Some, None, Result, Ok, Err, IfOk, IfErr}
 use Rattle.std.specs.Option.{IsSomeAnd}
+use Rattle.olap_meaning.specs.Results.{◌>>=◌}
+use Rattle.outside.specs.Told.{Files, Shown}
 use Rattle.cache_opening.specs.declared.fault.OpenFault.{OpenFault}
-use Rattle.cache_opening.specs.Causes.{HasCause, IsRead, Shown}
-use Rattle.cache_opening.specs.Opening.{◌>>=◌, Files, Refusal, bytes_of, read_by}
+use Rattle.cache_opening.specs.Causes.{HasCause, IsRead}
+use Rattle.cache_opening.specs.Opening.{Refusal, bytes_of, read_by}
 use Rattle.cache_opening.specs.Steps.{IsFileFault}
 use Rattle.cache_opening.proofs.ReadingFacts.{cause_file, cause_first, read_on}
 

@@ -1,12 +1,13 @@
 -- A reading that follows another.
 use Rattle.std.proofs.Common.{◌≡◌, refl, sym, ap, ℕ, ◌<◌, ◌≤◌, List, [], ◌∷◌, ◌++◌, Option, Some, None, Result, Ok, Err, arith, append_assoc, inl, inr}
 use Rattle.std.specs.Prelude.{IfSome}
+use Rattle.olap_meaning.specs.Results.{◌>>=◌}
 use Rattle.cache_opening.specs.declared.fault.OpenFault.{OpenFault}
 use Rattle.cache_opening.specs.declared.fault.OpenFault.TheVariants.{NoFile, Unbuilt, Source, OutOfMemory}
-use Rattle.cache_opening.specs.Causes.{HasCause, IsRead, IsRefused, Shown}
-use Rattle.outside.specs.Told.{file_named}
+use Rattle.cache_opening.specs.Causes.{HasCause, IsRead, IsRefused}
+use Rattle.outside.specs.Told.{Files, Shown, file_named}
 use Rattle.cache_opening.specs.Opening as opening
-use Rattle.cache_opening.specs.Opening.{◌>>=◌, Files, Refusal, bytes_of, read_by}
+use Rattle.cache_opening.specs.Opening.{Refusal, bytes_of, read_by}
 use Rattle.cache_opening.specs.Steps.{IsFileFault, IsUnbuilt}
 
 module _ {A B : Type 0} (first : Files → Result A Refusal) (rest : Files → A → Result B Refusal) where

@@ -8,12 +8,14 @@ use Rattle.olap_meaning.specs.declared.tables.Record.{Record}
 use Rattle.olap_meaning.specs.Schema.{levels_of}
 use Rattle.olap_meaning.proofs.Positions.{take-push}
 use Rattle.olap_catalog.specs.Parts.{records_in}
-use Rattle.olap_catalog.specs.Tables.{TableOf}
+use Rattle.catalog_tables.specs.Tables.{TableOf}
 use Rattle.csv_records.proofs.FieldFacts.{drop_at}
+use Rattle.olap_meaning.specs.Results.{◌>>=◌}
+use Rattle.outside.specs.Told.{Files}
 use Rattle.cache_opening.specs.declared.fault.OpenFault.{OpenFault}
 use Rattle.cache_opening.specs.declared.fault.OpenFault.TheVariants.{NoFile, Unbuilt, Source, OutOfMemory}
 use Rattle.cache_opening.specs.Causes.{HasCause, IsRead, IsRefused}
-use Rattle.cache_opening.specs.Opening.{◌>>=◌, Files, Refusal, table_from, tables_from}
+use Rattle.cache_opening.specs.Opening.{Refusal, table_from, tables_from}
 use Rattle.cache_opening.proofs.ReadingFacts.{shift, unshifted}
 
 -- the first tables were read, and those of the other dimensions follow

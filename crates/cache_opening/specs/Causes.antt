@@ -1,17 +1,10 @@
 -- Why a cache was not opened.
-use Rattle.std.specs.Prelude.{ℕ, ◌<◌, ◌≡◌, Option, Result, Ok, Err, IfSome}
+use Rattle.std.specs.Prelude.{◌<◌, ◌≡◌, Option, Result, Ok, Err, IfSome}
+use Rattle.outside.specs.Told.{Files, Shown}
 use Rattle.cache_opening.specs.declared.fault.OpenFault.{OpenFault}
 use Rattle.cache_opening.specs.declared.fault.OpenFault.TheVariants.{NoFile, Unbuilt, Source, OutOfMemory}
 use Rattle.cache_opening.specs.Opening as opening
-use Rattle.cache_opening.specs.Opening.{Files, Refusal}
-
--- what a depot shows of some calls: its files, where it tells them, and its counts of misses and of faults, each before the calls and after them
-pub record Shown : Type 0 where
-  pub files : Option Files
-  pub misses_before : ℕ
-  pub misses_after : ℕ
-  pub faults_before : ℕ
-  pub faults_after : ℕ
+use Rattle.cache_opening.specs.Opening.{Refusal}
 
 -- where the files are told, this is read of them
 abbrev pub IsRead : {A : Type 0} → Option Files → (Files → Result A Refusal) → A → Type 0
@@ -23,7 +16,8 @@ IsRefused files reading refusal = IfSome files (λ all. reading all ≡ Err refu
 
 -- a fault has its cause: a file is missing, a file is refused, or a read has failed. Want of memory is free
 abbrev pub HasCause : {A : Type 0} → Shown → (Files → Result A Refusal) → OpenFault → Type 0
-HasCause shown reading (NoFile name) = (shown.misses_before < shown.misses_after) × IsRefused shown.files reading (opening.NoFile name)
+HasCause shown reading (NoFile name) =
+    (shown.misses_before < shown.misses_after) × IsRefused shown.files reading (opening.NoFile name)
 HasCause shown reading (Unbuilt file) = IsRefused shown.files reading (opening.Unbuilt file)
 HasCause shown reading Source = shown.faults_before < shown.faults_after
 HasCause shown reading OutOfMemory = Unit {0}

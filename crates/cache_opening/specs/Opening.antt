@@ -8,30 +8,21 @@ use Rattle.olap_meaning.specs.declared.tables.Catalog.{Catalog}
 use Rattle.olap_meaning.specs.declared.tables.Record.{Record}
 use Rattle.olap_meaning.specs.declared.tables.Row.{Row}
 use Rattle.olap_meaning.specs.History.{Entry, Append}
+use Rattle.olap_meaning.specs.Results.{◌>>=◌}
 use Rattle.olap_meaning.specs.Schema.{catalog_of}
-use Rattle.outside.specs.Told.{file_named}
+use Rattle.outside.specs.Told.{Files, file_named}
 use Rattle.cube_schema.specs.Schemas.{schema_of}
 use Rattle.dim_tables.specs.TableFiles.{table_of}
-use Rattle.fact_batches.specs.FactRows.{FactRows}
+use Rattle.fact_versions.specs.FactRows.{FactRows}
 use Rattle.fact_rows.specs.BatchFiles.{batch_of}
 use Rattle.history_core.specs.History.{setting_of}
-use Rattle.cache_manager.specs.Cache.{CacheOf}
+use Rattle.history_core.specs.Cache.{CacheOf}
 use Rattle.cache_opening.specs.declared.opened.TheConstants.{BUDGET}
-
--- some files, each with its name
-abbrev pub Files : Type 0
-Files = List (List ℕ × List ℕ)
 
 -- why files open no cache: no file has this name, or this file is refused
 pub data Refusal : Type 0 where
   NoFile : List ℕ → Refusal
   Unbuilt : List ℕ → Refusal
-
-infixl 10 ◌>>=◌
--- a step and what follows it: the first refusal of both
-abbrev pub ◌>>=◌ : {A B : Type 0} → Result A Refusal → (A → Result B Refusal) → Result B Refusal
-(Ok x) >>= f = f x
-(Err e) >>= f = Err e
 
 -- a file that must be there
 abbrev pub there : List ℕ → Option (List ℕ) → Result (List ℕ) Refusal
@@ -76,7 +67,8 @@ catalog_from files file = do
 
 -- rows that must fit beside so many others: a file whose rows are too many is refused
 abbrev pub fitting : List ℕ → ℕ → List Row → Result (List Row) Refusal
-fitting file held rows = if nat_lt ROW_LIMIT (held + length rows) then Err (Unbuilt file) else Ok rows
+fitting file held rows =
+    if nat_lt ROW_LIMIT (held + length rows) then Err (Unbuilt file) else Ok rows
 
 -- the base batch of the cube of this number
 unfoldable pub facts_from : Files → Catalog → ℕ → SchemaCube → Result FactRows Refusal
@@ -91,7 +83,8 @@ batch_from files catalog cube held c = do
   fitting c.fact held batch.rows
 
 -- the rows of the base batches of some cubes, numbered from one on, beside so many others
-unfoldable pub batches_from : Files → Catalog → ℕ → ℕ → List SchemaCube → Result (List (List Row)) Refusal
+unfoldable pub batches_from : Files → Catalog → ℕ → ℕ → List SchemaCube
+    → Result (List (List Row)) Refusal
 batches_from files catalog cube held [] = Ok []
 batches_from files catalog cube held (c ∷ cs) = do
   rows ← batch_from files catalog cube held c
@@ -110,12 +103,15 @@ opening_of files file = do
   batches ← batches_from files catalog 0 0 catalog.schema.cubes
   Ok (record { catalog = catalog; batches = batches })
 
--- the entries of base batches, from the one of this cube on: each is an append by seat 0, numbered from 1, and makes its cube's version 1
+-- the entries of base batches, from the one of this cube on: each is an append by seat 0, numbered from 1, and makes
+-- its cube's version 1
 abbrev pub base_entries : ℕ → List (List Row) → List Entry
 base_entries cube [] = []
-base_entries cube (rows ∷ batches) = Append (record { seat = 0; call = suc cube }) cube 1 rows ∷ base_entries (suc cube) batches
+base_entries cube (rows ∷ batches) =
+    Append (record { seat = 0; call = suc cube }) cube 1 rows ∷ base_entries (suc cube) batches
 
--- a manager is opened from a schema's file: it has the catalog, and in its history just the base batches. Where the files are told, these are what the file opens
+-- a manager is opened from a schema's file: it has the catalog, and in its history just the base batches. Where the
+-- files are told, these are what the file opens
 pub record IsOpened (files : Option Files) (file : List ℕ) (manager : CacheOf) : Type 0 where
   pub opening : Opening
   pub read : IfSome files (λ all. opening_of all file ≡ Ok opening)

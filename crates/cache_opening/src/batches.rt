@@ -2,14 +2,15 @@
 ghost use Rattle.std.specs.Prelude.{◌≡◌, ◌≤◌, ◌<◌, IfErr, IfOk, IsSomeAnd, IsTrue, Ok, length, slice_get};
 ghost use Rattle.fact_rows.specs.BatchFiles.{batch_of};
 ghost use Rattle.segment_load.specs.Loads.{is_batch};
+ghost use Rattle.outside.specs.Told.{shown_of};
 ghost use Rattle.cache_opening.specs.Causes.{HasCause, IsRead};
 ghost use Rattle.cache_opening.specs.Steps.{IsFileFault, IsWhole};
 ghost use Rattle.cache_opening.specs.Opening.{facts_from, read_by};
 
 use crate::fault::OpenFault;
 use crate::files::{fetch, unbuilt};
-use fact_batches::Batch;
 use fact_rows::{BatchFault, read_batch};
+use fact_versions::Batch;
 use olap_catalog::Catalog;
 use olap_meaning::CubeId;
 use outside::Depot;
@@ -35,7 +36,9 @@ fn batch_in(
     requires whole { IsWhole catalog.now }
     ensures ok { IfOk result (λ batch. batch_of catalog.now cube bytes.now ≡ Ok batch) }
     ensures fit { IfOk result (λ batch. IsTrue (is_batch catalog.now cube batch)) }
-    ensures fault { IfErr result (λ fault. IsSomeAnd (slice_get catalog.now.schema.cubes cube) (λ c. IsFileFault (read_by c.fact (batch_of catalog.now cube bytes.now)) fault)) }
+    ensures fault { IfErr result (λ fault.
+        IsSomeAnd (slice_get catalog.now.schema.cubes cube)
+        (λ c. IsFileFault (read_by c.fact (batch_of catalog.now cube bytes.now)) fault)) }
 {
     match read_batch(alloc, catalog, cube, bytes) {
         Ok(batch) => Ok(batch),
@@ -53,15 +56,14 @@ pub(crate) fn open_batch<D: Depot>(
 ) -> Result<Batch, OpenFault>
     requires known { cube < length catalog.now.cubes }
     requires whole { IsWhole catalog.now }
-    ensures ok { IfOk result (λ batch. IsSomeAnd (slice_get catalog.now.schema.cubes cube) (λ c. IsRead (D.files depot.old) (λ all. facts_from all catalog.now cube c) batch)) }
+    ensures ok { IfOk result (λ batch.
+        IsSomeAnd (slice_get catalog.now.schema.cubes cube)
+        (λ c. IsRead (D.files depot.old) (λ all. facts_from all catalog.now cube c) batch)) }
     ensures fit { IfOk result (λ batch. IsTrue (is_batch catalog.now cube batch)) }
-    ensures fault { IfErr result (λ fault. IsSomeAnd (slice_get catalog.now.schema.cubes cube) (λ c. HasCause (record {
-      files = D.files depot.old;
-      misses_before = D.misses depot.old;
-      misses_after = D.misses depot.new;
-      faults_before = D.faults depot.old;
-      faults_after = D.faults depot.new;
-    }) (λ all. facts_from all catalog.now cube c) fault)) }
+    ensures fault { IfErr result (λ fault.
+        IsSomeAnd (slice_get catalog.now.schema.cubes cube)
+        (λ c. HasCause (shown_of D.files D.misses D.faults depot.old depot.new)
+        (λ all. facts_from all catalog.now cube c) fault)) }
     ensures same_files { D.files depot.new ≡ D.files depot.old }
     ensures fault_count { D.faults depot.old ≤ D.faults depot.new }
     ensures miss_count { D.misses depot.old ≤ D.misses depot.new }

@@ -4,15 +4,17 @@ ghost use Rattle.olap_meaning.specs.Schema.{IsWithinLimits, levels_of};
 ghost use Rattle.cube_schema.specs.Schemas.{schema_of};
 ghost use Rattle.dim_tables.specs.TableFiles.{table_of};
 ghost use Rattle.olap_catalog.specs.Parts.{records_in};
+ghost use Rattle.outside.specs.Told.{shown_of};
 ghost use Rattle.cache_opening.specs.Causes.{HasCause, IsRead};
 ghost use Rattle.cache_opening.specs.Steps.{IsFileFault, IsWhole, IsWholeSchema};
 ghost use Rattle.cache_opening.specs.Opening.{catalog_from, read_by, schema_from, table_from, tables_from};
 
 use crate::fault::OpenFault;
 use crate::files::{fetch, unbuilt};
+use catalog_tables::Table;
 use cube_schema::{SchemaFault, read_schema};
 use dim_tables::{TableFault, read_table};
-use olap_catalog::{Catalog, Table, build_catalog};
+use olap_catalog::{Catalog, build_catalog};
 use olap_meaning::List;
 use olap_meaning::schema::Schema;
 use outside::Depot;
@@ -22,7 +24,8 @@ use std::alloc::Global;
 fn schema_in(alloc: Global, file: &str, bytes: &[u8]) -> Result<Schema, OpenFault>
     ensures ok { IfOk result (λ schema. schema_of bytes.now ≡ Ok schema) }
     ensures limits { IfOk result (λ schema. IsWithinLimits schema) }
-    ensures fault { IfErr result (λ fault. IsFileFault (read_by file.now (schema_of bytes.now)) fault) }
+    ensures fault { IfErr result (λ fault.
+        IsFileFault (read_by file.now (schema_of bytes.now)) fault) }
 {
     match read_schema(alloc, bytes) {
         Ok(schema) => Ok(schema),
@@ -33,15 +36,12 @@ fn schema_in(alloc: Global, file: &str, bytes: &[u8]) -> Result<Schema, OpenFaul
 
 // The schema of a file.
 fn open_schema<D: Depot>(alloc: Global, depot: &mut D, file: &str) -> Result<Schema, OpenFault>
-    ensures ok { IfOk result (λ schema. IsRead (D.files depot.old) (λ all. schema_from all file.now) schema) }
+    ensures ok { IfOk result (λ schema.
+        IsRead (D.files depot.old) (λ all. schema_from all file.now) schema) }
     ensures whole { IfOk result (λ schema. IsWholeSchema schema) }
-    ensures fault { IfErr result (λ fault. HasCause (record {
-      files = D.files depot.old;
-      misses_before = D.misses depot.old;
-      misses_after = D.misses depot.new;
-      faults_before = D.faults depot.old;
-      faults_after = D.faults depot.new;
-    }) (λ all. schema_from all file.now) fault) }
+    ensures fault { IfErr result (λ fault.
+        HasCause (shown_of D.files D.misses D.faults depot.old depot.new)
+        (λ all. schema_from all file.now) fault) }
     ensures same_files { D.files depot.new ≡ D.files depot.old }
     ensures fault_count { D.faults depot.old ≤ D.faults depot.new }
     ensures miss_count { D.misses depot.old ≤ D.misses depot.new }
@@ -59,9 +59,15 @@ fn table_in(
 ) -> Result<Table, OpenFault>
     requires known { dimension < length schema.now.dimensions }
     requires limits { IsWithinLimits schema.now }
-    ensures ok { IfOk result (λ table. IsSomeAnd (slice_get schema.now.dimensions dimension) (λ d. table_of d bytes.now ≡ Ok table.records)) }
-    ensures levels { IfOk result (λ table. IsSomeAnd (slice_get schema.now.dimensions dimension) (λ d. table.levels ≡ length (levels_of d))) }
-    ensures fault { IfErr result (λ fault. IsSomeAnd (slice_get schema.now.dimensions dimension) (λ d. IsFileFault (read_by d.table (table_of d bytes.now)) fault)) }
+    ensures ok { IfOk result (λ table.
+        IsSomeAnd (slice_get schema.now.dimensions dimension)
+        (λ d. table_of d bytes.now ≡ Ok table.records)) }
+    ensures levels { IfOk result (λ table.
+        IsSomeAnd (slice_get schema.now.dimensions dimension)
+        (λ d. table.levels ≡ length (levels_of d))) }
+    ensures fault { IfErr result (λ fault.
+        IsSomeAnd (slice_get schema.now.dimensions dimension)
+        (λ d. IsFileFault (read_by d.table (table_of d bytes.now)) fault)) }
 {
     match read_table(alloc, schema, dimension, bytes) {
         Ok(table) => Ok(table),
@@ -88,15 +94,16 @@ fn open_table<D: Depot>(
 ) -> Result<Table, OpenFault>
     requires known { dimension < length schema.now.dimensions }
     requires limits { IsWithinLimits schema.now }
-    ensures ok { IfOk result (λ table. IsSomeAnd (slice_get schema.now.dimensions dimension) (λ d. IsRead (D.files depot.old) (λ all. table_from all d) table.records)) }
-    ensures levels { IfOk result (λ table. IsSomeAnd (slice_get schema.now.dimensions dimension) (λ d. table.levels ≡ length (levels_of d))) }
-    ensures fault { IfErr result (λ fault. IsSomeAnd (slice_get schema.now.dimensions dimension) (λ d. HasCause (record {
-      files = D.files depot.old;
-      misses_before = D.misses depot.old;
-      misses_after = D.misses depot.new;
-      faults_before = D.faults depot.old;
-      faults_after = D.faults depot.new;
-    }) (λ all. table_from all d) fault)) }
+    ensures ok { IfOk result (λ table.
+        IsSomeAnd (slice_get schema.now.dimensions dimension)
+        (λ d. IsRead (D.files depot.old) (λ all. table_from all d) table.records)) }
+    ensures levels { IfOk result (λ table.
+        IsSomeAnd (slice_get schema.now.dimensions dimension)
+        (λ d. table.levels ≡ length (levels_of d))) }
+    ensures fault { IfErr result (λ fault.
+        IsSomeAnd (slice_get schema.now.dimensions dimension)
+        (λ d. HasCause (shown_of D.files D.misses D.faults depot.old depot.new)
+        (λ all. table_from all d) fault)) }
     ensures same_files { D.files depot.new ≡ D.files depot.old }
     ensures fault_count { D.faults depot.old ≤ D.faults depot.new }
     ensures miss_count { D.misses depot.old ≤ D.misses depot.new }
@@ -112,15 +119,14 @@ fn open_tables<D: Depot>(
     schema: &Schema,
 ) -> Result<List<Table>, OpenFault>
     requires limits { IsWithinLimits schema.now }
-    ensures ok { IfOk result (λ tables. IsRead (D.files depot.old) (λ all. tables_from all schema.now.dimensions) (records_in tables)) }
-    ensures levels { IfOk result (λ tables. map (λ t. t.levels) tables ≡ map (λ d. length (levels_of d)) schema.now.dimensions) }
-    ensures fault { IfErr result (λ fault. HasCause (record {
-      files = D.files depot.old;
-      misses_before = D.misses depot.old;
-      misses_after = D.misses depot.new;
-      faults_before = D.faults depot.old;
-      faults_after = D.faults depot.new;
-    }) (λ all. tables_from all schema.now.dimensions) fault) }
+    ensures ok { IfOk result (λ tables.
+        IsRead (D.files depot.old) (λ all. tables_from all schema.now.dimensions)
+        (records_in tables)) }
+    ensures levels { IfOk result (λ tables.
+        map (λ t. t.levels) tables ≡ map (λ d. length (levels_of d)) schema.now.dimensions) }
+    ensures fault { IfErr result (λ fault.
+        HasCause (shown_of D.files D.misses D.faults depot.old depot.new)
+        (λ all. tables_from all schema.now.dimensions) fault) }
     ensures same_files { D.files depot.new ≡ D.files depot.old }
     ensures fault_count { D.faults depot.old ≤ D.faults depot.new }
     ensures miss_count { D.misses depot.old ≤ D.misses depot.new }
@@ -139,15 +145,12 @@ pub(crate) fn open_catalog<D: Depot>(
     depot: &mut D,
     file: &str,
 ) -> Result<Catalog, OpenFault>
-    ensures ok { IfOk result (λ catalog. IsRead (D.files depot.old) (λ all. catalog_from all file.now) catalog) }
+    ensures ok { IfOk result (λ catalog.
+        IsRead (D.files depot.old) (λ all. catalog_from all file.now) catalog) }
     ensures whole { IfOk result (λ catalog. IsWhole catalog) }
-    ensures fault { IfErr result (λ fault. HasCause (record {
-      files = D.files depot.old;
-      misses_before = D.misses depot.old;
-      misses_after = D.misses depot.new;
-      faults_before = D.faults depot.old;
-      faults_after = D.faults depot.new;
-    }) (λ all. catalog_from all file.now) fault) }
+    ensures fault { IfErr result (λ fault.
+        HasCause (shown_of D.files D.misses D.faults depot.old depot.new)
+        (λ all. catalog_from all file.now) fault) }
     ensures same_files { D.files depot.new ≡ D.files depot.old }
     ensures fault_count { D.faults depot.old ≤ D.faults depot.new }
     ensures miss_count { D.misses depot.old ≤ D.misses depot.new }

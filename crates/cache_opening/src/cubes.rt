@@ -3,6 +3,7 @@ ghost use Rattle.std.specs.Prelude.{◌≡◌, ◌≢◌, ◌⊎◌, ◌≤◌, 
 ghost use Rattle.olap_meaning.specs.History.{Append};
 ghost use Rattle.olap_meaning.specs.Legal.{rows_held};
 ghost use Rattle.segment_load.specs.Loads.{is_batch};
+ghost use Rattle.outside.specs.Told.{shown_of};
 ghost use Rattle.cache_opening.specs.Causes.{HasCause};
 ghost use Rattle.cache_opening.specs.Steps.{AreOpened, IsAppended, IsBegun, IsFileFault, IsNext};
 ghost use Rattle.cache_opening.specs.Opening.{batch_from, batches_from, fitting};
@@ -11,8 +12,7 @@ use crate::batches::{fact_file, open_batch};
 use crate::fault::OpenFault;
 use crate::files::unbuilt;
 use cache_manager::Manager;
-use fact_batches::Batch;
-use fact_versions::AppendFault;
+use fact_versions::{AppendFault, Batch};
 use olap_meaning::{CubeId, Who};
 use outside::Depot;
 use std::alloc::Global;
@@ -27,9 +27,15 @@ fn append_base(
     requires next { IsNext manager.old cube }
     requires fit { IsTrue (is_batch manager.old.setting.catalog cube batch) }
     ensures setting { manager.new.setting ≡ manager.old.setting }
-    ensures entry { OnOk result (manager.new.entries ≡ manager.old.entries ++ Append (record { seat = 0; call = cube + 1 }) cube 1 batch.rows ∷ []) }
-    ensures ok { OnOk result (IsSomeAnd (slice_get manager.old.setting.catalog.schema.cubes cube) (λ c. fitting c.fact (rows_held manager.old.entries) batch.rows ≡ Ok batch.rows)) }
-    ensures fault { IfErr result (λ fault. IsSomeAnd (slice_get manager.old.setting.catalog.schema.cubes cube) (λ c. IsFileFault (fitting c.fact (rows_held manager.old.entries) batch.rows) fault)) }
+    ensures entry { OnOk result
+        (manager.new.entries ≡ manager.old.entries ++ Append
+        (record { seat = 0; call = cube + 1 }) cube 1 batch.rows ∷ []) }
+    ensures ok { OnOk result
+        (IsSomeAnd (slice_get manager.old.setting.catalog.schema.cubes cube)
+        (λ c. fitting c.fact (rows_held manager.old.entries) batch.rows ≡ Ok batch.rows)) }
+    ensures fault { IfErr result (λ fault.
+        IsSomeAnd (slice_get manager.old.setting.catalog.schema.cubes cube)
+        (λ c. IsFileFault (fitting c.fact (rows_held manager.old.entries) batch.rows) fault)) }
 {
     let who = Who {
         seat: 0,
@@ -44,7 +50,8 @@ fn append_base(
 
 // What it means for an opening that the batch of this file was not appended.
 fn refused_append(alloc: Global, file: &str, fault: AppendFault) -> OpenFault
-    ensures { (result ≡ OpenFault.OutOfMemory) ⊎ ((result ≡ OpenFault.Unbuilt file.now) × (fault ≢ AppendFault.OutOfMemory)) }
+    ensures { (result ≡ OpenFault.OutOfMemory)
+        ⊎ ((result ≡ OpenFault.Unbuilt file.now) × (fault ≢ AppendFault.OutOfMemory)) }
 {
     match fault {
         AppendFault::OutOfMemory => OpenFault::OutOfMemory,
@@ -63,14 +70,16 @@ fn open_cube<D: Depot>(
 ) -> Result<(), OpenFault>
     requires next { IsNext manager.old cube }
     ensures setting { manager.new.setting ≡ manager.old.setting }
-    ensures ok { OnOk result (IsSomeAnd (slice_get manager.old.setting.catalog.schema.cubes cube) (λ c. IsAppended (D.files depot.old) (λ all. batch_from all manager.old.setting.catalog cube (rows_held manager.old.entries) c) cube manager.old.entries manager.new.entries)) }
-    ensures fault { IfErr result (λ fault. IsSomeAnd (slice_get manager.old.setting.catalog.schema.cubes cube) (λ c. HasCause (record {
-      files = D.files depot.old;
-      misses_before = D.misses depot.old;
-      misses_after = D.misses depot.new;
-      faults_before = D.faults depot.old;
-      faults_after = D.faults depot.new;
-    }) (λ all. batch_from all manager.old.setting.catalog cube (rows_held manager.old.entries) c) fault)) }
+    ensures ok { OnOk result
+        (IsSomeAnd (slice_get manager.old.setting.catalog.schema.cubes cube)
+        (λ c. IsAppended (D.files depot.old)
+        (λ all. batch_from all manager.old.setting.catalog cube (rows_held manager.old.entries) c)
+        cube manager.old.entries manager.new.entries)) }
+    ensures fault { IfErr result (λ fault.
+        IsSomeAnd (slice_get manager.old.setting.catalog.schema.cubes cube)
+        (λ c. HasCause (shown_of D.files D.misses D.faults depot.old depot.new)
+        (λ all. batch_from all manager.old.setting.catalog cube (rows_held manager.old.entries) c)
+        fault)) }
     ensures same_files { D.files depot.new ≡ D.files depot.old }
     ensures fault_count { D.faults depot.old ≤ D.faults depot.new }
     ensures miss_count { D.misses depot.old ≤ D.misses depot.new }
@@ -88,13 +97,10 @@ pub(crate) fn open_cubes<D: Depot>(
     requires { IsBegun manager.old }
     ensures setting { manager.new.setting ≡ manager.old.setting }
     ensures ok { OnOk result (AreOpened (D.files depot.old) manager.new) }
-    ensures fault { IfErr result (λ fault. HasCause (record {
-      files = D.files depot.old;
-      misses_before = D.misses depot.old;
-      misses_after = D.misses depot.new;
-      faults_before = D.faults depot.old;
-      faults_after = D.faults depot.new;
-    }) (λ all. batches_from all manager.old.setting.catalog 0 0 manager.old.setting.catalog.schema.cubes) fault) }
+    ensures fault { IfErr result (λ fault.
+        HasCause (shown_of D.files D.misses D.faults depot.old depot.new)
+        (λ all. batches_from all manager.old.setting.catalog 0 0
+        manager.old.setting.catalog.schema.cubes) fault) }
     ensures same_files { D.files depot.new ≡ D.files depot.old }
     ensures fault_count { D.faults depot.old ≤ D.faults depot.new }
     ensures miss_count { D.misses depot.old ≤ D.misses depot.new }

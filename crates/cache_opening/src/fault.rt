@@ -3,32 +3,23 @@ ghost use Rattle.std.specs.Prelude.{◌≡◌};
 ghost use Rattle.cache_opening.specs.declared.fault.OpenFault.TheVariants.{OutOfMemory as NoMemory};
 
 use olap_meaning::{OutOfMemory, Text};
-use std::fmt;
+use thiserror::Error;
 
 /// Why a cache is not opened.
-#[derive(Debug, Drop)]
+#[derive(Debug, Drop, Error)]
 pub enum OpenFault {
     /// No file has this name.
+    #[error("no file {name}")]
     NoFile { name: Text },
     /// A reader refused this file, or its batch does not fit.
+    #[error("the file {file} is refused")]
     Unbuilt { file: Text },
     /// A file could not be read.
+    #[error("a file could not be read")]
     Source,
+    #[error("out of memory")]
     OutOfMemory,
 }
-
-impl fmt::Display for OpenFault {
-    fn fmt<W: fmt::Write>(&self, f: &mut fmt::Formatter<W>) -> fmt::Result {
-        match self {
-            OpenFault::NoFile { name } => write!(f, "no file {name}"),
-            OpenFault::Unbuilt { file } => write!(f, "the file {file} is refused"),
-            OpenFault::Source => write!(f, "a file could not be read"),
-            OpenFault::OutOfMemory => write!(f, "out of memory"),
-        }
-    }
-}
-
-impl std::error::Error for OpenFault {}
 
 impl From<OutOfMemory> for OpenFault {
     ghost from_gives = { λ _ e. e ≡ NoMemory };

@@ -1,5 +1,6 @@
 //! Files of a depot, and what is made of them.
 ghost use Rattle.std.specs.Prelude.{◌≡◌, ◌≤◌, IfErr, IfOk};
+ghost use Rattle.outside.specs.Told.{shown_of};
 ghost use Rattle.cache_opening.specs.Causes.{HasCause, IsRead};
 ghost use Rattle.cache_opening.specs.Steps.{IsUnbuilt};
 ghost use Rattle.cache_opening.specs.Opening.{bytes_of};
@@ -15,14 +16,11 @@ pub(crate) fn fetch<D: Depot>(
     depot: &mut D,
     name: &str,
 ) -> Result<List<u8>, OpenFault>
-    ensures ok { IfOk result (λ bytes. IsRead (D.files depot.old) (λ all. bytes_of all name.now) bytes) }
-    ensures fault { IfErr result (λ fault. HasCause (record {
-      files = D.files depot.old;
-      misses_before = D.misses depot.old;
-      misses_after = D.misses depot.new;
-      faults_before = D.faults depot.old;
-      faults_after = D.faults depot.new;
-    }) (λ all. bytes_of all name.now) fault) }
+    ensures ok { IfOk result (λ bytes.
+        IsRead (D.files depot.old) (λ all. bytes_of all name.now) bytes) }
+    ensures fault { IfErr result (λ fault.
+        HasCause (shown_of D.files D.misses D.faults depot.old depot.new)
+        (λ all. bytes_of all name.now) fault) }
     ensures same_files { D.files depot.new ≡ D.files depot.old }
     ensures fault_count { D.faults depot.old ≤ D.faults depot.new }
     ensures miss_count { D.misses depot.old ≤ D.misses depot.new }

@@ -3,6 +3,7 @@ ghost use Rattle.std.specs.Prelude.{◌≡◌, ◌≤◌, ◌<◌, [], IfErr, If
 ghost use Rattle.olap_meaning.specs.Legal.{is_next_call};
 ghost use Rattle.history_core.specs.History.{setting_of};
 ghost use Rattle.cache_manager.specs.Jobs.{NoneFlies};
+ghost use Rattle.outside.specs.Told.{shown_of};
 ghost use Rattle.cache_opening.specs.Causes.{HasCause};
 ghost use Rattle.cache_opening.specs.Opening.{IsOpened, opening_of};
 
@@ -24,14 +25,11 @@ pub const BUDGET: u64 = 1_000_000;
 pub fn open_cache<D: Depot>(alloc: Global, depot: &mut D, file: &str) -> Result<Manager, OpenFault>
     ensures opened { IfOk result (λ manager. IsOpened (D.files depot.old) file.now manager) }
     ensures idle { IfOk result (λ manager. NoneFlies manager.entries) }
-    ensures by_seat_zero { IfOk result (λ manager. (call : ℕ) → IsTrue (is_next_call manager.entries (record { seat = 1; call = call }))) }
-    ensures fault { IfErr result (λ fault. HasCause (record {
-      files = D.files depot.old;
-      misses_before = D.misses depot.old;
-      misses_after = D.misses depot.new;
-      faults_before = D.faults depot.old;
-      faults_after = D.faults depot.new;
-    }) (λ all. opening_of all file.now) fault) }
+    ensures by_seat_zero { IfOk result (λ manager.
+        (call : ℕ) → IsTrue (is_next_call manager.entries (record { seat = 1; call = call }))) }
+    ensures fault { IfErr result (λ fault.
+        HasCause (shown_of D.files D.misses D.faults depot.old depot.new)
+        (λ all. opening_of all file.now) fault) }
     ensures same_files { D.files depot.new ≡ D.files depot.old }
     ensures fault_count { D.faults depot.old ≤ D.faults depot.new }
     ensures miss_count { D.misses depot.old ≤ D.misses depot.new }
@@ -44,7 +42,8 @@ pub fn open_cache<D: Depot>(alloc: Global, depot: &mut D, file: &str) -> Result<
 
 // The manager of a cache in which nothing has happened.
 fn new_manager(alloc: Global, catalog: Catalog) -> Result<Manager, OutOfMemory>
-    ensures { IfOk result (λ manager. manager ≡ record { setting = setting_of catalog ROW_LIMIT BUDGET; entries = [] }) }
+    ensures { IfOk result (λ manager.
+        manager ≡ record { setting = setting_of catalog ROW_LIMIT BUDGET; entries = [] }) }
 {
     let catalog = Arc::new(alloc, catalog)?;
     Manager::new(alloc, catalog, ROW_LIMIT, BUDGET)

@@ -4,14 +4,6 @@
 #[cfg(test)]
 mod caches;
 #[cfg(test)]
-mod checks;
-#[cfg(test)]
-mod opened;
-#[cfg(test)]
-mod played;
+mod drawn;
 #[cfg(test)]
 mod runs;
-#[cfg(test)]
-mod steps;
-#[cfg(test)]
-mod told;

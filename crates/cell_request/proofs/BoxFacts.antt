@@ -21,7 +21,7 @@ use Rattle.olap_catalog.specs.MemberOf.{IsMemberOf, is_path, levels_of}
 use Rattle.olap_catalog.specs.Members.{all_text}
 use Rattle.olap_catalog.specs.Parts.{has_levels, is_level}
 use Rattle.olap_catalog.proofs.ValueFacts.{all_at}
-use Rattle.segment_load.specs.Loads.{is_column_of}
+use Rattle.olap_meaning.specs.Legal.{is_column_of}
 use Rattle.cell_request.specs.Boxes.{is_own, is_within, IsBoxOf, IsFront}
 
 eq_true : (a b : ℕ) → a ≡ b → nat_eq a b ≡ true

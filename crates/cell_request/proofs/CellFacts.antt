@@ -11,14 +11,17 @@ use Rattle.olap_meaning.specs.declared.tables.Catalog.{Catalog}
 use Rattle.olap_meaning.specs.declared.tables.Cube.{Cube}
 use Rattle.olap_meaning.specs.declared.tables.Hierarchy.{Hierarchy}
 use Rattle.olap_meaning.specs.declared.tables.Measure.{Measure}
-use Rattle.olap_meaning.specs.CellQueries.{boxes_under, hierarchies_within, joined, standing}
+use Rattle.olap_meaning.specs.CellQueries.{boxes_under, hierarchies_within, standing}
+use Rattle.olap_meaning.specs.Results.{◌>>=◌}
 use Rattle.olap_meaning.specs.History.{is_some_and}
-use Rattle.olap_meaning.specs.Legal.{is_value, rise}
+use Rattle.olap_meaning.specs.Legal.{is_cell, is_column_of, is_value, rise}
 use Rattle.olap_catalog.specs.MemberOf.{levels_of, measure_count}
-use Rattle.cache_manager.specs.Groups.{is_known}
-use Rattle.segment_load.specs.Loads.{is_column_of}
 use Rattle.cell_request.specs.Boxes.{box_or_name, is_own, is_within, part, IsFront}
 use Rattle.cell_request.proofs.BoxFacts.{and_true}
+
+-- some pairs, and then others, where there are such
+abbrev pub joined : Result (List (ℕ × ℕ)) (List ℕ) → Result (List (ℕ × ℕ)) (List ℕ) → Result (List (ℕ × ℕ)) (List ℕ)
+joined front rest = front >>= (λ first. rest >>= (λ more. Ok (first ++ more)))
 
 -- the hierarchies of a cube's dimensions from a place on
 abbrev pub within_from : Catalog → ℕ → ℕ → List ℕ
@@ -185,14 +188,14 @@ own_value catalog cube own (pair ∷ at) there all =
 
 -- a cell of a cube's measure, at rising columns and values of the cube's, is one that the cache can answer
 pub cell_known : (catalog : Catalog) (cube measure : ℕ) (at : List (ℕ × ℕ)) → measure < measure_count catalog cube → list_all (is_own catalog cube) at ≡ true → rise (map (λ pair. pair.0) at) ≡ true
-    → is_known catalog (record { cube = cube; measure = measure; at = at }) ≡ true
+    → is_cell catalog (record { cube = cube; measure = measure; at = at }) ≡ true
 cell_known catalog cube measure at within own up = by (slice_get catalog.cubes cube) refl
   where
     measured : (c : Cube) → slice_get catalog.cubes cube ≡ Some c → (o : Option Measure) → slice_get c.measures measure ≡ o → is_some_and (λ (m : Measure). true) o ≡ true
     measured c there (Some m) is = refl
     measured c there None is = let count = ap (λ o. option_map_or (λ (x : Cube). length x.measures) o 0) there in absurd (missing c.measures measure (omega (arith, count, within)) is)
 
-    by : (o : Option Cube) → slice_get catalog.cubes cube ≡ o → is_known catalog (record { cube = cube; measure = measure; at = at }) ≡ true
+    by : (o : Option Cube) → slice_get catalog.cubes cube ≡ o → is_cell catalog (record { cube = cube; measure = measure; at = at }) ≡ true
     by None there = let count = ap (λ o. option_map_or (λ (x : Cube). length x.measures) o 0) there in absurd (omega (arith, count, within))
     by (Some c) there =
         let parts = own_value catalog cube c at there own in

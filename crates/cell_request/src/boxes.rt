@@ -25,12 +25,17 @@ pub(crate) fn boxes_under(
 ) -> Result<List<(ColumnId, ValueId)>, QueryFault>
     requires cube { cube < length catalog.now.cubes }
     requires own { IsMemberOf catalog.now cube under.now }
-    ensures ok { IfOk result (λ at. queries.boxes_under catalog.now cube under.now (queries.hierarchies_within catalog.now cube) ≡ Ok at) }
+    ensures ok { IfOk result
+        (λ at. queries.boxes_under catalog.now cube under.now
+        (queries.hierarchies_within catalog.now cube) ≡ Ok at) }
     ensures own { IfOk result (λ at. list_all (is_own catalog.now cube) at ≡ true) }
     ensures rising { IfOk result (λ at. rise (map (λ pair. pair.0) at) ≡ true) }
-    ensures fault { IfErr result (λ fault. IsFaultOf fault (queries.boxes_under catalog.now cube under.now (queries.hierarchies_within catalog.now cube))) }
+    ensures fault { IfErr result
+        (λ fault. IsFaultOf fault
+        (queries.boxes_under catalog.now cube under.now
+        (queries.hierarchies_within catalog.now cube))) }
 {
-    catalog.is_laid_out();
+    catalog.layout_holds();
     let mut at = List::new(alloc);
     for h in 0..catalog.hierarchy_count() {
         let pairs = part_of(alloc, catalog, cube, under, HierarchyId(h as u16))?;
@@ -62,10 +67,11 @@ fn part_of(
     requires own { IsMemberOf catalog.now cube under.now }
     ensures ok { IfOk result (λ pairs. part catalog.now cube under.now h ≡ Ok pairs) }
     ensures own { IfOk result (λ pairs. list_all (is_own catalog.now cube) pairs ≡ true) }
-    ensures front { IfOk result (λ pairs. IsFront (map (λ pair. pair.0) pairs) (levels_of catalog.now h)) }
+    ensures front { IfOk result
+        (λ pairs. IsFront (map (λ pair. pair.0) pairs) (levels_of catalog.now h)) }
     ensures fault { IfErr result (λ fault. IsFaultOf fault (part catalog.now cube under.now h)) }
 {
-    catalog.is_laid_out();
+    catalog.layout_holds();
     if !has_hierarchy(catalog, cube, h) {
         return Ok(List::new(alloc));
     }
@@ -76,7 +82,8 @@ fn part_of(
 fn has_hierarchy(catalog: &Catalog, cube: CubeId, h: HierarchyId) -> bool
     requires cube { cube < length catalog.now.cubes }
     requires hierarchy { h < length catalog.now.hierarchies }
-    ensures { result ≡ option_map_or (is_within catalog.now cube) (slice_get catalog.now.hierarchies h) false }
+    ensures { result ≡ option_map_or (is_within catalog.now cube)
+        (slice_get catalog.now.hierarchies h) false }
 {
     let dimension = catalog.hierarchy(h).dimension;
     is_among(catalog.cube(cube).dimensions.as_slice(), dimension)
@@ -98,9 +105,13 @@ fn box_under(
 ) -> Result<List<(ColumnId, ValueId)>, QueryFault>
     requires hierarchy { h < length catalog.now.hierarchies }
     requires own { IsMemberOf catalog.now cube under.now }
-    ensures ok { IfOk result (λ pairs. box_or_name catalog.now h (queries.standing catalog.now cube under.now h) ≡ Ok pairs) }
+    ensures ok { IfOk result
+        (λ pairs. box_or_name catalog.now h (queries.standing catalog.now cube under.now h)
+        ≡ Ok pairs) }
     ensures own { IfOk result (IsBoxOf catalog.now h) }
-    ensures fault { IfErr result (λ fault. IsFaultOf fault (box_or_name catalog.now h (queries.standing catalog.now cube under.now h))) }
+    ensures fault { IfErr result
+        (λ fault. IsFaultOf fault
+        (box_or_name catalog.now h (queries.standing catalog.now cube under.now h))) }
 {
     if !is_of(under, h) {
         return default_box(alloc, catalog, h);
@@ -127,9 +138,13 @@ fn default_box(
     h: HierarchyId,
 ) -> Result<List<(ColumnId, ValueId)>, QueryFault>
     requires { h < length catalog.now.hierarchies }
-    ensures ok { IfOk result (λ pairs. (cube : ℕ) → box_or_name catalog.now h (default_member catalog.now cube (Whole h)) ≡ Ok pairs) }
+    ensures ok { IfOk result
+        (λ pairs. (cube : ℕ) → box_or_name catalog.now h (default_member catalog.now cube (Whole h))
+        ≡ Ok pairs) }
     ensures own { IfOk result (IsBoxOf catalog.now h) }
-    ensures fault { IfErr result (λ fault. (cube : ℕ) → IsFaultOf fault (box_or_name catalog.now h (default_member catalog.now cube (Whole h)))) }
+    ensures fault { IfErr result
+        (λ fault. (cube : ℕ)
+        → IsFaultOf fault (box_or_name catalog.now h (default_member catalog.now cube (Whole h)))) }
 {
     let found = catalog.default_member(alloc, h)?;
     let Some(member) = found else {

@@ -1,6 +1,6 @@
 //! The cell under a member of a cube.
 ghost use Rattle.std.specs.Prelude.{ℕ, ◌≡◌, ◌<◌, Ok, length, option_map, slice_get, IfOk, IfErr, IfSome, IsTrue};
-ghost use Rattle.cache_manager.specs.Groups.{is_known};
+ghost use Rattle.olap_meaning.specs.Legal.{is_cell};
 ghost use Rattle.cell_request.specs.Meanings.{IsFaultOf};
 ghost use Rattle.olap_catalog.specs.MemberOf.{IsMemberOf, measure_count};
 ghost use Rattle.olap_meaning.specs.Catalog.{measure_members};
@@ -23,8 +23,9 @@ pub(crate) fn cell_under(
     requires cube { cube < length catalog.now.cubes }
     requires own { IsMemberOf catalog.now cube under.now }
     ensures ok { IfOk result (λ cell. queries.cell_under catalog.now cube under.now ≡ Ok cell) }
-    ensures known { IfOk result (λ cell. IsTrue (is_known catalog.now cell)) }
-    ensures fault { IfErr result (λ fault. IsFaultOf fault (queries.cell_under catalog.now cube under.now)) }
+    ensures known { IfOk result (λ cell. IsTrue (is_cell catalog.now cell)) }
+    ensures fault { IfErr result
+        (λ fault. IsFaultOf fault (queries.cell_under catalog.now cube under.now)) }
 {
     let Some(measure) = measure_under(catalog, cube, under) else {
         return Err(no_member(alloc, "Measures"));
@@ -50,7 +51,8 @@ fn measure_under(catalog: &Catalog, cube: CubeId, under: &Member) -> Option<Meas
 // The first measure of a cube.
 fn first_measure(catalog: &Catalog, cube: CubeId) -> Option<MeasureId>
     requires { cube < length catalog.now.cubes }
-    ensures found { result ≡ option_map (λ first. 0) (slice_get (measure_members catalog.now cube) 0) }
+    ensures found { result
+        ≡ option_map (λ first. 0) (slice_get (measure_members catalog.now cube) 0) }
     ensures known { IfSome result (λ measure. measure < measure_count catalog.now cube) }
 {
     if catalog.cube(cube).measures.is_empty() {

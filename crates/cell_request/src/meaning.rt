@@ -1,6 +1,6 @@
 //! Queries of one cell.
 ghost use Rattle.std.specs.Prelude.{◌≡◌, ◌<◌, ◌⊎◌, Ok, Err, length, IfOk, IfErr, IsSomeAnd, IsTrue};
-ghost use Rattle.cache_manager.specs.Groups.{is_known};
+ghost use Rattle.olap_meaning.specs.Legal.{is_cell};
 ghost use Rattle.cell_request.specs.Meanings.{meant, no_match};
 ghost use Rattle.olap_catalog.specs.MemberOf.{IsMemberOf};
 ghost use Rattle.olap_meaning.specs.CellQueries.{meaning_of};
@@ -26,10 +26,13 @@ pub struct Resolved {
 pub fn resolve(alloc: Global, catalog: &Catalog, query: &CellQuery) -> Result<Resolved, QueryFault>
     requires named { 0 < length query.now.path }
     ensures meant { IfOk result (λ found. meaning_of catalog.now query.now ≡ Ok (meant found)) }
-    ensures known { IfOk result (λ found. IsTrue (is_known catalog.now found.cell)) }
+    ensures known { IfOk result (λ found. IsTrue (is_cell catalog.now found.cell)) }
     ensures own { IfOk result (λ found. IsMemberOf catalog.now found.cube found.member) }
     ensures within { IfOk result (λ found. found.cube < length catalog.now.cubes) }
-    ensures fault { IfErr result (λ fault. (fault ≡ QueryFault.OutOfMemory) ⊎ IsSomeAnd (no_match fault) (λ unmatched. meaning_of catalog.now query.now ≡ Err unmatched)) }
+    ensures fault { IfErr result
+        (λ fault. (fault ≡ QueryFault.OutOfMemory)
+        ⊎ IsSomeAnd (no_match fault)
+        (λ unmatched. meaning_of catalog.now query.now ≡ Err unmatched)) }
 {
     let Some(cube) = catalog.find_cube(query.cube.as_str()) else {
         return Err(no_cube(&query.cube));

@@ -3,3 +3,4 @@ pub mod FieldFacts
 pub mod NumberFacts
 pub mod AsciiFacts
 pub mod PartFacts
+pub mod PlaceFacts

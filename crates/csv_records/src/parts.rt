@@ -44,7 +44,8 @@ fn part_end(bytes: &[u8]) -> Option<usize>
 /// Cuts a file into parts: the records of the parts, each read as a file of its own, are those of the file. A file with a
 /// quoted field, or with a byte that is not ASCII, is one part.
 pub fn record_parts<'a>(alloc: Global, bytes: &'a [u8]) -> Result<Vec<&'a [u8]>, OutOfMemory>
-    ensures { IfOk result (λ parts. flat_map (λ part. file_records part.now) parts.items ≡ file_records bytes.now) }
+    ensures { IfOk result (λ parts.
+        flat_map (λ part. file_records part.now) parts.items ≡ file_records bytes.now) }
 {
     let mut parts = Vec::new(alloc);
     let mut rest = bytes;

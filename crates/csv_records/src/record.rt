@@ -10,6 +10,7 @@ use csv::{ByteRecord, ErrorKind, Reader, ReaderBuilder};
 use olap_meaning::OutOfMemory;
 use std::alloc::Global;
 use std::marker::Model;
+use std::str;
 
 /// A record: contracts see the list of its fields.
 #[derive(Drop)]
@@ -65,6 +66,18 @@ impl Record {
         match self.get(i) {
             Some(field) => field,
             None => unreachable!(),
+        }
+    }
+
+    /// The field at a place that the record has, as text, where each field is UTF-8.
+    pub fn text(&self, i: usize) -> &str
+        requires within { i < length self.now }
+        requires utf8 { list_all is_utf8 self.now ≡ true }
+        ensures { slice_get self.now i ≡ Some result.now }
+    {
+        match str::from_utf8(self.field(i)) {
+            Ok(text) => text,
+            Err(_) => unreachable!(),
         }
     }
 

@@ -2,3 +2,4 @@ pub mod JsonFacts
 pub mod LimitFacts
 pub mod ListFacts
 pub mod StepFacts
+pub mod TakenFacts

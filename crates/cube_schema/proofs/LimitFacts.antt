@@ -1,7 +1,8 @@
 -- A schema that is read is within the limits.
-use Rattle.std.proofs.Common.{◌≡◌, ℕ, ◌+◌, ◌≤◌, List, [], ◌∷◌, ◌++◌, length, fold, flat_map, true, unwrap_or, Result, Ok, Err, IfOk, refl, sym, ap, subst, ◌∙◌, arith, append_assoc, append-nil, length-append, ◌||◌, bytes_eq, codes}
-use Rattle.std.proofs.lemmas.List.Elements.{All-cons, All-nil}
+use Rattle.std.proofs.Common.{◌≡◌, ℕ, ◌+◌, ◌≤◌, List, [], ◌∷◌, ◌++◌, length, flat_map, true, unwrap_or, Result, Ok, Err, IfOk, ap, subst, ◌∙◌, arith, length-append, ◌||◌, bytes_eq, codes}
+use Rattle.std.proofs.lemmas.List.Elements.{All-append, All-cons, All-nil}
 use Rattle.std.specs.List.{All}
+use Rattle.olap_meaning.specs.FullNames.{joined_name}
 use Rattle.olap_meaning.specs.Schema.{IsWithinCube, IsWithinLimits, levels_of}
 use Rattle.olap_meaning.specs.declared.schema.TheConstants.{DIMENSION_LIMIT, CUBE_LIMIT, LEVEL_LIMIT, USE_LIMIT, MEASURE_LIMIT}
 use Rattle.olap_meaning.specs.declared.schema.Schema.{Schema}
@@ -14,265 +15,164 @@ use Rattle.olap_meaning.specs.declared.tables.Measure.{Measure}
 use Rattle.serde_json.specs.Data.{Data}
 use Rattle.cube_schema.specs.declared.fault.SchemaFault.{SchemaFault}
 use Rattle.cube_schema.specs.declared.fault.SchemaFault.TheVariants.{TwiceNamed}
-use Rattle.cube_schema.specs.declared.hierarchies.Taken.{Taken}
 use Rattle.cube_schema.specs.declared.place.SchemaKey.TheVariants.{Dimensions, Cubes, Name, Table, PrimaryKey, Hierarchies, HasAll, AllMemberName, Levels, Fact, Measures}
 use Rattle.cube_schema.specs.declared.place.SchemaNode.TheVariants as SchemaNode
 use Rattle.cube_schema.specs.declared.place.SchemaPlace.TheVariants.{Node, Key}
-use Rattle.cube_schema.specs.Cubes.{cube_of, cubes_from, has_cube, measure_of, measures_at, measures_from, use_of, uses_at, uses_from}
-use Rattle.cube_schema.specs.Dimensions.{dimension_of, dimensions_from, full_name, has_dimension, hierarchies_at, hierarchies_from, hierarchy_of, is_taken, level_of, levels_at, levels_from, nothing_taken, taken_after, taken_with}
-use Rattle.cube_schema.specs.Fields.{refused_if, object_at, name_at, optional_name_at, file_at, bool_at, list_at, within, filled}
-use Rattle.cube_schema.specs.Schemas.{aggregates_at, cubes_at, dimensions_at, schema_in}
+use Rattle.cube_schema.specs.Cubes.{cube_of, has_cube, measure_of, use_of}
+use Rattle.cube_schema.specs.Dimensions.{all_full_names, dimension_of, full_names, has_dimension, hierarchy_of, is_taken, level_of, levels_in, some_beside}
+use Rattle.cube_schema.specs.Fields.{refused_if, object_at, name_at, optional_name_at, file_at, bool_at, within}
+use Rattle.cube_schema.specs.Lists.{at_most, items_at, items_from, some, some_at_most}
+use Rattle.cube_schema.specs.Schemas.{aggregates_at, schema_in}
+use Rattle.cube_schema.proofs.ListFacts.{items_at-parts, items_from-keep, items_from-length}
 use Rattle.cube_schema.proofs.StepFacts.{both-ok, same-ok, within-ok, filled-ok}
+use Rattle.cube_schema.proofs.TakenFacts.{flat_more}
 
--- ---- levels
-
-pub levels_from-length : (i j : ℕ) (earlier : List SchemaLevel) (items : List Data) (levels : List SchemaLevel)
-    → levels_from i j earlier items ≡ Ok levels → length levels ≡ length earlier + length items
-unfolding levels_from
-levels_from-length i j earlier [] levels e = let same : earlier ≡ levels = cc in rw same (omega arith)
-levels_from-length i j earlier (v ∷ vs) levels e =
-    let s = both-ok (level_of (SchemaNode.Level i j (length earlier)) earlier v) _ levels e in
-    let h = levels_from-length i j (earlier ++ s.0 ∷ []) vs levels s.2 in
-    omega (arith, h, length-append earlier (s.0 ∷ []))
-
-pub levels_at-count : (i j before : ℕ) (v : Data) (levels : List SchemaLevel) → levels_at i j before v ≡ Ok levels
-    → (1 ≤ length levels) × (before + length levels ≤ LEVEL_LIMIT)
-unfolding levels_at
-levels_at-count i j before v levels e =
-    let node = SchemaNode.Hierarchy i j in
-    let items = both-ok (list_at node Levels v) _ levels e in
-    let room = both-ok (within (Key node Levels) (before + length items.0) LEVEL_LIMIT) _ levels items.2 in
-    let some = both-ok (filled (SchemaNode.Level i j 0) items.0) _ levels room.2 in
-    let count : length levels ≡ 0 + length items.0 = levels_from-length i j [] items.0 levels some.2 in
-    let least : 1 ≤ length items.0 = filled-ok (SchemaNode.Level i j 0) items.0 some.0 some.1 in
-    let most : before + length items.0 ≤ LEVEL_LIMIT = within-ok (Key node Levels) (before + length items.0) LEVEL_LIMIT room.0 room.1 in
-    (omega (arith, count, least), omega (arith, count, most))
-
--- ---- hierarchies
-
-pub hierarchy-count : (i j : ℕ) (n : List ℕ) (taken : Taken) (v : Data) (hierarchy : SchemaHierarchy) → hierarchy_of i j n taken v ≡ Ok hierarchy
-    → (1 ≤ length hierarchy.levels) × (taken.levels + length hierarchy.levels ≤ LEVEL_LIMIT)
-unfolding hierarchy_of
-hierarchy-count i j n taken v hierarchy e =
-    let node = SchemaNode.Hierarchy i j in
-    let whole = both-ok (object_at node v) _ hierarchy e in
-    let own = both-ok (optional_name_at node Name whole.0) _ hierarchy whole.2 in
-    let fresh = both-ok (refused_if (is_taken (full_name n (unwrap_or own.0 n)) taken.names) (TwiceNamed (Node node))) _ hierarchy own.2 in
-    let has_all = both-ok (bool_at node HasAll true whole.0) _ hierarchy fresh.2 in
-    let all_member = both-ok (optional_name_at node AllMemberName whole.0) _ hierarchy has_all.2 in
-    let levels = both-ok (levels_at i j taken.levels whole.0) _ hierarchy all_member.2 in
-    let same = ap (λ (h : SchemaHierarchy). h.levels) (same-ok _ hierarchy levels.2) in
-    let P : List SchemaLevel → Type 0 = λ ls. (1 ≤ length ls) × (taken.levels + length ls ≤ LEVEL_LIMIT) in
-    subst P same (levels_at-count i j taken.levels whole.0 levels.0 levels.1)
-
--- the levels of some hierarchies
-abbrev pub levels_in : List SchemaHierarchy → List SchemaLevel
-levels_in hierarchies = flat_map (λ hierarchy. hierarchy.levels) hierarchies
-
--- hierarchies that follow others: what they take, that there is room for it, and that there are enough levels
-pub record AreMoreHierarchies (n : List ℕ) (taken : Taken) (earlier found more : List SchemaHierarchy) : Type 0 where
-  pub joined : found ≡ earlier ++ more
-  pub levels : (fold (taken_with n) taken more).levels ≡ taken.levels + length (levels_in more)
-  pub room : taken.levels + length (levels_in more) ≤ LEVEL_LIMIT
-  pub each : length more ≤ length (levels_in more)
-
-pub hierarchies-count : (i : ℕ) (n : List ℕ) (taken : Taken) (earlier : List SchemaHierarchy) (items : List Data) (found : List SchemaHierarchy)
-    → hierarchies_from i n taken earlier items ≡ Ok found → taken.levels ≤ LEVEL_LIMIT
-    → (more : List SchemaHierarchy) × AreMoreHierarchies n taken earlier found more
-unfolding hierarchies_from
-hierarchies-count i n taken earlier [] found e room =
-    ([], record { joined = let same : found ≡ earlier = cc in same ∙ sym (append-nil earlier); levels = omega arith; room = omega arith; each = omega arith })
-hierarchies-count i n taken earlier (v ∷ vs) found e room =
-    let s = both-ok (hierarchy_of i (length earlier) n taken v) _ found e in
-    let first = hierarchy-count i (length earlier) n taken v s.0 s.1 in
-    let h = hierarchies-count i n (taken_with n taken s.0) (earlier ++ s.0 ∷ []) vs found s.2 first.1 in
-    let count = length-append s.0.levels (levels_in h.0) in (
-      s.0 ∷ h.0,
-      record {
-        joined = h.1.joined ∙ append_assoc earlier (s.0 ∷ []) h.0;
-        levels = omega (arith, count, h.1.levels);
-        room = omega (arith, count, h.1.room);
-        each = omega (arith, count, h.1.each, first.0);
-      },
-    )
-
-pub hierarchies_at-count : (i : ℕ) (n : List ℕ) (taken : Taken) (v : Data) (found : List SchemaHierarchy)
-    → hierarchies_at i n taken v ≡ Ok found → taken.levels ≤ LEVEL_LIMIT → AreMoreHierarchies n taken [] found found
-unfolding hierarchies_at
-hierarchies_at-count i n taken v found e room =
-    let items = both-ok (list_at (SchemaNode.Dimension i) Hierarchies v) _ found e in
-    let some = both-ok (filled (SchemaNode.Hierarchy i 0) items.0) _ found items.2 in
-    let h = hierarchies-count i n taken [] items.0 found some.2 room in
-    let P : List SchemaHierarchy → Type 0 = λ more. AreMoreHierarchies n taken [] found more in
-    subst P (sym h.1.joined) h.1
+-- what holds of each item holds with one more
+all_more : {A : Type 0} (P : A → Type 0) (xs : List A) (x : A) → All P xs → P x → All P (xs ++ x ∷ [])
+all_more P xs x all one = All-append P xs (x ∷ []) all (All-cons P x [] one (All-nil P))
 
 -- ---- dimensions
 
--- a dimension: what it takes, that there is room for it, and that there are enough levels
-pub record IsMeasured (taken : Taken) (dimension : SchemaDimension) : Type 0 where
-  pub levels : (taken_after taken dimension).levels ≡ taken.levels + length (levels_of dimension)
-  pub room : taken.levels + length (levels_of dimension) ≤ LEVEL_LIMIT
-  pub each : length dimension.hierarchies ≤ length (levels_of dimension)
+-- some hierarchies, which each have a level, and with so many other levels at most as many as a schema may have
+pub record AreCounted (others : ℕ) (hierarchies : List SchemaHierarchy) : Type 0 where
+  pub room : others + length (levels_in hierarchies) ≤ LEVEL_LIMIT
+  pub each : length hierarchies ≤ length (levels_in hierarchies)
 
-pub dimension-count : (earlier : List SchemaDimension) (taken : Taken) (v : Data) (dimension : SchemaDimension)
-    → dimension_of earlier taken v ≡ Ok dimension → taken.levels ≤ LEVEL_LIMIT → IsMeasured taken dimension
+levels-count : (i j others : ℕ) (v : Data) (levels : List SchemaLevel)
+    → items_at (SchemaNode.Hierarchy i j) Levels (some_beside (SchemaNode.Level i j 0) others) (level_of i j) v ≡ Ok levels
+    → (1 ≤ length levels) × (others + length levels ≤ LEVEL_LIMIT)
+levels-count i j others v levels e =
+    let place = Key (SchemaNode.Hierarchy i j) Levels in
+    let parts = items_at-parts (SchemaNode.Hierarchy i j) Levels (some_beside (SchemaNode.Level i j 0) others) (level_of i j) v levels e in
+    let room = both-ok (within place (others + length parts.items) LEVEL_LIMIT) _ tt parts.sized in
+    let count : length levels ≡ 0 + length parts.items = items_from-length (level_of i j) [] parts.items levels parts.read in
+    let least = filled-ok (SchemaNode.Level i j 0) parts.items tt room.2 in
+    let most = within-ok place (others + length parts.items) LEVEL_LIMIT room.0 room.1 in
+    (omega (arith, count, least), omega (arith, count, most))
+
+hierarchy-count : (dimensions : List SchemaDimension) (n : List ℕ) (earlier : List SchemaHierarchy) (v : Data) (hierarchy : SchemaHierarchy) → hierarchy_of dimensions n earlier v ≡ Ok hierarchy
+    → (1 ≤ length hierarchy.levels) × (length (flat_map levels_of dimensions) + length (levels_in earlier) + length hierarchy.levels ≤ LEVEL_LIMIT)
+unfolding hierarchy_of
+hierarchy-count dimensions n earlier v hierarchy e =
+    let i = length dimensions in
+    let j = length earlier in
+    let node = SchemaNode.Hierarchy i j in
+    let others = length (flat_map levels_of dimensions) + length (levels_in earlier) in
+    let whole = both-ok (object_at node v) _ hierarchy e in
+    let own = both-ok (optional_name_at node Name whole.0) _ hierarchy whole.2 in
+    let fresh = both-ok (refused_if (is_taken (joined_name n (unwrap_or own.0 n)) (all_full_names dimensions ++ full_names n earlier)) (TwiceNamed (Node node))) _ hierarchy own.2 in
+    let has_all = both-ok (bool_at node HasAll true whole.0) _ hierarchy fresh.2 in
+    let all_member = both-ok (optional_name_at node AllMemberName whole.0) _ hierarchy has_all.2 in
+    let levels = both-ok (items_at node Levels (some_beside (SchemaNode.Level i j 0) others) (level_of i j) whole.0) _ hierarchy all_member.2 in
+    let same = ap (λ (h : SchemaHierarchy). h.levels) (same-ok _ hierarchy levels.2) in
+    let P : List SchemaLevel → Type 0 = λ ls. (1 ≤ length ls) × (others + length ls ≤ LEVEL_LIMIT) in
+    subst P same (levels-count i j others whole.0 levels.0 levels.1)
+
+hierarchies-count : (dimensions : List SchemaDimension) (n : List ℕ) (items : List Data) (found : List SchemaHierarchy)
+    → length (flat_map levels_of dimensions) ≤ LEVEL_LIMIT → items_from (hierarchy_of dimensions n) [] items ≡ Ok found → AreCounted (length (flat_map levels_of dimensions)) found
+hierarchies-count dimensions n items found room e =
+    items_from-keep (hierarchy_of dimensions n) (AreCounted (length (flat_map levels_of dimensions))) more [] items found (record { room = omega arith; each = omega arith }) e
+  where
+    more : (earlier : List SchemaHierarchy) (v : Data) (x : SchemaHierarchy) → hierarchy_of dimensions n earlier v ≡ Ok x
+        → AreCounted (length (flat_map levels_of dimensions)) earlier → AreCounted (length (flat_map levels_of dimensions)) (earlier ++ x ∷ [])
+    more earlier v x is h =
+        let one = hierarchy-count dimensions n earlier v x is in
+        let added = ap length (flat_more (λ (y : SchemaHierarchy). y.levels) earlier x) ∙ length-append (levels_in earlier) x.levels in
+        record { room = omega (arith, added, one.1); each = omega (arith, added, one.0, h.each, length-append earlier (x ∷ [])) }
+
+-- some dimensions, whose hierarchies each have a level, and of which there are at most as many as a schema may have
+pub record AreMeasured (dimensions : List SchemaDimension) : Type 0 where
+  pub room : length (flat_map levels_of dimensions) ≤ LEVEL_LIMIT
+  pub each : length (flat_map (λ dimension. dimension.hierarchies) dimensions) ≤ length (flat_map levels_of dimensions)
+
+dimension-count : (earlier : List SchemaDimension) (v : Data) (dimension : SchemaDimension)
+    → dimension_of earlier v ≡ Ok dimension → AreMeasured earlier → AreCounted (length (flat_map levels_of earlier)) dimension.hierarchies
 unfolding dimension_of
-dimension-count earlier taken v dimension e room =
-    let node = SchemaNode.Dimension (length earlier) in
+dimension-count earlier v dimension e h =
+    let i = length earlier in
+    let node = SchemaNode.Dimension i in
     let whole = both-ok (object_at node v) _ dimension e in
     let name = both-ok (name_at node Name whole.0) _ dimension whole.2 in
     let fresh = both-ok (refused_if (bytes_eq name.0 (codes "Measures") || has_dimension name.0 earlier) (TwiceNamed (Key node Name))) _ dimension name.2 in
     let table = both-ok (file_at node Table whole.0) _ dimension fresh.2 in
     let primary_key = both-ok (name_at node PrimaryKey whole.0) _ dimension table.2 in
-    let hierarchies = both-ok (hierarchies_at (length earlier) name.0 taken whole.0) _ dimension primary_key.2 in
-    let h = hierarchies_at-count (length earlier) name.0 taken whole.0 hierarchies.0 hierarchies.1 room in
-    subst (IsMeasured taken) (same-ok _ dimension hierarchies.2) (record { levels = h.levels; room = h.room; each = h.each })
+    let hierarchies = both-ok (items_at node Hierarchies (some (SchemaNode.Hierarchy i 0)) (hierarchy_of earlier name.0) whole.0) _ dimension primary_key.2 in
+    let parts = items_at-parts node Hierarchies (some (SchemaNode.Hierarchy i 0)) (hierarchy_of earlier name.0) whole.0 hierarchies.0 hierarchies.1 in
+    let same = ap (λ (d : SchemaDimension). d.hierarchies) (same-ok _ dimension hierarchies.2) in
+    subst (AreCounted (length (flat_map levels_of earlier))) same (hierarchies-count earlier name.0 parts.items hierarchies.0 h.room parts.read)
 
--- dimensions that follow others
-pub record AreMoreDimensions (taken : Taken) (items : List Data) (earlier found more : List SchemaDimension) : Type 0 where
-  pub joined : found ≡ earlier ++ more
-  pub count : length more ≡ length items
-  pub room : taken.levels + length (flat_map levels_of more) ≤ LEVEL_LIMIT
-  pub each : length (flat_map (λ dimension. dimension.hierarchies) more) ≤ length (flat_map levels_of more)
-
-pub dimensions-count : (taken : Taken) (earlier : List SchemaDimension) (items : List Data) (found : List SchemaDimension)
-    → dimensions_from taken earlier items ≡ Ok found → taken.levels ≤ LEVEL_LIMIT
-    → (more : List SchemaDimension) × AreMoreDimensions taken items earlier found more
-unfolding dimensions_from
-dimensions-count taken earlier [] found e room =
-    ([], record { joined = let same : found ≡ earlier = cc in same ∙ sym (append-nil earlier); count = refl; room = omega arith; each = omega arith })
-dimensions-count taken earlier (v ∷ vs) found e room =
-    let s = both-ok (dimension_of earlier taken v) _ found e in
-    let first = dimension-count earlier taken v s.0 s.1 room in
-    let after : (taken_after taken s.0).levels ≤ LEVEL_LIMIT = omega (arith, first.levels, first.room) in
-    let h = dimensions-count (taken_after taken s.0) (earlier ++ s.0 ∷ []) vs found s.2 after in
-    let levels = length-append (levels_of s.0) (flat_map levels_of h.0) in
-    let hierarchies = length-append s.0.hierarchies (flat_map (λ (dimension : SchemaDimension). dimension.hierarchies) h.0) in (
-      s.0 ∷ h.0,
-      record {
-        joined = h.1.joined ∙ append_assoc earlier (s.0 ∷ []) h.0;
-        count = omega (arith, h.1.count);
-        room = omega (arith, levels, first.levels, h.1.room);
-        each = omega (arith, levels, hierarchies, first.each, h.1.each);
-      },
-    )
-
-pub dimensions_at-count : (v : Data) (found : List SchemaDimension) → dimensions_at v ≡ Ok found
-    → (length found ≤ DIMENSION_LIMIT) × (length (flat_map levels_of found) ≤ LEVEL_LIMIT)
-    × (length (flat_map (λ dimension. dimension.hierarchies) found) ≤ length (flat_map levels_of found))
-unfolding dimensions_at
-dimensions_at-count v found e =
-    let place = Key SchemaNode.Schema Dimensions in
-    let items = both-ok (list_at SchemaNode.Schema Dimensions v) _ found e in
-    let most = both-ok (within place (length items.0) DIMENSION_LIMIT) _ found items.2 in
-    let limit = within-ok place (length items.0) DIMENSION_LIMIT most.0 most.1 in
-    let h = dimensions-count nothing_taken [] items.0 found most.2 (omega arith) in
-    let P : List SchemaDimension → Type 0 = λ ds. (length ds ≤ DIMENSION_LIMIT) × (length (flat_map levels_of ds) ≤ LEVEL_LIMIT)
-    × (length (flat_map (λ dimension. dimension.hierarchies) ds) ≤ length (flat_map levels_of ds)) in
-    subst P (sym h.1.joined) (omega (arith, limit, h.1.count), omega (arith, h.1.room), h.1.each)
+dimensions-count : (items : List Data) (found : List SchemaDimension) → items_from dimension_of [] items ≡ Ok found → AreMeasured found
+dimensions-count items found e = items_from-keep dimension_of AreMeasured more [] items found (record { room = omega arith; each = omega arith }) e
+  where
+    more : (earlier : List SchemaDimension) (v : Data) (x : SchemaDimension) → dimension_of earlier v ≡ Ok x → AreMeasured earlier → AreMeasured (earlier ++ x ∷ [])
+    more earlier v x is h =
+        let one = dimension-count earlier v x is h in
+        let levels = ap length (flat_more levels_of earlier x) ∙ length-append (flat_map levels_of earlier) (levels_of x) in
+        let hierarchies = ap length (flat_more (λ (d : SchemaDimension). d.hierarchies) earlier x) ∙ length-append (flat_map (λ (d : SchemaDimension). d.hierarchies) earlier) x.hierarchies in
+        record { room = omega (arith, levels, one.room); each = omega (arith, levels, hierarchies, one.each, h.each) }
 
 -- ---- cubes
 
-pub uses_from-length : (i : ℕ) (dimensions : List SchemaDimension) (earlier : List SchemaUse) (items : List Data) (uses : List SchemaUse)
-    → uses_from i dimensions earlier items ≡ Ok uses → length uses ≡ length earlier + length items
-unfolding uses_from
-uses_from-length i dimensions earlier [] uses e = let same : earlier ≡ uses = cc in rw same (omega arith)
-uses_from-length i dimensions earlier (v ∷ vs) uses e =
-    let s = both-ok (use_of (SchemaNode.Use i (length earlier)) dimensions earlier v) _ uses e in
-    let h = uses_from-length i dimensions (earlier ++ s.0 ∷ []) vs uses s.2 in
-    omega (arith, h, length-append earlier (s.0 ∷ []))
+uses-count : (dimensions : List SchemaDimension) (i : ℕ) (v : Data) (uses : List SchemaUse)
+    → items_at (SchemaNode.Cube i) Dimensions (at_most USE_LIMIT) (use_of dimensions i) v ≡ Ok uses → length uses ≤ USE_LIMIT
+uses-count dimensions i v uses e =
+    let parts = items_at-parts (SchemaNode.Cube i) Dimensions (at_most USE_LIMIT) (use_of dimensions i) v uses e in
+    let limit = within-ok (Key (SchemaNode.Cube i) Dimensions) (length parts.items) USE_LIMIT tt parts.sized in
+    omega (arith, limit, items_from-length (use_of dimensions i) [] parts.items uses parts.read)
 
-pub uses_at-count : (i : ℕ) (dimensions : List SchemaDimension) (v : Data) (uses : List SchemaUse)
-    → uses_at i dimensions v ≡ Ok uses → length uses ≤ USE_LIMIT
-unfolding uses_at
-uses_at-count i dimensions v uses e =
-    let place = Key (SchemaNode.Cube i) Dimensions in
-    let items = both-ok (list_at (SchemaNode.Cube i) Dimensions v) _ uses e in
-    let most = both-ok (within place (length items.0) USE_LIMIT) _ uses items.2 in
-    let limit = within-ok place (length items.0) USE_LIMIT most.0 most.1 in
-    omega (arith, limit, uses_from-length i dimensions [] items.0 uses most.2)
-
-pub measures_from-length : (i : ℕ) (earlier : List Measure) (items : List Data) (measures : List Measure)
-    → measures_from i earlier items ≡ Ok measures → length measures ≡ length earlier + length items
-unfolding measures_from
-measures_from-length i earlier [] measures e = let same : earlier ≡ measures = cc in rw same (omega arith)
-measures_from-length i earlier (v ∷ vs) measures e =
-    let s = both-ok (measure_of (SchemaNode.Measure i (length earlier)) earlier v) _ measures e in
-    let h = measures_from-length i (earlier ++ s.0 ∷ []) vs measures s.2 in
-    omega (arith, h, length-append earlier (s.0 ∷ []))
-
-pub measures_at-count : (i : ℕ) (v : Data) (measures : List Measure) → measures_at i v ≡ Ok measures → length measures ≤ MEASURE_LIMIT
-unfolding measures_at
-measures_at-count i v measures e =
+measures-count : (i : ℕ) (v : Data) (measures : List Measure)
+    → items_at (SchemaNode.Cube i) Measures (some_at_most (SchemaNode.Measure i 0) MEASURE_LIMIT) (measure_of i) v ≡ Ok measures → length measures ≤ MEASURE_LIMIT
+measures-count i v measures e =
     let place = Key (SchemaNode.Cube i) Measures in
-    let items = both-ok (list_at (SchemaNode.Cube i) Measures v) _ measures e in
-    let most = both-ok (within place (length items.0) MEASURE_LIMIT) _ measures items.2 in
-    let some = both-ok (filled (SchemaNode.Measure i 0) items.0) _ measures most.2 in
-    let limit = within-ok place (length items.0) MEASURE_LIMIT most.0 most.1 in
-    omega (arith, limit, measures_from-length i [] items.0 measures some.2)
+    let parts = items_at-parts (SchemaNode.Cube i) Measures (some_at_most (SchemaNode.Measure i 0) MEASURE_LIMIT) (measure_of i) v measures e in
+    let most = both-ok (within place (length parts.items) MEASURE_LIMIT) _ tt parts.sized in
+    let limit = within-ok place (length parts.items) MEASURE_LIMIT most.0 most.1 in
+    omega (arith, limit, items_from-length (measure_of i) [] parts.items measures parts.read)
 
-pub cube-count : (dimensions : List SchemaDimension) (earlier : List SchemaCube) (v : Data) (cube : SchemaCube)
-    → cube_of dimensions earlier v ≡ Ok cube → IsWithinCube cube
+cube-count : (dimensions : List SchemaDimension) (earlier : List SchemaCube) (v : Data) (cube : SchemaCube) → cube_of dimensions earlier v ≡ Ok cube → IsWithinCube cube
 unfolding cube_of
 cube-count dimensions earlier v cube e =
-    let node = SchemaNode.Cube (length earlier) in
+    let i = length earlier in
+    let node = SchemaNode.Cube i in
     let whole = both-ok (object_at node v) _ cube e in
     let name = both-ok (name_at node Name whole.0) _ cube whole.2 in
     let fresh = both-ok (refused_if (has_cube name.0 earlier) (TwiceNamed (Key node Name))) _ cube name.2 in
     let fact = both-ok (file_at node Fact whole.0) _ cube fresh.2 in
-    let uses = both-ok (uses_at (length earlier) dimensions whole.0) _ cube fact.2 in
-    let measures = both-ok (measures_at (length earlier) whole.0) _ cube uses.2 in
+    let uses = both-ok (items_at node Dimensions (at_most USE_LIMIT) (use_of dimensions i) whole.0) _ cube fact.2 in
+    let measures = both-ok (items_at node Measures (some_at_most (SchemaNode.Measure i 0) MEASURE_LIMIT) (measure_of i) whole.0) _ cube uses.2 in
     subst IsWithinCube (same-ok _ cube measures.2)
-    (record { dimensions = uses_at-count (length earlier) dimensions whole.0 uses.0 uses.1; measures = measures_at-count (length earlier) whole.0 measures.0 measures.1 })
+    (record { dimensions = uses-count dimensions i whole.0 uses.0 uses.1; measures = measures-count i whole.0 measures.0 measures.1 })
 
--- cubes that follow others
-pub record AreMoreCubes (items : List Data) (earlier found more : List SchemaCube) : Type 0 where
-  pub joined : found ≡ earlier ++ more
-  pub count : length more ≡ length items
-  pub each : All IsWithinCube more
-
-pub cubes-count : (dimensions : List SchemaDimension) (earlier : List SchemaCube) (items : List Data) (found : List SchemaCube)
-    → cubes_from dimensions earlier items ≡ Ok found → (more : List SchemaCube) × AreMoreCubes items earlier found more
-unfolding cubes_from
-cubes-count dimensions earlier [] found e =
-    ([], record { joined = let same : found ≡ earlier = cc in same ∙ sym (append-nil earlier); count = refl; each = All-nil IsWithinCube })
-cubes-count dimensions earlier (v ∷ vs) found e =
-    let s = both-ok (cube_of dimensions earlier v) _ found e in
-    let h = cubes-count dimensions (earlier ++ s.0 ∷ []) vs found s.2 in (
-      s.0 ∷ h.0,
-      record {
-        joined = h.1.joined ∙ append_assoc earlier (s.0 ∷ []) h.0;
-        count = omega (arith, h.1.count);
-        each = All-cons IsWithinCube s.0 h.0 (cube-count dimensions earlier v s.0 s.1) h.1.each;
-      },
-    )
-
-pub cubes_at-count : (dimensions : List SchemaDimension) (v : Data) (found : List SchemaCube) → cubes_at dimensions v ≡ Ok found
-    → (length found ≤ CUBE_LIMIT) × All IsWithinCube found
-unfolding cubes_at
-cubes_at-count dimensions v found e =
-    let place = Key SchemaNode.Schema Cubes in
-    let items = both-ok (list_at SchemaNode.Schema Cubes v) _ found e in
-    let most = both-ok (within place (length items.0) CUBE_LIMIT) _ found items.2 in
-    let some = both-ok (filled (SchemaNode.Cube 0) items.0) _ found most.2 in
-    let limit = within-ok place (length items.0) CUBE_LIMIT most.0 most.1 in
-    let h = cubes-count dimensions [] items.0 found some.2 in
-    let P : List SchemaCube → Type 0 = λ cs. (length cs ≤ CUBE_LIMIT) × All IsWithinCube cs in
-    subst P (sym h.1.joined) (omega (arith, limit, h.1.count), h.1.each)
+cubes-count : (dimensions : List SchemaDimension) (items : List Data) (found : List SchemaCube) → items_from (cube_of dimensions) [] items ≡ Ok found → All IsWithinCube found
+cubes-count dimensions items found e = items_from-keep (cube_of dimensions) (All IsWithinCube) more [] items found (All-nil IsWithinCube) e
+  where
+    more : (earlier : List SchemaCube) (v : Data) (x : SchemaCube) → cube_of dimensions earlier v ≡ Ok x → All IsWithinCube earlier → All IsWithinCube (earlier ++ x ∷ [])
+    more earlier v x is h = all_more IsWithinCube earlier x h (cube-count dimensions earlier v x is)
 
 -- ---- schemas
 
 pub schema-limits : (v : Data) (schema : Schema) → schema_in v ≡ Ok schema → IsWithinLimits schema
 unfolding schema_in
 schema-limits v schema e =
-    let whole = both-ok (object_at SchemaNode.Schema v) _ schema e in
-    let dimensions = both-ok (dimensions_at whole.0) _ schema whole.2 in
-    let cubes = both-ok (cubes_at dimensions.0 whole.0) _ schema dimensions.2 in
+    let top = SchemaNode.Schema in
+    let whole = both-ok (object_at top v) _ schema e in
+    let dimensions = both-ok (items_at top Dimensions (at_most DIMENSION_LIMIT) dimension_of whole.0) _ schema whole.2 in
+    let cubes = both-ok (items_at top Cubes (some_at_most (SchemaNode.Cube 0) CUBE_LIMIT) (cube_of dimensions.0) whole.0) _ schema dimensions.2 in
     let aggregates = both-ok (aggregates_at whole.0) _ schema cubes.2 in
-    let d = dimensions_at-count whole.0 dimensions.0 dimensions.1 in
-    let c = cubes_at-count dimensions.0 whole.0 cubes.0 cubes.1 in
+    let d = items_at-parts top Dimensions (at_most DIMENSION_LIMIT) dimension_of whole.0 dimensions.0 dimensions.1 in
+    let c = items_at-parts top Cubes (some_at_most (SchemaNode.Cube 0) CUBE_LIMIT) (cube_of dimensions.0) whole.0 cubes.0 cubes.1 in
+    let most_dimensions = within-ok (Key top Dimensions) (length d.items) DIMENSION_LIMIT tt d.sized in
+    let most = both-ok (within (Key top Cubes) (length c.items) CUBE_LIMIT) _ tt c.sized in
+    let most_cubes = within-ok (Key top Cubes) (length c.items) CUBE_LIMIT most.0 most.1 in
+    let measured = dimensions-count d.items dimensions.0 d.read in
     subst IsWithinLimits (same-ok _ schema aggregates.2)
-    (record { dimensions = d.0; hierarchies = omega (arith, d.1, d.2); levels = d.1; cubes = c.0; each = c.1 })
+    (record {
+      dimensions = omega (arith, most_dimensions, items_from-length dimension_of [] d.items dimensions.0 d.read);
+      hierarchies = omega (arith, measured.each, measured.room);
+      levels = measured.room;
+      cubes = omega (arith, most_cubes, items_from-length (cube_of dimensions.0) [] c.items cubes.0 c.read);
+      each = cubes-count dimensions.0 c.items cubes.0 c.read;
+    })
 
 pub limits-if-ok : (v : Data) (r : Result Schema SchemaFault) → IfOk r (λ schema. schema_in v ≡ Ok schema) → IfOk r (λ schema. IsWithinLimits schema)
 limits-if-ok v (Ok schema) e = schema-limits v schema e

@@ -1,10 +1,11 @@
 -- What a walk that went well says of its steps.
 use Rattle.std.proofs.Common.{◌≡◌, ℕ, ◌≤◌, List, [], ◌∷◌, length, Result, Ok, Err, refl, arith}
+use Rattle.olap_meaning.specs.Results.{◌>>=◌}
 use Rattle.serde_json.specs.Data.{Data}
 use Rattle.cube_schema.specs.declared.fault.SchemaFault.{SchemaFault}
 use Rattle.cube_schema.specs.declared.place.SchemaNode.{SchemaNode}
 use Rattle.cube_schema.specs.declared.place.SchemaPlace.{SchemaPlace}
-use Rattle.cube_schema.specs.Fields.{◌>>=◌, within, filled}
+use Rattle.cube_schema.specs.Fields.{within, filled}
 
 -- a success, with the type of its faults
 abbrev pub success : {A : Type 0} → A → Result A SchemaFault

@@ -2,7 +2,8 @@
 use Rattle.std.specs.Prelude.{ℕ, ◌==◌, List, [], ◌∷◌, length, slice_index, Bool, true, false, not, ◌&&◌, ◌||◌, nat_lt, nat_le, Option, Some, None, Result, Ok, Err, if◌then◌else◌}
 use Rattle.std.specs.List.{list_all}
 use Rattle.std.specs.Str.{is_utf8}
-use Rattle.serde_json.specs.Data.{Data, null, boolean, number, string, array, object, Items, no_items, item}
+use Rattle.olap_meaning.specs.Results.{◌>>=◌}
+use Rattle.serde_json.specs.Data.{Data, boolean, string, array, object, Items, no_items, item}
 use Rattle.serde_json.specs.Find.{get}
 use Rattle.serde_json.specs.Read.{read}
 use Rattle.cube_schema.specs.declared.fault.SchemaFault.{SchemaFault}
@@ -12,12 +13,6 @@ use Rattle.cube_schema.specs.declared.place.SchemaNode.{SchemaNode}
 use Rattle.cube_schema.specs.declared.place.SchemaPlace.{SchemaPlace}
 use Rattle.cube_schema.specs.declared.place.SchemaPlace.TheVariants.{Node, Key}
 use Rattle.cube_schema.specs.Places.{key_text}
-
-infixl 10 ◌>>=◌
--- a step of a walk and what follows it: the first fault of both
-abbrev pub ◌>>=◌ : {A B : Type 0} → Result A SchemaFault → (A → Result B SchemaFault) → Result B SchemaFault
-(Ok x) >>= f = f x
-(Err e) >>= f = Err e
 
 -- a fault where a test is true
 abbrev pub refused_if : Bool → SchemaFault → Result (Unit {0}) SchemaFault
@@ -35,12 +30,8 @@ json_or_fault (Some d) = Ok d
 
 -- a value that must be an object
 abbrev pub object_at : SchemaNode → Data → Result Data SchemaFault
-object_at node null = Err (WrongKind (Node node))
-object_at node (boolean b) = Err (WrongKind (Node node))
-object_at node (number n) = Err (WrongKind (Node node))
-object_at node (string s) = Err (WrongKind (Node node))
-object_at node (array ds) = Err (WrongKind (Node node))
 object_at node (object ms) = Ok (object ms)
+object_at node _ = Err (WrongKind (Node node))
 
 -- a value that must be there
 abbrev pub there : SchemaPlace → Option Data → Result Data SchemaFault
@@ -58,12 +49,8 @@ filled_text place (b ∷ bs) = Ok (b ∷ bs)
 
 -- a name: a text that is not empty
 abbrev pub name_of : SchemaPlace → Data → Result (List ℕ) SchemaFault
-name_of place null = Err (WrongKind place)
-name_of place (boolean b) = Err (WrongKind place)
-name_of place (number n) = Err (WrongKind place)
 name_of place (string s) = filled_text place s
-name_of place (array ds) = Err (WrongKind place)
-name_of place (object ms) = Err (WrongKind place)
+name_of place _ = Err (WrongKind place)
 
 -- the name at a key
 unfoldable pub name_at : SchemaNode → SchemaKey → Data → Result (List ℕ) SchemaFault
@@ -79,25 +66,26 @@ name_if_there place (Some d) = do
   Ok (Some name)
 
 -- the name at a key that need not be there
-unfoldable pub optional_name_at : SchemaNode → SchemaKey → Data → Result (Option (List ℕ)) SchemaFault
+unfoldable pub optional_name_at : SchemaNode → SchemaKey → Data
+    → Result (Option (List ℕ)) SchemaFault
 optional_name_at node key d = name_if_there (Key node key) (get (key_text key) d)
 
 -- an ASCII letter or digit, `_`, `-` or `.`
 abbrev pub is_file_byte : ℕ → Bool
-is_file_byte b = (nat_le 65 b && nat_le b 90) || (nat_le 97 b && nat_le b 122) || (nat_le 48 b && nat_le b 57) || (b == 95) || (b == 45) || (b == 46)
+is_file_byte b =
+    (nat_le 65 b && nat_le b 90) || (nat_le 97 b && nat_le b 122) || (nat_le 48 b && nat_le b 57)
+    || (b == 95) || (b == 45) || (b == 46)
 
 -- a file name: 1 to 64 such bytes, of which the first is no `.`
 unfoldable pub is_file_name : List ℕ → Bool
-is_file_name name = nat_le 1 (length name) && nat_le (length name) 64 && not (slice_index name 0 == 46) && list_all is_file_byte name
+is_file_name name =
+    nat_le 1 (length name) && nat_le (length name) 64 && not (slice_index name 0 == 46)
+    && list_all is_file_byte name
 
 -- a text that must be a file name
 abbrev pub file_of : SchemaPlace → Data → Result (List ℕ) SchemaFault
-file_of place null = Err (WrongKind place)
-file_of place (boolean b) = Err (WrongKind place)
-file_of place (number n) = Err (WrongKind place)
 file_of place (string s) = if is_file_name s then Ok s else Err (WrongKind place)
-file_of place (array ds) = Err (WrongKind place)
-file_of place (object ms) = Err (WrongKind place)
+file_of place _ = Err (WrongKind place)
 
 -- the file name at a key
 unfoldable pub file_at : SchemaNode → SchemaKey → Data → Result (List ℕ) SchemaFault
@@ -108,12 +96,8 @@ file_at node key d = do
 -- true or false, or a default where nothing stands
 abbrev pub bool_or : SchemaPlace → Bool → Option Data → Result Bool SchemaFault
 bool_or place default None = Ok default
-bool_or place default (Some null) = Err (WrongKind place)
 bool_or place default (Some (boolean b)) = Ok b
-bool_or place default (Some (number n)) = Err (WrongKind place)
-bool_or place default (Some (string s)) = Err (WrongKind place)
-bool_or place default (Some (array ds)) = Err (WrongKind place)
-bool_or place default (Some (object ms)) = Err (WrongKind place)
+bool_or place default (Some _) = Err (WrongKind place)
 
 -- true or false at a key that need not be there
 unfoldable pub bool_at : SchemaNode → SchemaKey → Bool → Data → Result Bool SchemaFault
@@ -126,12 +110,8 @@ listed (item d ds) = d ∷ listed ds
 
 -- a value that must be a list
 abbrev pub list_of : SchemaPlace → Data → Result (List Data) SchemaFault
-list_of place null = Err (WrongKind place)
-list_of place (boolean b) = Err (WrongKind place)
-list_of place (number n) = Err (WrongKind place)
-list_of place (string s) = Err (WrongKind place)
 list_of place (array ds) = Ok (listed ds)
-list_of place (object ms) = Err (WrongKind place)
+list_of place _ = Err (WrongKind place)
 
 -- the items of the list at a key
 unfoldable pub list_at : SchemaNode → SchemaKey → Data → Result (List Data) SchemaFault

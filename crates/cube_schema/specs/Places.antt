@@ -31,8 +31,11 @@ key_text Aggregator = codes "aggregator"
 unfoldable pub node_text : SchemaNode → List ℕ
 node_text Schema = []
 node_text (Dimension i) = codes "dimensions/" ++ decimal i
-node_text (Hierarchy i j) = codes "dimensions/" ++ (decimal i ++ (codes "/hierarchies/" ++ decimal j))
-node_text (Level i j k) = codes "dimensions/" ++ (decimal i ++ (codes "/hierarchies/" ++ (decimal j ++ (codes "/levels/" ++ decimal k))))
+node_text (Hierarchy i j) =
+    codes "dimensions/" ++ (decimal i ++ (codes "/hierarchies/" ++ decimal j))
+node_text (Level i j k) =
+    codes "dimensions/"
+    ++ (decimal i ++ (codes "/hierarchies/" ++ (decimal j ++ (codes "/levels/" ++ decimal k))))
 node_text (Cube i) = codes "cubes/" ++ decimal i
 node_text (Use i j) = codes "cubes/" ++ (decimal i ++ (codes "/dimensions/" ++ decimal j))
 node_text (Measure i j) = codes "cubes/" ++ (decimal i ++ (codes "/measures/" ++ decimal j))

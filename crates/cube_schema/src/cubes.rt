@@ -1,9 +1,12 @@
 //! The cubes of a schema, their uses of dimensions, and their measures.
-ghost use Rattle.std.specs.Prelude.{◌≡◌, ◌⊎◌, [], Ok, Err, IfOk, IfErr, map};
-ghost use Rattle.olap_meaning.specs.Commands.{aggregator_named};
+ghost use Rattle.std.specs.Prelude.{◌≡◌, [], Ok, Err, IfOk, IfErr, map};
+ghost use Rattle.olap_meaning.specs.declared.schema.TheConstants.{MEASURE_LIMIT, USE_LIMIT};
 ghost use Rattle.serde_json.specs.View.{view};
-ghost use Rattle.cube_schema.specs.declared.fault.SchemaFault.TheVariants.{OutOfMemory as NoMemory};
-ghost use Rattle.cube_schema.specs.Cubes.{aggregator_at, cube_of, cubes_from, has_cube, has_measure, has_use, measure_of, measures_at, measures_from, use_of, uses_at, uses_from};
+ghost use Rattle.cube_schema.specs.declared.place.SchemaKey.TheVariants.{Dimensions, Measures};
+ghost use Rattle.cube_schema.specs.declared.place.SchemaNode.TheVariants.{Cube, Measure as MeasureNode};
+ghost use Rattle.cube_schema.specs.Cubes.{aggregator_at, cube_of, has_cube, has_measure, has_use, measure_of, use_of};
+ghost use Rattle.cube_schema.specs.Lists.{at_most, items_at, items_from, some_at_most};
+ghost use Rattle.cube_schema.specs.Readers.{IsFaultOf};
 
 use crate::dimensions::has_dimension;
 use crate::fault::SchemaFault;
@@ -28,14 +31,20 @@ fn has_use(source: &str, uses: &[SchemaUse]) -> bool
 #[tactic(auto, unfolding(crate::specs::Cubes::use_of))]
 fn read_use(
     alloc: Global,
-    node: SchemaNode,
     dimensions: &[SchemaDimension],
+    cube: usize,
     earlier: &[SchemaUse],
     value: &Value,
 ) -> Result<SchemaUse, SchemaFault>
-    ensures ok { IfOk result (λ used. use_of node dimensions.now earlier.now (view value.now) ≡ Ok used) }
-    ensures err { IfErr result (λ fault. (fault ≡ NoMemory) ⊎ (use_of node dimensions.now earlier.now (view value.now) ≡ Err fault)) }
+    ensures ok { IfOk result (λ used.
+        use_of dimensions.now cube earlier.now (view value.now) ≡ Ok used) }
+    ensures err { IfErr result (λ fault.
+        IsFaultOf (use_of dimensions.now cube earlier.now (view value.now)) fault) }
 {
+    let node = SchemaNode::Use {
+        cube,
+        used: earlier.len(),
+    };
     check_object(node, value)?;
     let source = find_name(node, SchemaKey::Source, value)?;
     let place = SchemaPlace::Key {
@@ -57,59 +66,46 @@ fn read_use(
 }
 
 // The uses of a cube, by their items.
-#[tactic(auto, unfolding(crate::specs::Cubes::uses_from))]
+#[tactic(auto, unfolding(crate::specs::Lists::items_from))]
 fn uses_of(
     alloc: Global,
-    cube: usize,
     dimensions: &[SchemaDimension],
+    cube: usize,
     items: &[Value],
 ) -> Result<List<SchemaUse>, SchemaFault>
-    ensures ok { IfOk result (λ uses. uses_from cube dimensions.now [] (map view items.now) ≡ Ok uses) }
-    ensures err { IfErr result (λ fault. (fault ≡ NoMemory) ⊎ (uses_from cube dimensions.now [] (map view items.now) ≡ Err fault)) }
+    ensures ok { IfOk result (λ uses.
+        items_from (use_of dimensions.now cube) [] (map view items.now) ≡ Ok uses) }
+    ensures err { IfErr result (λ fault.
+        IsFaultOf (items_from (use_of dimensions.now cube) [] (map view items.now)) fault) }
 {
     let mut uses = List::new(alloc);
     for item in items {
-        let node = SchemaNode::Use {
-            cube,
-            used: uses.len(),
-        };
-        let used = read_use(alloc, node, dimensions, uses.as_slice(), item)?;
+        let used = read_use(alloc, dimensions, cube, uses.as_slice(), item)?;
         uses.push(used)?;
     }
     Ok(uses)
 }
 
 // The uses of a cube.
-#[tactic(auto, unfolding(crate::specs::Cubes::uses_at))]
+#[tactic(auto, unfolding(crate::specs::Lists::items_at))]
 fn read_uses(
     alloc: Global,
-    cube: usize,
     dimensions: &[SchemaDimension],
+    cube: usize,
     value: &Value,
 ) -> Result<List<SchemaUse>, SchemaFault>
-    ensures ok { IfOk result (λ uses. uses_at cube dimensions.now (view value.now) ≡ Ok uses) }
-    ensures err { IfErr result (λ fault. (fault ≡ NoMemory) ⊎ (uses_at cube dimensions.now (view value.now) ≡ Err fault)) }
+    ensures ok { IfOk result (λ uses.
+        items_at (Cube cube) Dimensions (at_most USE_LIMIT) (use_of dimensions.now cube)
+        (view value.now) ≡ Ok uses) }
+    ensures err { IfErr result (λ fault. IsFaultOf
+        (items_at (Cube cube) Dimensions (at_most USE_LIMIT) (use_of dimensions.now cube)
+        (view value.now)) fault) }
 {
     let node = SchemaNode::Cube { cube };
     let key = SchemaKey::Dimensions;
     let items = find_list(node, key, value)?;
     check_count(SchemaPlace::Key { node, key }, items.len(), USE_LIMIT)?;
-    uses_of(alloc, cube, dimensions, items)
-}
-
-// The aggregator of a name.
-fn aggregator_named(name: &str) -> Option<Aggregator>
-    ensures { result ≡ aggregator_named name.now }
-{
-    match name {
-        "sum" => Some(Aggregator::Sum),
-        "count" => Some(Aggregator::Count),
-        "min" => Some(Aggregator::Min),
-        "max" => Some(Aggregator::Max),
-        "avg" => Some(Aggregator::Avg),
-        "distinct-count" => Some(Aggregator::DistinctCount),
-        _ => None,
-    }
+    uses_of(alloc, dimensions, cube, items)
 }
 
 // The aggregator of a measure.
@@ -123,7 +119,7 @@ fn read_aggregator(node: SchemaNode, value: &Value) -> Result<Aggregator, Schema
     let Some(name) = find(node, key, value)?.as_str() else {
         return Err(SchemaFault::WrongKind { place });
     };
-    aggregator_named(name).ok_or(SchemaFault::UnknownAggregator { place })
+    Aggregator::named(name).ok_or(SchemaFault::UnknownAggregator { place })
 }
 
 // Whether a measure of this name is among some.
@@ -137,13 +133,19 @@ fn has_measure(name: &str, measures: &[Measure]) -> bool
 #[tactic(auto, unfolding(crate::specs::Cubes::measure_of))]
 fn read_measure(
     alloc: Global,
-    node: SchemaNode,
+    cube: usize,
     earlier: &[Measure],
     value: &Value,
 ) -> Result<Measure, SchemaFault>
-    ensures ok { IfOk result (λ measure. measure_of node earlier.now (view value.now) ≡ Ok measure) }
-    ensures err { IfErr result (λ fault. (fault ≡ NoMemory) ⊎ (measure_of node earlier.now (view value.now) ≡ Err fault)) }
+    ensures ok { IfOk result (λ measure.
+        measure_of cube earlier.now (view value.now) ≡ Ok measure) }
+    ensures err { IfErr result (λ fault.
+        IsFaultOf (measure_of cube earlier.now (view value.now)) fault) }
 {
+    let node = SchemaNode::Measure {
+        cube,
+        measure: earlier.len(),
+    };
     check_object(node, value)?;
     let name = find_name(node, SchemaKey::Name, value)?;
     if has_measure(name, earlier) {
@@ -165,28 +167,30 @@ fn read_measure(
 }
 
 // The measures of a cube, by their items.
-#[tactic(auto, unfolding(crate::specs::Cubes::measures_from))]
+#[tactic(auto, unfolding(crate::specs::Lists::items_from))]
 fn measures_of(alloc: Global, cube: usize, items: &[Value]) -> Result<List<Measure>, SchemaFault>
-    ensures ok { IfOk result (λ measures. measures_from cube [] (map view items.now) ≡ Ok measures) }
-    ensures err { IfErr result (λ fault. (fault ≡ NoMemory) ⊎ (measures_from cube [] (map view items.now) ≡ Err fault)) }
+    ensures ok { IfOk result (λ measures.
+        items_from (measure_of cube) [] (map view items.now) ≡ Ok measures) }
+    ensures err { IfErr result (λ fault.
+        IsFaultOf (items_from (measure_of cube) [] (map view items.now)) fault) }
 {
     let mut measures = List::new(alloc);
     for item in items {
-        let node = SchemaNode::Measure {
-            cube,
-            measure: measures.len(),
-        };
-        let measure = read_measure(alloc, node, measures.as_slice(), item)?;
+        let measure = read_measure(alloc, cube, measures.as_slice(), item)?;
         measures.push(measure)?;
     }
     Ok(measures)
 }
 
 // The measures of a cube.
-#[tactic(auto, unfolding(crate::specs::Cubes::measures_at))]
+#[tactic(auto, unfolding(crate::specs::Lists::items_at))]
 fn read_measures(alloc: Global, cube: usize, value: &Value) -> Result<List<Measure>, SchemaFault>
-    ensures ok { IfOk result (λ measures. measures_at cube (view value.now) ≡ Ok measures) }
-    ensures err { IfErr result (λ fault. (fault ≡ NoMemory) ⊎ (measures_at cube (view value.now) ≡ Err fault)) }
+    ensures ok { IfOk result (λ measures.
+        items_at (Cube cube) Measures
+        (some_at_most (MeasureNode cube 0) MEASURE_LIMIT) (measure_of cube) (view value.now) ≡ Ok measures) }
+    ensures err { IfErr result (λ fault. IsFaultOf
+        (items_at (Cube cube) Measures
+        (some_at_most (MeasureNode cube 0) MEASURE_LIMIT) (measure_of cube) (view value.now)) fault) }
 {
     let node = SchemaNode::Cube { cube };
     let key = SchemaKey::Measures;
@@ -211,8 +215,10 @@ fn read_cube(
     earlier: &[SchemaCube],
     value: &Value,
 ) -> Result<SchemaCube, SchemaFault>
-    ensures ok { IfOk result (λ cube. cube_of dimensions.now earlier.now (view value.now) ≡ Ok cube) }
-    ensures err { IfErr result (λ fault. (fault ≡ NoMemory) ⊎ (cube_of dimensions.now earlier.now (view value.now) ≡ Err fault)) }
+    ensures ok { IfOk result (λ cube.
+        cube_of dimensions.now earlier.now (view value.now) ≡ Ok cube) }
+    ensures err { IfErr result (λ fault.
+        IsFaultOf (cube_of dimensions.now earlier.now (view value.now)) fault) }
 {
     let place = earlier.len();
     let node = SchemaNode::Cube { cube: place };
@@ -227,7 +233,7 @@ fn read_cube(
         });
     }
     let fact = read_file_name(alloc, node, SchemaKey::Fact, value)?;
-    let uses = read_uses(alloc, place, dimensions, value)?;
+    let uses = read_uses(alloc, dimensions, place, value)?;
     let measures = read_measures(alloc, place, value)?;
     let name = Text::from_str(alloc, name)?;
     Ok(SchemaCube {
@@ -238,15 +244,17 @@ fn read_cube(
     })
 }
 
-/// The cubes of a schema, over its dimensions.
-#[tactic(auto, unfolding(crate::specs::Cubes::cubes_from))]
+/// The cubes of a schema, over its dimensions, by their items.
+#[tactic(auto, unfolding(crate::specs::Lists::items_from))]
 pub(crate) fn read_cubes(
     alloc: Global,
     dimensions: &[SchemaDimension],
     items: &[Value],
 ) -> Result<List<SchemaCube>, SchemaFault>
-    ensures ok { IfOk result (λ cubes. cubes_from dimensions.now [] (map view items.now) ≡ Ok cubes) }
-    ensures err { IfErr result (λ fault. (fault ≡ NoMemory) ⊎ (cubes_from dimensions.now [] (map view items.now) ≡ Err fault)) }
+    ensures ok { IfOk result (λ cubes.
+        items_from (cube_of dimensions.now) [] (map view items.now) ≡ Ok cubes) }
+    ensures err { IfErr result (λ fault.
+        IsFaultOf (items_from (cube_of dimensions.now) [] (map view items.now)) fault) }
 {
     let mut cubes = List::new(alloc);
     for item in items {

@@ -1,9 +1,10 @@
 //! The dimensions of a schema.
-ghost use Rattle.std.specs.Prelude.{◌≡◌, ◌≤◌, ◌⊎◌, [], Ok, Err, IfOk, IfErr, map};
-ghost use Rattle.olap_meaning.specs.declared.schema.TheConstants.{LEVEL_LIMIT};
+ghost use Rattle.std.specs.Prelude.{◌≡◌, ◌++◌, ◌∷◌, [], Ok, Err, IfOk, IfErr, map};
 ghost use Rattle.serde_json.specs.View.{view};
-ghost use Rattle.cube_schema.specs.declared.fault.SchemaFault.TheVariants.{OutOfMemory as NoMemory};
-ghost use Rattle.cube_schema.specs.Dimensions.{dimension_of, dimensions_from, has_dimension, nothing_taken, taken_after};
+ghost use Rattle.cube_schema.specs.Readers.{IsFaultOf};
+ghost use Rattle.cube_schema.specs.Dimensions.{dimension_of, has_dimension};
+ghost use Rattle.cube_schema.specs.Lists.{items_from};
+ghost use Rattle.cube_schema.specs.Taken.{IsTakenBy};
 
 use crate::fault::SchemaFault;
 use crate::fields::{check_object, find_name, read_file_name, read_name};
@@ -24,21 +25,24 @@ pub(crate) fn has_dimension(name: &str, dimensions: &[SchemaDimension]) -> bool
 }
 
 // A dimension, after earlier ones. Its hierarchies are added to what is taken.
-#[tactic(auto, unfolding(crate::specs::Dimensions::dimension_of))]
+#[tactic(auto, using(crate::proofs::TakenFacts::taken_facts), unfolding(crate::specs::Dimensions::dimension_of))]
 fn read_dimension(
     alloc: Global,
     earlier: &[SchemaDimension],
     taken: &mut Taken,
     value: &Value,
 ) -> Result<SchemaDimension, SchemaFault>
-    requires { taken.old.levels ≤ LEVEL_LIMIT }
-    ensures ok { IfOk result (λ dimension. dimension_of earlier.now taken.old (view value.now) ≡ Ok dimension) }
-    ensures taken { IfOk result (λ dimension. taken.new ≡ taken_after taken.old dimension) }
-    ensures room { IfOk result (λ _. taken.new.levels ≤ LEVEL_LIMIT) }
-    ensures err { IfErr result (λ fault. (fault ≡ NoMemory) ⊎ (dimension_of earlier.now taken.old (view value.now) ≡ Err fault)) }
+    requires { IsTakenBy earlier.now taken.old }
+    ensures ok { IfOk result (λ dimension.
+        dimension_of earlier.now (view value.now) ≡ Ok dimension) }
+    ensures taken { IfOk result (λ dimension.
+        IsTakenBy (earlier.now ++ dimension ∷ []) taken.new) }
+    ensures err { IfErr result (λ fault.
+        IsFaultOf (dimension_of earlier.now (view value.now)) fault) }
 {
-    let place = earlier.len();
-    let node = SchemaNode::Dimension { dimension: place };
+    let node = SchemaNode::Dimension {
+        dimension: earlier.len(),
+    };
     check_object(node, value)?;
     let name = find_name(node, SchemaKey::Name, value)?;
     if name == "Measures" || has_dimension(name, earlier) {
@@ -51,7 +55,7 @@ fn read_dimension(
     }
     let table = read_file_name(alloc, node, SchemaKey::Table, value)?;
     let primary_key = read_name(alloc, node, SchemaKey::PrimaryKey, value)?;
-    let hierarchies = read_hierarchies(alloc, place, name, taken, value)?;
+    let hierarchies = read_hierarchies(alloc, earlier, name, taken, value)?;
     let name = Text::from_str(alloc, name)?;
     Ok(SchemaDimension {
         name,
@@ -61,14 +65,16 @@ fn read_dimension(
     })
 }
 
-/// The dimensions of a schema.
-#[tactic(auto, unfolding(crate::specs::Dimensions::dimensions_from))]
+/// The dimensions of a schema, by their items.
+#[tactic(auto, using(crate::proofs::TakenFacts::taken_facts), unfolding(crate::specs::Lists::items_from))]
 pub(crate) fn read_dimensions(
     alloc: Global,
     items: &[Value],
 ) -> Result<List<SchemaDimension>, SchemaFault>
-    ensures ok { IfOk result (λ dimensions. dimensions_from nothing_taken [] (map view items.now) ≡ Ok dimensions) }
-    ensures err { IfErr result (λ fault. (fault ≡ NoMemory) ⊎ (dimensions_from nothing_taken [] (map view items.now) ≡ Err fault)) }
+    ensures ok { IfOk result (λ dimensions.
+        items_from dimension_of [] (map view items.now) ≡ Ok dimensions) }
+    ensures err { IfErr result (λ fault.
+        IsFaultOf (items_from dimension_of [] (map view items.now)) fault) }
 {
     let mut taken = Taken::new(alloc);
     let mut dimensions = List::new(alloc);

@@ -3,6 +3,7 @@ ghost use Rattle.std.specs.Prelude.{◌≡◌, ◌≤◌, ◌⊎◌, None, Some,
 ghost use Rattle.std.specs.List.{list_all};
 ghost use Rattle.serde_json.specs.View.{view};
 ghost use Rattle.cube_schema.specs.declared.fault.SchemaFault.TheVariants.{NotJson, OutOfMemory as NoMemory};
+ghost use Rattle.cube_schema.specs.Readers.{IsFaultOf};
 ghost use Rattle.cube_schema.specs.Fields.{bool_at, file_at, filled, is_file_byte, is_file_name, json_of, list_at, name_at, object_at, optional_name_at, value_at, within};
 
 use crate::fault::SchemaFault;
@@ -14,7 +15,8 @@ use std::alloc::Global;
 /// The JSON value of a file's bytes.
 pub(crate) fn read_json(alloc: Global, bytes: &[u8]) -> Result<Value, SchemaFault>
     ensures ok { IfOk result (λ value. json_of bytes.now ≡ Some (view value)) }
-    ensures err { IfErr result (λ fault. (fault ≡ NoMemory) ⊎ ((fault ≡ NotJson) × (json_of bytes.now ≡ None))) }
+    ensures err { IfErr result (λ fault.
+        (fault ≡ NoMemory) ⊎ ((fault ≡ NotJson) × (json_of bytes.now ≡ None))) }
 {
     match Value::from_slice(alloc, bytes) {
         Ok(value) => Ok(value),
@@ -79,7 +81,8 @@ pub(crate) fn find_optional_name(
     key: SchemaKey,
     value: &Value,
 ) -> Result<Option<&str>, SchemaFault>
-    ensures ok { IfOk result (λ name. optional_name_at node key (view value.now) ≡ Ok (option_map (λ s. s.now) name)) }
+    ensures ok { IfOk result (λ name.
+        optional_name_at node key (view value.now) ≡ Ok (option_map (λ s. s.now) name)) }
     ensures err { IfErr result (λ fault. optional_name_at node key (view value.now) ≡ Err fault) }
 {
     let Some(found) = value.get(key.text()) else {
@@ -101,7 +104,7 @@ pub(crate) fn read_name(
     value: &Value,
 ) -> Result<Text, SchemaFault>
     ensures ok { IfOk result (λ name. name_at node key (view value.now) ≡ Ok name) }
-    ensures err { IfErr result (λ fault. (fault ≡ NoMemory) ⊎ (name_at node key (view value.now) ≡ Err fault)) }
+    ensures err { IfErr result (λ fault. IsFaultOf (name_at node key (view value.now)) fault) }
 {
     let name = find_name(node, key, value)?;
     Ok(Text::from_str(alloc, name)?)
@@ -136,7 +139,7 @@ pub(crate) fn read_file_name(
     value: &Value,
 ) -> Result<Text, SchemaFault>
     ensures ok { IfOk result (λ name. file_at node key (view value.now) ≡ Ok name) }
-    ensures err { IfErr result (λ fault. (fault ≡ NoMemory) ⊎ (file_at node key (view value.now) ≡ Err fault)) }
+    ensures err { IfErr result (λ fault. IsFaultOf (file_at node key (view value.now)) fault) }
 {
     match find(node, key, value)?.as_str() {
         Some(name) if is_file_name(name) => Ok(Text::from_str(alloc, name)?),
@@ -172,7 +175,8 @@ pub(crate) fn find_list(
     key: SchemaKey,
     value: &Value,
 ) -> Result<&[Value], SchemaFault>
-    ensures ok { IfOk result (λ items. list_at node key (view value.now) ≡ Ok (map view items.now)) }
+    ensures ok { IfOk result (λ items.
+        list_at node key (view value.now) ≡ Ok (map view items.now)) }
     ensures err { IfErr result (λ fault. list_at node key (view value.now) ≡ Err fault) }
 {
     match find(node, key, value)?.as_array() {

@@ -1,10 +1,15 @@
 //! The hierarchies of a dimension, and their levels.
-ghost use Rattle.std.specs.Prelude.{◌≡◌, ◌≤◌, ◌+◌, ◌++◌, ◌∷◌, ◌⊎◌, [], bytes_eq, option_map, unwrap_or, Ok, Err, IfOk, IfErr, OnOk, fold, length, map};
+ghost use Rattle.std.specs.Prelude.{◌≡◌, ◌≤◌, ◌+◌, ◌++◌, ◌∷◌, [], bytes_eq, option_map, unwrap_or, Ok, Err, IfOk, IfErr, OnOk, length, map};
 ghost use Rattle.std.specs.List.{list_any};
+ghost use Rattle.olap_meaning.specs.FullNames.{joined_name};
 ghost use Rattle.olap_meaning.specs.declared.schema.TheConstants.{LEVEL_LIMIT};
 ghost use Rattle.serde_json.specs.View.{view};
-ghost use Rattle.cube_schema.specs.declared.fault.SchemaFault.TheVariants.{OutOfMemory as NoMemory};
-ghost use Rattle.cube_schema.specs.Dimensions.{default_all_member, full_name, has_level, hierarchies_at, hierarchies_from, hierarchy_of, is_taken, level_of, levels_at, levels_from, nothing_taken, taken_with};
+ghost use Rattle.cube_schema.specs.declared.place.SchemaKey.TheVariants.{Hierarchies, Levels};
+ghost use Rattle.cube_schema.specs.declared.place.SchemaNode.TheVariants.{Dimension, Hierarchy, Level};
+ghost use Rattle.cube_schema.specs.Readers.{IsFaultOf};
+ghost use Rattle.cube_schema.specs.Dimensions.{default_all_member, has_level, hierarchy_of, is_taken, level_of, some_beside};
+ghost use Rattle.cube_schema.specs.Lists.{items_at, items_from, some};
+ghost use Rattle.cube_schema.specs.Taken.{IsTakenBy, IsTakenWith};
 
 use crate::fault::SchemaFault;
 use crate::fields::{
@@ -12,7 +17,7 @@ use crate::fields::{
     read_name,
 };
 use crate::place::{SchemaKey, SchemaNode, SchemaPlace};
-use olap_meaning::schema::{LEVEL_LIMIT, SchemaHierarchy, SchemaLevel};
+use olap_meaning::schema::{LEVEL_LIMIT, SchemaDimension, SchemaHierarchy, SchemaLevel};
 use olap_meaning::{List, OutOfMemory, Text};
 use serde_json::Value;
 use std::alloc::Global;
@@ -27,7 +32,7 @@ pub(crate) struct Taken {
 impl Taken {
     /// Nothing. It takes no memory.
     pub(crate) fn new(alloc: Global) -> Taken
-        ensures { result ≡ nothing_taken }
+        ensures { result ≡ record { names = []; levels = 0 } }
     {
         Taken {
             names: List::new(alloc),
@@ -50,7 +55,10 @@ impl Taken {
         hierarchy: &SchemaHierarchy,
     ) -> Result<(), OutOfMemory>
         requires { self.old.levels + length hierarchy.now.levels ≤ LEVEL_LIMIT }
-        ensures { OnOk result (self.new ≡ taken_with dimension_name.now self.old hierarchy.now) }
+        ensures { OnOk result (self.new ≡ record {
+          names = self.old.names ++ joined_name dimension_name.now hierarchy.now.name ∷ [];
+          levels = self.old.levels + length hierarchy.now.levels;
+        }) }
     {
         let name = full_name(alloc, dimension_name, hierarchy.name.as_str())?;
         self.names.push(name)?;
@@ -73,16 +81,25 @@ fn has_level(name: &str, levels: &[SchemaLevel]) -> bool
     levels.iter().any(|level| name == level.name.as_str())
 }
 
+// A level, after earlier ones of its hierarchy.
 #[tactic(auto, unfolding(crate::specs::Dimensions::level_of))]
 fn read_level(
     alloc: Global,
-    node: SchemaNode,
+    dimension: usize,
+    hierarchy: usize,
     earlier: &[SchemaLevel],
     value: &Value,
 ) -> Result<SchemaLevel, SchemaFault>
-    ensures ok { IfOk result (λ level. level_of node earlier.now (view value.now) ≡ Ok level) }
-    ensures err { IfErr result (λ fault. (fault ≡ NoMemory) ⊎ (level_of node earlier.now (view value.now) ≡ Err fault)) }
+    ensures ok { IfOk result (λ level.
+        level_of dimension hierarchy earlier.now (view value.now) ≡ Ok level) }
+    ensures err { IfErr result (λ fault.
+        IsFaultOf (level_of dimension hierarchy earlier.now (view value.now)) fault) }
 {
+    let node = SchemaNode::Level {
+        dimension,
+        hierarchy,
+        level: earlier.len(),
+    };
     check_object(node, value)?;
     let name = find_name(node, SchemaKey::Name, value)?;
     if has_level(name, earlier) {
@@ -99,32 +116,29 @@ fn read_level(
 }
 
 // The levels of a hierarchy, by their items.
-#[tactic(auto, unfolding(crate::specs::Dimensions::levels_from))]
+#[tactic(auto, unfolding(crate::specs::Lists::items_from))]
 fn levels_of(
     alloc: Global,
     dimension: usize,
     hierarchy: usize,
     items: &[Value],
 ) -> Result<List<SchemaLevel>, SchemaFault>
-    ensures ok { IfOk result (λ levels. levels_from dimension hierarchy [] (map view items.now) ≡ Ok levels) }
+    ensures ok { IfOk result (λ levels.
+        items_from (level_of dimension hierarchy) [] (map view items.now) ≡ Ok levels) }
     ensures count { IfOk result (λ levels. length levels ≡ length items.now) }
-    ensures err { IfErr result (λ fault. (fault ≡ NoMemory) ⊎ (levels_from dimension hierarchy [] (map view items.now) ≡ Err fault)) }
+    ensures err { IfErr result (λ fault.
+        IsFaultOf (items_from (level_of dimension hierarchy) [] (map view items.now)) fault) }
 {
     let mut levels = List::new(alloc);
     for item in items {
-        let node = SchemaNode::Level {
-            dimension,
-            hierarchy,
-            level: levels.len(),
-        };
-        let level = read_level(alloc, node, levels.as_slice(), item)?;
+        let level = read_level(alloc, dimension, hierarchy, levels.as_slice(), item)?;
         levels.push(level)?;
     }
     Ok(levels)
 }
 
 // The levels of a hierarchy, where so many were read before it in the whole schema.
-#[tactic(auto, unfolding(crate::specs::Dimensions::levels_at))]
+#[tactic(auto, unfolding(crate::specs::Lists::items_at))]
 fn read_levels(
     alloc: Global,
     dimension: usize,
@@ -133,9 +147,15 @@ fn read_levels(
     value: &Value,
 ) -> Result<List<SchemaLevel>, SchemaFault>
     requires { before ≤ LEVEL_LIMIT }
-    ensures ok { IfOk result (λ levels. levels_at dimension hierarchy before (view value.now) ≡ Ok levels) }
+    ensures ok { IfOk result (λ levels.
+        items_at (Hierarchy dimension hierarchy) Levels
+        (some_beside (Level dimension hierarchy 0) before)
+        (level_of dimension hierarchy) (view value.now) ≡ Ok levels) }
     ensures room { IfOk result (λ levels. before + length levels ≤ LEVEL_LIMIT) }
-    ensures err { IfErr result (λ fault. (fault ≡ NoMemory) ⊎ (levels_at dimension hierarchy before (view value.now) ≡ Err fault)) }
+    ensures err { IfErr result (λ fault. IsFaultOf
+        (items_at (Hierarchy dimension hierarchy) Levels
+        (some_beside (Level dimension hierarchy 0) before)
+        (level_of dimension hierarchy) (view value.now)) fault) }
 {
     let node = SchemaNode::Hierarchy {
         dimension,
@@ -156,9 +176,9 @@ fn read_levels(
 
 // The full name of a hierarchy.
 fn full_name(alloc: Global, dimension: &str, own: &str) -> Result<Text, OutOfMemory>
-    ensures { IfOk result (λ name. name ≡ full_name dimension.now own.now) }
+    ensures { IfOk result (λ name. name ≡ joined_name dimension.now own.now) }
 {
-    if dimension == own {
+    if own == dimension {
         return Text::from_str(alloc, own);
     }
     let name = format!(in alloc; "{dimension}.{own}")?;
@@ -167,7 +187,8 @@ fn full_name(alloc: Global, dimension: &str, own: &str) -> Result<Text, OutOfMem
 
 // The name of the all member, by the hierarchy's name where it has none of its own.
 fn all_member_name(alloc: Global, own: Option<&str>, hierarchy: &str) -> Result<Text, OutOfMemory>
-    ensures { IfOk result (λ name. name ≡ unwrap_or (option_map (λ s. s.now) own.entry) (default_all_member hierarchy.now)) }
+    ensures { IfOk result (λ name.
+        name ≡ unwrap_or (option_map (λ s. s.now) own.entry) (default_all_member hierarchy.now)) }
 {
     if let Some(name) = own {
         return Text::from_str(alloc, name);
@@ -186,21 +207,25 @@ fn name_or<'a>(own: Option<&'a str>, default: &'a str) -> &'a str
     }
 }
 
-// A hierarchy of a dimension, by the places of both.
+// A hierarchy, after earlier ones of the dimension of this name, which follows some dimensions.
 #[tactic(auto, unfolding(crate::specs::Dimensions::hierarchy_of))]
 fn read_hierarchy(
     alloc: Global,
-    dimension: usize,
-    hierarchy: usize,
+    dimensions: &[SchemaDimension],
     dimension_name: &str,
+    earlier: &[SchemaHierarchy],
     taken: &Taken,
     value: &Value,
 ) -> Result<SchemaHierarchy, SchemaFault>
-    requires { taken.now.levels ≤ LEVEL_LIMIT }
-    ensures ok { IfOk result (λ found. hierarchy_of dimension hierarchy dimension_name.now taken.now (view value.now) ≡ Ok found) }
+    requires { IsTakenWith dimensions.now dimension_name.now earlier.now taken.now }
+    ensures ok { IfOk result (λ found.
+        hierarchy_of dimensions.now dimension_name.now earlier.now (view value.now) ≡ Ok found) }
     ensures room { IfOk result (λ found. taken.now.levels + length found.levels ≤ LEVEL_LIMIT) }
-    ensures err { IfErr result (λ fault. (fault ≡ NoMemory) ⊎ (hierarchy_of dimension hierarchy dimension_name.now taken.now (view value.now) ≡ Err fault)) }
+    ensures err { IfErr result (λ fault. IsFaultOf
+        (hierarchy_of dimensions.now dimension_name.now earlier.now (view value.now)) fault) }
 {
+    let dimension = dimensions.len();
+    let hierarchy = earlier.len();
     let node = SchemaNode::Hierarchy {
         dimension,
         hierarchy,
@@ -226,46 +251,61 @@ fn read_hierarchy(
     })
 }
 
-// The hierarchies of a dimension, by their items. They are added to what is taken.
-#[tactic(auto, unfolding(crate::specs::Dimensions::hierarchies_from))]
+// The hierarchies of the dimension of this name, by their items. They are added to what is taken.
+#[tactic(auto, using(crate::proofs::TakenFacts::taken_facts), unfolding(crate::specs::Lists::items_from))]
 fn hierarchies_of(
     alloc: Global,
-    dimension: usize,
+    dimensions: &[SchemaDimension],
     dimension_name: &str,
     taken: &mut Taken,
     items: &[Value],
 ) -> Result<List<SchemaHierarchy>, SchemaFault>
-    requires { taken.old.levels ≤ LEVEL_LIMIT }
-    ensures ok { IfOk result (λ hierarchies. hierarchies_from dimension dimension_name.now taken.old [] (map view items.now) ≡ Ok hierarchies) }
-    ensures taken { IfOk result (λ hierarchies. taken.new ≡ fold (taken_with dimension_name.now) taken.old hierarchies) }
-    ensures room { IfOk result (λ _. taken.new.levels ≤ LEVEL_LIMIT) }
-    ensures err { IfErr result (λ fault. (fault ≡ NoMemory) ⊎ (hierarchies_from dimension dimension_name.now taken.old [] (map view items.now) ≡ Err fault)) }
+    requires { IsTakenBy dimensions.now taken.old }
+    ensures ok { IfOk result (λ hierarchies. items_from
+        (hierarchy_of dimensions.now dimension_name.now) [] (map view items.now) ≡ Ok hierarchies) }
+    ensures taken { IfOk result (λ hierarchies.
+        IsTakenWith dimensions.now dimension_name.now hierarchies taken.new) }
+    ensures err { IfErr result (λ fault. IsFaultOf (items_from
+        (hierarchy_of dimensions.now dimension_name.now) [] (map view items.now)) fault) }
 {
     let mut hierarchies = List::new(alloc);
     for item in items {
-        let place = hierarchies.len();
-        let hierarchy = read_hierarchy(alloc, dimension, place, dimension_name, taken, item)?;
+        let hierarchy = read_hierarchy(
+            alloc,
+            dimensions,
+            dimension_name,
+            hierarchies.as_slice(),
+            taken,
+            item,
+        )?;
         taken.add(alloc, dimension_name, &hierarchy)?;
         hierarchies.push(hierarchy)?;
     }
     Ok(hierarchies)
 }
 
-/// The hierarchies of a dimension, by its place and its name. They are added to what is taken.
-#[tactic(auto, unfolding(crate::specs::Dimensions::hierarchies_at))]
+/// The hierarchies of the dimension of this name, which follows some dimensions. They are added to what is taken.
+#[tactic(auto, unfolding(crate::specs::Lists::items_at))]
 pub(crate) fn read_hierarchies(
     alloc: Global,
-    dimension: usize,
+    dimensions: &[SchemaDimension],
     dimension_name: &str,
     taken: &mut Taken,
     value: &Value,
 ) -> Result<List<SchemaHierarchy>, SchemaFault>
-    requires { taken.old.levels ≤ LEVEL_LIMIT }
-    ensures ok { IfOk result (λ hierarchies. hierarchies_at dimension dimension_name.now taken.old (view value.now) ≡ Ok hierarchies) }
-    ensures taken { IfOk result (λ hierarchies. taken.new ≡ fold (taken_with dimension_name.now) taken.old hierarchies) }
-    ensures room { IfOk result (λ _. taken.new.levels ≤ LEVEL_LIMIT) }
-    ensures err { IfErr result (λ fault. (fault ≡ NoMemory) ⊎ (hierarchies_at dimension dimension_name.now taken.old (view value.now) ≡ Err fault)) }
+    requires { IsTakenBy dimensions.now taken.old }
+    ensures ok { IfOk result (λ hierarchies.
+        items_at (Dimension (length dimensions.now)) Hierarchies
+        (some (Hierarchy (length dimensions.now) 0))
+        (hierarchy_of dimensions.now dimension_name.now) (view value.now) ≡ Ok hierarchies) }
+    ensures taken { IfOk result (λ hierarchies.
+        IsTakenWith dimensions.now dimension_name.now hierarchies taken.new) }
+    ensures err { IfErr result (λ fault. IsFaultOf
+        (items_at (Dimension (length dimensions.now)) Hierarchies
+        (some (Hierarchy (length dimensions.now) 0))
+        (hierarchy_of dimensions.now dimension_name.now) (view value.now)) fault) }
 {
+    let dimension = dimensions.len();
     let node = SchemaNode::Dimension { dimension };
     let items = find_list(node, SchemaKey::Hierarchies, value)?;
     let first = SchemaNode::Hierarchy {
@@ -273,5 +313,5 @@ pub(crate) fn read_hierarchies(
         hierarchy: 0,
     };
     check_filled(first, items)?;
-    hierarchies_of(alloc, dimension, dimension_name, taken, items)
+    hierarchies_of(alloc, dimensions, dimension_name, taken, items)
 }

@@ -1,9 +1,15 @@
 //! A schema from the bytes of its file.
-ghost use Rattle.std.specs.Prelude.{◌≡◌, ◌⊎◌, [], Ok, Err, IfOk, IfErr};
+ghost use Rattle.std.specs.Prelude.{◌≡◌, Ok, Err, IfOk, IfErr};
 ghost use Rattle.olap_meaning.specs.Schema.{IsWithinLimits};
+ghost use Rattle.olap_meaning.specs.declared.schema.TheConstants.{CUBE_LIMIT, DIMENSION_LIMIT};
 ghost use Rattle.serde_json.specs.View.{view};
-ghost use Rattle.cube_schema.specs.declared.fault.SchemaFault.TheVariants.{OutOfMemory as NoMemory};
-ghost use Rattle.cube_schema.specs.Schemas.{aggregates_at, cubes_at, dimensions_at, schema_in, schema_of};
+ghost use Rattle.cube_schema.specs.declared.place.SchemaKey.TheVariants.{Cubes, Dimensions};
+ghost use Rattle.cube_schema.specs.declared.place.SchemaNode.TheVariants as node;
+ghost use Rattle.cube_schema.specs.Cubes.{cube_of};
+ghost use Rattle.cube_schema.specs.Dimensions.{dimension_of};
+ghost use Rattle.cube_schema.specs.Lists.{at_most, items_at, some_at_most};
+ghost use Rattle.cube_schema.specs.Readers.{IsFaultOf};
+ghost use Rattle.cube_schema.specs.Schemas.{aggregates_at, schema_in, schema_of};
 
 use crate::cubes::read_cubes;
 use crate::dimensions::read_dimensions;
@@ -18,10 +24,14 @@ use serde_json::Value;
 use std::alloc::Global;
 
 // The dimensions of a schema.
-#[tactic(auto, unfolding(crate::specs::Schemas::dimensions_at))]
+#[tactic(auto, unfolding(crate::specs::Lists::items_at))]
 fn top_dimensions(alloc: Global, value: &Value) -> Result<List<SchemaDimension>, SchemaFault>
-    ensures ok { IfOk result (λ dimensions. dimensions_at (view value.now) ≡ Ok dimensions) }
-    ensures err { IfErr result (λ fault. (fault ≡ NoMemory) ⊎ (dimensions_at (view value.now) ≡ Err fault)) }
+    ensures ok { IfOk result (λ dimensions.
+        items_at node.Schema Dimensions (at_most DIMENSION_LIMIT) dimension_of (view value.now)
+        ≡ Ok dimensions) }
+    ensures err { IfErr result (λ fault. IsFaultOf
+        (items_at node.Schema Dimensions (at_most DIMENSION_LIMIT) dimension_of (view value.now))
+        fault) }
 {
     let node = SchemaNode::Schema;
     let key = SchemaKey::Dimensions;
@@ -31,14 +41,18 @@ fn top_dimensions(alloc: Global, value: &Value) -> Result<List<SchemaDimension>,
 }
 
 // The cubes of a schema, over its dimensions.
-#[tactic(auto, unfolding(crate::specs::Schemas::cubes_at))]
+#[tactic(auto, unfolding(crate::specs::Lists::items_at))]
 fn top_cubes(
     alloc: Global,
     dimensions: &[SchemaDimension],
     value: &Value,
 ) -> Result<List<SchemaCube>, SchemaFault>
-    ensures ok { IfOk result (λ cubes. cubes_at dimensions.now (view value.now) ≡ Ok cubes) }
-    ensures err { IfErr result (λ fault. (fault ≡ NoMemory) ⊎ (cubes_at dimensions.now (view value.now) ≡ Err fault)) }
+    ensures ok { IfOk result (λ cubes.
+        items_at node.Schema Cubes (some_at_most (node.Cube 0) CUBE_LIMIT) (cube_of dimensions.now)
+        (view value.now) ≡ Ok cubes) }
+    ensures err { IfErr result (λ fault. IsFaultOf
+        (items_at node.Schema Cubes (some_at_most (node.Cube 0) CUBE_LIMIT) (cube_of dimensions.now)
+        (view value.now)) fault) }
 {
     let node = SchemaNode::Schema;
     let key = SchemaKey::Cubes;
@@ -64,7 +78,7 @@ fn top_aggregates(alloc: Global, value: &Value) -> Result<List<SchemaAggregate>,
 #[tactic(auto, unfolding(crate::specs::Schemas::schema_in))]
 fn read_value(alloc: Global, value: &Value) -> Result<Schema, SchemaFault>
     ensures ok { IfOk result (λ schema. schema_in (view value.now) ≡ Ok schema) }
-    ensures err { IfErr result (λ fault. (fault ≡ NoMemory) ⊎ (schema_in (view value.now) ≡ Err fault)) }
+    ensures err { IfErr result (λ fault. IsFaultOf (schema_in (view value.now)) fault) }
 {
     check_object(SchemaNode::Schema, value)?;
     let dimensions = top_dimensions(alloc, value)?;
@@ -81,7 +95,7 @@ fn read_value(alloc: Global, value: &Value) -> Result<Schema, SchemaFault>
 #[tactic(auto, unfolding(crate::specs::Schemas::schema_of))]
 pub fn read_schema(alloc: Global, bytes: &[u8]) -> Result<Schema, SchemaFault>
     ensures ok { IfOk result (λ schema. schema_of bytes.now ≡ Ok schema) }
-    ensures err { IfErr result (λ fault. (fault ≡ NoMemory) ⊎ (schema_of bytes.now ≡ Err fault)) }
+    ensures err { IfErr result (λ fault. IsFaultOf (schema_of bytes.now) fault) }
     ensures limits { IfOk result (λ schema. IsWithinLimits schema) }
 {
     let value = read_json(alloc, bytes)?;

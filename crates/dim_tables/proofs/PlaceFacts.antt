@@ -1,39 +1,17 @@
 -- Where columns stand, and what stands there.
-use Rattle.std.proofs.Common.{◌≡◌, ◌<◌, ◌+◌, ◌∙◌, ℕ, zero, suc, Bool, true, false, List, [], ◌∷◌, ◌++◌, Option, Some, None, map, length, slice_get, get_or, refl, sym, ap, arith, bytes_eq, drop, is_some, ◌==◌, inl, inr, nat_lt, option_map, ◌⊎◌}
-use Rattle.std.proofs.lemmas.List.{drop_more, map-append}
-use Rattle.std.proofs.lemmas.Bool.{cases_Bool, eqb-true}
-use Rattle.std.specs.List.{flat_map, list_all, position_from}
+use Rattle.std.proofs.Common.{◌≡◌, ◌<◌, ◌+◌, ◌∙◌, ℕ, zero, suc, true, false, List, [], ◌∷◌, ◌++◌, Option, Some, None, map, length, slice_get, get_or, refl, sym, ap, arith, drop, inl, inr, nat_lt, option_map, ◌⊎◌}
+use Rattle.std.proofs.lemmas.List.{map-append}
+use Rattle.std.proofs.lemmas.Bool.{cases_Bool}
+use Rattle.std.specs.List.{flat_map}
 use Rattle.std.specs.Option.{option_or}
-use Rattle.std.specs.Str.{is_utf8}
-use Rattle.olap_meaning.specs.Records.{column_place, field_in, is_csv, missing_column}
+use Rattle.csv_records.proofs.PlaceFacts.{item_from, missing_append, place_within}
+use Rattle.olap_meaning.specs.Records.{column_place, missing_column}
 use Rattle.olap_meaning.specs.declared.schema.SchemaHierarchy.{SchemaHierarchy}
 use Rattle.olap_meaning.specs.declared.schema.SchemaLevel.{SchemaLevel}
 use Rattle.dim_tables.specs.declared.fault.TableFault.{TableFault}
 use Rattle.dim_tables.specs.declared.fault.TableFault.TheVariants.{NoColumn, OutOfMemory as NoMemory}
 use Rattle.dim_tables.specs.Bound.{are_within, fields_at}
 use Rattle.dim_tables.specs.TableFiles.{fields_in}
-
--- the list from a place on begins with the item there
-pub item_from : {A : Type 0} (items : List A) (i : ℕ) (item : A) → i < length items → item ≡ get_or items i item → drop i items ≡ item ∷ drop (i + 1) items
-item_from items i item h is = drop_more items i item h ∙ ap (λ first. first ∷ drop (i + 1) items) (sym is)
-
--- a place that is found lies in the list
-found_within : {A : Type 0} (p : A → Bool) (i : ℕ) (xs : List A) (k : ℕ) → position_from p i xs ≡ Some k → k < i + length xs
-found_within p i [] k h = absurd (cc)
-found_within p i (x ∷ xs) k h = elim (cases_Bool (p x)) [
-  | inl passes ↦ let same : i ≡ k = (let found : Some i ≡ Some k = rw passes at h in cc) in omega arith
-  | inr fails ↦ let more = found_within p (i + 1) xs k (rw fails at h) in omega arith
-]
-
-pub place_within : (name : List ℕ) (header : List (List ℕ)) (k : ℕ) → column_place name header ≡ Some k → k < length header
-place_within name header k h = let within = found_within (bytes_eq name) 0 header k h in omega arith
-
--- a record of a CSV file has as many fields as the header, each of them text
-pub csv_parts : (header row : List (List ℕ)) → is_csv header row ≡ true → (length row ≡ length header) × (list_all is_utf8 row ≡ true)
-csv_parts header row h = elim (cases_Bool (length row == length header)) [
-  | inl same ↦ (eqb-true (length row) (length header) same, rw same at h)
-  | inr other ↦ absurd (let none : false ≡ true = rw other at h in cc)
-]
 
 nat_lt-true : (m n : ℕ) → m < n → nat_lt m n ≡ true
 nat_lt-true m n h = grind arith
@@ -60,10 +38,6 @@ fields_there header row (place ∷ places) (column ∷ columns) same =
     let rest : map (λ place. Some place) places ≡ map (λ column. column_place column header) columns = cc in
     rw (← here, fields_there header row places columns rest) refl
 
--- the field at the place of a column is the field in the column
-pub field_there : (header row : List (List ℕ)) (name field : List ℕ) (place : ℕ) → column_place name header ≡ Some place → slice_get row place ≡ Some field → field ≡ field_in header name row
-field_there header row name field place found there = rw (found, there) refl
-
 -- a place of places that are all within
 pub within_at : (places : List ℕ) (row : List (List ℕ)) (i place : ℕ) → are_within places row ≡ true → i < length places → place ≡ get_or places i place → place < length row
 within_at [] row i place within h is = absurd (omega arith)
@@ -80,26 +54,6 @@ within_at (p ∷ ps) row (suc i) place within h is = elim (cases_Bool (nat_lt p 
 pub fields_from : (places : List ℕ) (row : List (List ℕ)) (i place : ℕ) (field : List ℕ) → i < length places → place ≡ get_or places i place → slice_get row place ≡ Some field
     → fields_at (drop i places) row ≡ field ∷ fields_at (drop (i + 1) places) row
 fields_from places row i place field h is there = rw (item_from places i place h is, there) refl
-
--- what is missing from two lists of columns
-pub missing_append : (xs ys header : List (List ℕ)) → missing_column (xs ++ ys) header ≡ option_or (missing_column xs header) (missing_column ys header)
-missing_append [] ys header = refl
-missing_append (x ∷ xs) ys header = elim (cases_Bool (is_some (column_place x header))) [
-  | inl there ↦ rw there (missing_append xs ys header)
-  | inr gone ↦ rw gone refl
-]
-
--- each item of a list passes a test that all pass
-pub all_at : {A : Type 0} (p : A → Bool) (xs : List A) (i : ℕ) (x : A) → list_all p xs ≡ true → slice_get xs i ≡ Some x → p x ≡ true
-all_at p [] i x all there = absurd (cc)
-all_at p (y ∷ ys) zero x all there = elim (cases_Bool (p y)) [
-  | inl passes ↦ let same : y ≡ x = cc in rw (← same) passes
-  | inr fails ↦ absurd (let none : false ≡ true = rw fails at all in cc)
-]
-all_at p (y ∷ ys) (suc i) x all there = elim (cases_Bool (p y)) [
-  | inl passes ↦ all_at p ys i x (rw passes at all) there
-  | inr fails ↦ absurd (let none : false ≡ true = rw fails at all in cc)
-]
 
 -- as many places as items
 pub as_many : {A : Type 0} (places : List ℕ) (items : List A) (g : A → Option ℕ) → map (λ place. Some place) places ≡ map g items → length places ≡ length items

@@ -11,9 +11,11 @@ pub record Bound : Type 0 where
   pub header : List (List ℕ)
 
 -- the places are those of the dimension's columns in the header
-pub record ArePlaced (dimension : SchemaDimension) (header : List (List ℕ)) (key : ℕ) (fields : List ℕ) : Type 0 where
+pub record ArePlaced (dimension : SchemaDimension) (header : List (List ℕ)) (key : ℕ)
+    (fields : List ℕ) : Type 0 where
   pub key_found : column_place dimension.primary_key header ≡ Some key
-  pub fields_found : map (λ place. Some place) fields ≡ map (λ column. column_place column header) (level_columns dimension)
+  pub fields_found : map (λ place. Some place) fields
+      ≡ map (λ column. column_place column header) (level_columns dimension)
   pub few : length fields ≤ LEVEL_LIMIT
 
 -- the places are those of fields of a row

@@ -1,5 +1,5 @@
 //! A dimension over the header of its table's file: where its columns stand, and what it takes from a record.
-ghost use Rattle.std.specs.Prelude.{◌≡◌, ◌⊎◌, ◌<◌, ◌≤◌, ◌++◌, Some, None, true, length, map, option_map, slice_get, IfOk, IfErr, OnOk};
+ghost use Rattle.std.specs.Prelude.{◌≡◌, ◌⊎◌, ◌<◌, ◌≤◌, ◌++◌, Some, None, true, length, map, option_map, IfOk, IfErr, OnOk};
 ghost use Rattle.std.specs.List.{flat_map, list_all, list_any};
 ghost use Rattle.std.specs.Str.{is_utf8};
 ghost use Rattle.olap_meaning.specs.Records.{column_place, field_in, is_csv, is_null, missing_column};
@@ -14,7 +14,6 @@ use olap_meaning::schema::{LEVEL_LIMIT, SchemaDimension, SchemaHierarchy, Schema
 use olap_meaning::{List, OutOfMemory, Text};
 use std::alloc::Global;
 use std::marker::Model;
-use std::str;
 
 /// A dimension over the header of its table's file.
 #[derive(Drop)]
@@ -43,9 +42,11 @@ impl<'a> BoundDimension<'a> {
         header: Record,
     ) -> Result<BoundDimension<'a>, TableFault>
         requires { length (levels_of dimension.now) ≤ LEVEL_LIMIT }
-        ensures bound { IfOk result (λ b. b ≡ record { dimension = dimension.entry.now; header = header }) }
+        ensures bound { IfOk result (λ b.
+            b ≡ record { dimension = dimension.entry.now; header = header }) }
         ensures sound { IfOk result (λ _. header_fault dimension.entry.now header ≡ None) }
-        ensures fault { IfErr result (λ e. (e ≡ TableFault.OutOfMemory) ⊎ (header_fault dimension.entry.now header ≡ Some e)) }
+        ensures fault { IfErr result (λ e.
+            (e ≡ TableFault.OutOfMemory) ⊎ (header_fault dimension.entry.now header ≡ Some e)) }
     {
         if !header.is_csv(&header) {
             return Err(TableFault::NotCsv { row: 0 });
@@ -79,15 +80,17 @@ impl<'a> BoundDimension<'a> {
     /// The primary key in a record.
     pub(crate) fn key<'r>(&self, row: &'r Record) -> &'r str
         requires { is_csv self.now.header row.now ≡ true }
-        ensures { result.now ≡ field_in self.now.header self.now.dimension.primary_key row.entry.now }
+        ensures { result.now
+            ≡ field_in self.now.header self.now.dimension.primary_key row.entry.now }
     {
-        text_at(row, self.key)
+        row.text(self.key)
     }
 
     /// Whether the field of a level is empty in a record.
     pub(crate) fn has_empty_field(&self, row: &Record) -> bool
         requires { is_csv self.now.header row.now ≡ true }
-        ensures { result ≡ list_any is_null (fields_in self.now.header (level_columns self.now.dimension) row.now) }
+        ensures { result ≡ list_any is_null
+            (fields_in self.now.header (level_columns self.now.dimension) row.now) }
     {
         has_empty(row, self.fields.as_slice())
     }
@@ -95,7 +98,8 @@ impl<'a> BoundDimension<'a> {
     /// The fields of the levels in a record.
     pub(crate) fn fields(&self, alloc: Global, row: &Record) -> Result<List<Text>, OutOfMemory>
         requires { is_csv self.now.header row.now ≡ true }
-        ensures { IfOk result (λ fields. fields ≡ fields_in self.now.header (level_columns self.now.dimension) row.now) }
+        ensures { IfOk result (λ fields.
+            fields ≡ fields_in self.now.header (level_columns self.now.dimension) row.now) }
     {
         texts_at(alloc, row, self.fields.as_slice())
     }
@@ -107,9 +111,19 @@ fn place_fields(
     header: &Record,
     hierarchies: &[SchemaHierarchy],
 ) -> Result<Vec<usize>, TableFault>
-    ensures placed { IfOk result (λ places. map (λ place. Some place) places.items ≡ map (λ level. column_place level.column header.now) (flat_map (λ hierarchy. hierarchy.levels) hierarchies.now)) }
-    ensures all_there { IfOk result (λ _. missing_column (map (λ level. level.column) (flat_map (λ hierarchy. hierarchy.levels) hierarchies.now)) header.now ≡ None) }
-    ensures fault { IfErr result (λ e. (e ≡ TableFault.OutOfMemory) ⊎ (option_map NoColumn (missing_column (map (λ level. level.column) (flat_map (λ hierarchy. hierarchy.levels) hierarchies.now)) header.now) ≡ Some e)) }
+    ensures placed { IfOk result (λ places.
+        map (λ place. Some place) places.items ≡ map
+        (λ level. column_place level.column header.now)
+        (flat_map (λ hierarchy. hierarchy.levels) hierarchies.now)) }
+    ensures all_there { IfOk result (λ _.
+        missing_column
+        (map (λ level. level.column) (flat_map (λ hierarchy. hierarchy.levels) hierarchies.now))
+        header.now ≡ None) }
+    ensures fault { IfErr result (λ e.
+        (e ≡ TableFault.OutOfMemory)
+        ⊎ (option_map NoColumn (missing_column
+        (map (λ level. level.column) (flat_map (λ hierarchy. hierarchy.levels) hierarchies.now))
+        header.now) ≡ Some e)) }
 {
     let mut places = Vec::new(alloc);
     for hierarchy in hierarchies {
@@ -125,9 +139,15 @@ fn place_levels(
     levels: &[SchemaLevel],
     places: &mut Vec<usize>,
 ) -> Result<(), TableFault>
-    ensures placed { OnOk result (map (λ place. Some place) places.new.items ≡ map (λ place. Some place) places.old.items ++ map (λ level. column_place level.column header.now) levels.now) }
-    ensures all_there { OnOk result (missing_column (map (λ level. level.column) levels.now) header.now ≡ None) }
-    ensures fault { IfErr result (λ e. (e ≡ TableFault.OutOfMemory) ⊎ (option_map NoColumn (missing_column (map (λ level. level.column) levels.now) header.now) ≡ Some e)) }
+    ensures placed { OnOk result
+        (map (λ place. Some place) places.new.items ≡ map (λ place. Some place) places.old.items
+        ++ map (λ level. column_place level.column header.now) levels.now) }
+    ensures all_there { OnOk result
+        (missing_column (map (λ level. level.column) levels.now) header.now ≡ None) }
+    ensures fault { IfErr result (λ e.
+        (e ≡ TableFault.OutOfMemory)
+        ⊎ (option_map NoColumn (missing_column (map (λ level. level.column) levels.now)
+        header.now) ≡ Some e)) }
 {
     for level in levels {
         let name = level.column.as_str();
@@ -137,18 +157,6 @@ fn place_levels(
         places.push(place)?;
     }
     Ok(())
-}
-
-// The field at a place, as text.
-fn text_at(row: &Record, place: usize) -> &str
-    requires within { place < length row.now }
-    requires text { list_all is_utf8 row.now ≡ true }
-    ensures { slice_get row.entry.now place ≡ Some result.now }
-{
-    match str::from_utf8(row.field(place)) {
-        Ok(text) => text,
-        Err(_) => unreachable!(),
-    }
 }
 
 // Whether a field at one of the places is empty.
@@ -172,7 +180,7 @@ fn texts_at(alloc: Global, row: &Record, places: &[usize]) -> Result<List<Text>,
 {
     let mut texts = List::new(alloc);
     for place in places {
-        texts.push(Text::from_str(alloc, text_at(row, *place))?)?;
+        texts.push(Text::from_str(alloc, row.text(*place))?)?;
     }
     Ok(texts)
 }

@@ -4,41 +4,32 @@ ghost use Rattle.dim_tables.specs.declared.fault.TableFault.TheVariants.{OutOfMe
 
 use olap_meaning::{OutOfMemory, Text};
 use std::alloc::{AllocFailed, Global};
-use std::fmt;
+use thiserror::Error;
 
 /// Why a file is no table of its dimension. Records are numbered from 1, and the header has the number 0.
-#[derive(Debug, Drop)]
+#[derive(Debug, Drop, Error)]
 pub enum TableFault {
     /// The record has another number of fields than the header, or a field that is not UTF-8.
+    #[error("record {row} is no record of the header's")]
     NotCsv { row: u64 },
     /// The header has no column of this name. Of several it is the first: the primary key's, then the levels'.
+    #[error("no column {name}")]
     NoColumn { name: Text },
     /// An earlier record has this record's key.
+    #[error("record {row} has the key of an earlier one")]
     KeyTwice { row: u64 },
     /// The record's field of a level is empty.
+    #[error("record {row} has an empty name")]
     EmptyName { row: u64 },
     /// There are more records than a dimension may have.
+    #[error("more than {limit} records")]
     TooManyRows { limit: u32 },
     /// There is no record, and a hierarchy that has no all member either would have no member.
+    #[error("a hierarchy has no member")]
     NoMember,
+    #[error("out of memory")]
     OutOfMemory,
 }
-
-impl fmt::Display for TableFault {
-    fn fmt<W: fmt::Write>(&self, f: &mut fmt::Formatter<W>) -> fmt::Result {
-        match self {
-            TableFault::NotCsv { row } => write!(f, "record {row} is no record of the header's"),
-            TableFault::NoColumn { name } => write!(f, "no column {name}"),
-            TableFault::KeyTwice { row } => write!(f, "record {row} has the key of an earlier one"),
-            TableFault::EmptyName { row } => write!(f, "record {row} has an empty name"),
-            TableFault::TooManyRows { limit } => write!(f, "more than {limit} records"),
-            TableFault::NoMember => write!(f, "a hierarchy has no member"),
-            TableFault::OutOfMemory => write!(f, "out of memory"),
-        }
-    }
-}
-
-impl std::error::Error for TableFault {}
 
 impl From<OutOfMemory> for TableFault {
     ghost from_gives = { λ _ e. e ≡ NoMemory };

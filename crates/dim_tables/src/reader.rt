@@ -5,8 +5,8 @@ ghost use Rattle.dim_tables.specs.TableFiles.{have_all, record_of, records_with,
 
 use crate::bound::BoundDimension;
 use crate::fault::TableFault;
+use catalog_tables::Table;
 use csv_records::{Record, Rows};
-use olap_catalog::Table;
 use olap_meaning::schema::{LEVEL_LIMIT, RECORD_LIMIT, Schema, SchemaDimension};
 use std::alloc::Global;
 
@@ -20,9 +20,15 @@ pub fn read_table(
 ) -> Result<Table, TableFault>
     requires known { dimension < length schema.now.dimensions }
     requires limits { IsWithinLimits schema.now }
-    ensures ok { IfOk result (λ table. IsSomeAnd (slice_get schema.now.dimensions dimension) (λ d. table_of d bytes.now ≡ Ok table.records)) }
-    ensures levels { IfOk result (λ table. IsSomeAnd (slice_get schema.now.dimensions dimension) (λ d. table.levels ≡ length (levels_of d))) }
-    ensures err { IfErr result (λ fault. (fault ≡ TableFault.OutOfMemory) ⊎ IsSomeAnd (slice_get schema.now.dimensions dimension) (λ d. table_of d bytes.now ≡ Err fault)) }
+    ensures ok { IfOk result (λ table.
+        IsSomeAnd (slice_get schema.now.dimensions dimension)
+        (λ d. table_of d bytes.now ≡ Ok table.records)) }
+    ensures levels { IfOk result (λ table.
+        IsSomeAnd (slice_get schema.now.dimensions dimension)
+        (λ d. table.levels ≡ length (levels_of d))) }
+    ensures err { IfErr result (λ fault.
+        (fault ≡ TableFault.OutOfMemory) ⊎ IsSomeAnd (slice_get schema.now.dimensions dimension)
+        (λ d. table_of d bytes.now ≡ Err fault)) }
 {
     let dimension = &schema.dimensions.as_slice()[dimension as usize];
     read_dimension(alloc, dimension, bytes)
@@ -37,7 +43,8 @@ fn read_dimension(
     requires { length (levels_of dimension.now) ≤ LEVEL_LIMIT }
     ensures ok { IfOk result (λ table. table_of dimension.now bytes.now ≡ Ok table.records) }
     ensures levels { IfOk result (λ table. table.levels ≡ length (levels_of dimension.now)) }
-    ensures err { IfErr result (λ fault. (fault ≡ TableFault.OutOfMemory) ⊎ (table_of dimension.now bytes.now ≡ Err fault)) }
+    ensures err { IfErr result (λ fault.
+        (fault ≡ TableFault.OutOfMemory) ⊎ (table_of dimension.now bytes.now ≡ Err fault)) }
 {
     let mut rows = Rows::new(alloc, bytes);
     let mut header = Record::new(alloc);
@@ -59,9 +66,12 @@ fn read_rows(
     bound: &BoundDimension<'_>,
     rows: &mut Rows<'_>,
 ) -> Result<Table, TableFault>
-    ensures ok { IfOk result (λ table. records_with bound.now.dimension bound.now.header [] rows.old ≡ Ok table.records) }
+    ensures ok { IfOk result (λ table.
+        records_with bound.now.dimension bound.now.header [] rows.old ≡ Ok table.records) }
     ensures levels { IfOk result (λ table. table.levels ≡ length (levels_of bound.now.dimension)) }
-    ensures err { IfErr result (λ fault. (fault ≡ TableFault.OutOfMemory) ⊎ (records_with bound.now.dimension bound.now.header [] rows.old ≡ Err fault)) }
+    ensures err { IfErr result (λ fault.
+        (fault ≡ TableFault.OutOfMemory)
+        ⊎ (records_with bound.now.dimension bound.now.header [] rows.old ≡ Err fault)) }
 {
     let mut table = Table::new(alloc, bound.width());
     let mut row = Record::new(alloc);
@@ -79,9 +89,16 @@ fn add_row(
     row: &Record,
 ) -> Result<(), TableFault>
     requires { table.old.levels ≡ length (levels_of bound.now.dimension) }
-    ensures sound { OnOk result (row_fault bound.now.dimension bound.now.header table.old.records row.now ≡ None) }
-    ensures ok { OnOk result (table.new ≡ record table.old { records = table.old.records ++ record_of bound.now.dimension bound.now.header row.now ∷ [] }) }
-    ensures err { IfErr result (λ fault. (fault ≡ TableFault.OutOfMemory) ⊎ (row_fault bound.now.dimension bound.now.header table.old.records row.now ≡ Some fault)) }
+    ensures sound { OnOk result
+        (row_fault bound.now.dimension bound.now.header table.old.records row.now ≡ None) }
+    ensures ok { OnOk result
+        (table.new ≡ record table.old {
+          records = table.old.records ++ record_of
+              bound.now.dimension bound.now.header row.now ∷ [];
+        }) }
+    ensures err { IfErr result (λ fault.
+        (fault ≡ TableFault.OutOfMemory)
+        ⊎ (row_fault bound.now.dimension bound.now.header table.old.records row.now ≡ Some fault)) }
 {
     let n = u64::from(table.len()) + 1;
     if !bound.is_csv(row) {

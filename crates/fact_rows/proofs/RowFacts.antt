@@ -1,7 +1,7 @@
 -- What the rows of a batch say.
 use Rattle.std.proofs.Common.{◌≡◌, ◌<◌, ◌+◌, ◌∙◌, ◌||◌, ◌&&◌, ◌==◌, ℕ, zero, suc, Bool, true, false, List, [], ◌∷◌, Option, Some, None, map, length, slice_get, refl, ap, arith, is_some, nat_lt, cond, drop, get_or, inl, inr, ◌⊎◌, bytes_eq}
 use Rattle.std.specs.List.{cons_option, list_all, zip}
-use Rattle.olap_catalog.proofs.FieldFacts.{position_within}
+use Rattle.catalog_tables.proofs.FieldFacts.{position_within}
 use Rattle.olap_meaning.specs.declared.schema.SchemaUse.{SchemaUse}
 use Rattle.olap_meaning.specs.declared.tables.Catalog.{Catalog}
 use Rattle.olap_meaning.specs.Catalog.{fact_columns, find_leaf, records}
@@ -13,7 +13,7 @@ use Rattle.fact_rows.specs.declared.columns.KeyColumn.{KeyColumn}
 use Rattle.fact_rows.specs.declared.columns.NumberColumn.{NumberColumn}
 use Rattle.fact_rows.specs.declared.fault.BatchFault.{BatchFault}
 use Rattle.fact_rows.specs.declared.fault.BatchFault.TheVariants.{NotNumber, UnknownKey, OutOfMemory as NoMemory}
-use Rattle.fact_rows.proofs.PlaceFacts.{item_from}
+use Rattle.csv_records.proofs.PlaceFacts.{item_from}
 
 pub mapped_length : {A B : Type 0} (f : A → B) (xs : List A) → length (map f xs) ≡ length xs
 mapped_length f [] = refl

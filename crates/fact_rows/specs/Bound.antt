@@ -17,14 +17,18 @@ key_pair key = (key.name, key.dimension)
 
 -- keys stand where their columns do in the header
 abbrev pub AreKeysPlaced : List (List ℕ) → List KeyColumn → Type 0
-AreKeysPlaced header keys = map (λ key. column_place key.name header) keys ≡ map (λ key. Some key.place) keys
+AreKeysPlaced header keys =
+    map (λ key. column_place key.name header) keys ≡ map (λ key. Some key.place) keys
 
 -- numbers stand where their columns do in the header
 abbrev pub AreNumbersPlaced : List (List ℕ) → List NumberColumn → Type 0
-AreNumbersPlaced header numbers = map (λ column. column_place column.name header) numbers ≡ map (λ column. Some column.place) numbers
+AreNumbersPlaced header numbers =
+    map (λ column. column_place column.name header) numbers
+    ≡ map (λ column. Some column.place) numbers
 
 -- the columns are those of the cube, each with its place in the header
-pub record ArePlaced (catalog : Catalog) (cube : ℕ) (header : List (List ℕ)) (keys : List KeyColumn) (numbers : List NumberColumn) : Type 0 where
+pub record ArePlaced (catalog : Catalog) (cube : ℕ) (header : List (List ℕ)) (keys : List KeyColumn)
+    (numbers : List NumberColumn) : Type 0 where
   pub known : cube < length catalog.cubes
   pub paired : HasDimensions catalog cube
   pub keys_named : map key_pair keys ≡ foreign_keys catalog cube

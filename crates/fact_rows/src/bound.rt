@@ -1,5 +1,5 @@
 //! A cube over the header of a batch's file: where its columns stand, and what it takes from a record.
-ghost use Rattle.std.specs.Prelude.{◌≡◌, ◌⊎◌, ◌<◌, ◌||◌, if◌then◌else◌, is_some, [], None, Some, true, length, slice_get, IfOk, IfErr, OnOk};
+ghost use Rattle.std.specs.Prelude.{◌≡◌, ◌⊎◌, ◌<◌, ◌||◌, if◌then◌else◌, is_some, [], None, Some, true, length, IfOk, IfErr, OnOk};
 ghost use Rattle.std.specs.List.{list_all};
 ghost use Rattle.std.specs.Str.{is_utf8};
 ghost use Rattle.olap_meaning.specs.Legal.{is_row};
@@ -9,13 +9,12 @@ ghost use Rattle.fact_rows.specs.BatchFiles.{HasDimensions, dimensions_of, forei
 use crate::columns::{KeyColumn, NumberColumn, place_keys, place_numbers};
 use crate::fault::BatchFault;
 use csv_records::{Record, number};
-use fact_batches::Batch;
+use fact_versions::Batch;
 use olap_catalog::Catalog;
 use olap_meaning::schema::SchemaUse;
 use olap_meaning::{CubeId, LeafId, OutOfMemory};
 use std::alloc::Global;
 use std::marker::Model;
-use std::str;
 
 /// A cube over the header of a batch's file.
 #[derive(Drop)]
@@ -47,9 +46,11 @@ impl<'a> BoundCube<'a> {
     ) -> Result<BoundCube<'a>, BatchFault>
         requires known { cube < length catalog.now.cubes }
         requires paired { HasDimensions catalog.now cube }
-        ensures bound { IfOk result (λ b. b ≡ record { catalog = catalog.entry.now; cube = cube; header = header }) }
+        ensures bound { IfOk result (λ b.
+            b ≡ record { catalog = catalog.entry.now; cube = cube; header = header }) }
         ensures sound { IfOk result (λ _. header_fault catalog.entry.now cube header ≡ None) }
-        ensures fault { IfErr result (λ e. (e ≡ BatchFault.OutOfMemory) ⊎ (header_fault catalog.entry.now cube header ≡ Some e)) }
+        ensures fault { IfErr result (λ e.
+            (e ≡ BatchFault.OutOfMemory) ⊎ (header_fault catalog.entry.now cube header ≡ Some e)) }
     {
         if !header.is_csv(&header) {
             return Err(BatchFault::NotCsv { row: 0 });
@@ -99,18 +100,25 @@ impl<'a> BoundCube<'a> {
         leaves: &mut Vec<LeafId>,
     ) -> Result<(), BatchFault>
         requires { is_csv self.now.header row.now ≡ true }
-        ensures sound { OnOk result (key_fault self.now.catalog self.now.header n row.now (foreign_keys self.now.catalog self.now.cube) ≡ None) }
-        ensures each { OnOk result (length leaves.new.items ≡ length (dimensions_of self.now.catalog self.now.cube)) }
-        ensures fit { OnOk result (is_row self.now.catalog self.now.cube (row_of self.now.catalog self.now.cube self.now.header row.now) ≡ true) }
-        ensures ok { OnOk result (leaves.new.items ≡ leaves_in self.now.catalog self.now.header row.now (foreign_keys self.now.catalog self.now.cube)) }
-        ensures err { IfErr result (λ e. (e ≡ BatchFault.OutOfMemory) ⊎ (key_fault self.now.catalog self.now.header n row.now (foreign_keys self.now.catalog self.now.cube) ≡ Some e)) }
+        ensures sound { OnOk result
+            (key_fault self.now.catalog self.now.header n row.now
+            (foreign_keys self.now.catalog self.now.cube) ≡ None) }
+        ensures each { OnOk result
+            (length leaves.new.items ≡ length (dimensions_of self.now.catalog self.now.cube)) }
+        ensures fit { OnOk result
+            (is_row self.now.catalog self.now.cube
+            (row_of self.now.catalog self.now.cube self.now.header row.now) ≡ true) }
+        ensures ok { OnOk result
+            (leaves.new.items ≡ leaves_in self.now.catalog self.now.header row.now
+            (foreign_keys self.now.catalog self.now.cube)) }
+        ensures err { IfErr result (λ e.
+            (e ≡ BatchFault.OutOfMemory)
+            ⊎ (key_fault self.now.catalog self.now.header n row.now
+            (foreign_keys self.now.catalog self.now.cube) ≡ Some e)) }
     {
         leaves.clear();
         for key in self.keys.as_slice() {
-            let Some(leaf) = self
-                .catalog
-                .find_leaf(key.dimension, text_at(row, key.place))
-            else {
+            let Some(leaf) = self.catalog.find_leaf(key.dimension, row.text(key.place)) else {
                 return Err(BatchFault::unknown_key(n, &key.name));
             };
             leaves.push(leaf)?;
@@ -126,9 +134,16 @@ impl<'a> BoundCube<'a> {
         numbers: &mut Vec<Option<i64>>,
     ) -> Result<(), BatchFault>
         requires { is_csv self.now.header row.now ≡ true }
-        ensures sound { OnOk result (number_fault self.now.header n row.now (number_columns self.now.catalog self.now.cube) ≡ None) }
-        ensures ok { OnOk result (numbers.new.items ≡ numbers_in self.now.header row.now (number_columns self.now.catalog self.now.cube)) }
-        ensures err { IfErr result (λ e. (e ≡ BatchFault.OutOfMemory) ⊎ (number_fault self.now.header n row.now (number_columns self.now.catalog self.now.cube) ≡ Some e)) }
+        ensures sound { OnOk result
+            (number_fault self.now.header n row.now
+            (number_columns self.now.catalog self.now.cube) ≡ None) }
+        ensures ok { OnOk result
+            (numbers.new.items ≡ numbers_in self.now.header row.now
+            (number_columns self.now.catalog self.now.cube)) }
+        ensures err { IfErr result (λ e.
+            (e ≡ BatchFault.OutOfMemory)
+            ⊎ (number_fault self.now.header n row.now
+            (number_columns self.now.catalog self.now.cube) ≡ Some e)) }
     {
         numbers.clear();
         for column in self.numbers.as_slice() {
@@ -163,7 +178,9 @@ fn count_of(columns: usize) -> Result<u32, OutOfMemory>
 
 // The value of a field: NULL where it is empty. There is none where it is neither empty nor a number.
 fn value_of(field: &[u8]) -> Option<Option<i64>>
-    ensures { result ≡ (if is_null field.now || is_some (number field.now) then Some (number field.now) else None) }
+    ensures { result ≡ (if is_null field.now || is_some (number field.now)
+        then Some (number field.now)
+        else None) }
 {
     if field.is_empty() {
         return Some(None);
@@ -171,17 +188,5 @@ fn value_of(field: &[u8]) -> Option<Option<i64>>
     match number(field) {
         Some(value) => Some(Some(value)),
         None => None,
-    }
-}
-
-// The field at a place, as text.
-fn text_at(row: &Record, place: usize) -> &str
-    requires within { place < length row.now }
-    requires text { list_all is_utf8 row.now ≡ true }
-    ensures { slice_get row.entry.now place ≡ Some result.now }
-{
-    match str::from_utf8(row.field(place)) {
-        Ok(text) => text,
-        Err(_) => unreachable!(),
     }
 }

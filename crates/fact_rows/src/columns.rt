@@ -37,10 +37,15 @@ pub(crate) fn place_keys(
     dimensions: &[u32],
 ) -> Result<Vec<KeyColumn>, BatchFault>
     requires { length uses.now ≡ length dimensions.now }
-    ensures named { IfOk result (λ keys. map key_pair keys.items ≡ zip (map (λ used. used.foreign_key) uses.now) dimensions.now) }
+    ensures named { IfOk result (λ keys.
+        map key_pair keys.items ≡ zip (map (λ used. used.foreign_key) uses.now) dimensions.now) }
     ensures placed { IfOk result (λ keys. AreKeysPlaced header.now keys.items) }
-    ensures all_there { IfOk result (λ _. missing_column (map (λ used. used.foreign_key) uses.now) header.now ≡ None) }
-    ensures fault { IfErr result (λ e. (e ≡ BatchFault.OutOfMemory) ⊎ (option_map NoColumn (missing_column (map (λ used. used.foreign_key) uses.now) header.now) ≡ Some e)) }
+    ensures all_there { IfOk result (λ _.
+        missing_column (map (λ used. used.foreign_key) uses.now) header.now ≡ None) }
+    ensures fault { IfErr result (λ e.
+        (e ≡ BatchFault.OutOfMemory)
+        ⊎ (option_map NoColumn (missing_column (map (λ used. used.foreign_key) uses.now)
+        header.now) ≡ Some e)) }
 {
     let mut keys = Vec::new(alloc);
     for (i, used) in uses.iter().enumerate() {
@@ -62,10 +67,16 @@ pub(crate) fn place_numbers(
     header: &Record,
     measures: &[Measure],
 ) -> Result<Vec<NumberColumn>, BatchFault>
-    ensures named { IfOk result (λ numbers. map (λ column. column.name) numbers.items ≡ first_appearances (map (λ measure. measure.column) measures.now)) }
+    ensures named { IfOk result (λ numbers.
+        map (λ column. column.name) numbers.items ≡ first_appearances
+        (map (λ measure. measure.column) measures.now)) }
     ensures placed { IfOk result (λ numbers. AreNumbersPlaced header.now numbers.items) }
-    ensures all_there { IfOk result (λ _. missing_column (map (λ measure. measure.column) measures.now) header.now ≡ None) }
-    ensures fault { IfErr result (λ e. (e ≡ BatchFault.OutOfMemory) ⊎ (option_map NoColumn (missing_column (map (λ measure. measure.column) measures.now) header.now) ≡ Some e)) }
+    ensures all_there { IfOk result (λ _.
+        missing_column (map (λ measure. measure.column) measures.now) header.now ≡ None) }
+    ensures fault { IfErr result (λ e.
+        (e ≡ BatchFault.OutOfMemory)
+        ⊎ (option_map NoColumn (missing_column (map (λ measure. measure.column) measures.now)
+        header.now) ≡ Some e)) }
 {
     let mut numbers = Vec::new(alloc);
     for measure in measures {

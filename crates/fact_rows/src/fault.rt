@@ -4,39 +4,26 @@ ghost use Rattle.fact_rows.specs.declared.fault.BatchFault.TheVariants.{OutOfMem
 
 use olap_meaning::{OutOfMemory, Text};
 use std::alloc::{AllocFailed, Global};
-use std::fmt;
+use thiserror::Error;
 
 /// Why a file is no batch of its cube. Records are numbered from 1, and the header has the number 0.
-#[derive(Debug, Drop)]
+#[derive(Debug, Drop, Error)]
 pub enum BatchFault {
     /// The record has another number of fields than the header, or a field that is not UTF-8.
+    #[error("record {row} is no record of the header's")]
     NotCsv { row: u64 },
     /// The header has no column of this name. Of several it is the first: the foreign keys', then the measures'.
+    #[error("no column {name}")]
     NoColumn { name: Text },
     /// The record's field in the column of a foreign key is no key of its dimension's table.
+    #[error("record {row} has an unknown key in column {column}")]
     UnknownKey { row: u64, column: Text },
     /// The record's field in the column of a measure is neither empty nor a number.
+    #[error("record {row} has no number in column {column}")]
     NotNumber { row: u64, column: Text },
+    #[error("out of memory")]
     OutOfMemory,
 }
-
-impl fmt::Display for BatchFault {
-    fn fmt<W: fmt::Write>(&self, f: &mut fmt::Formatter<W>) -> fmt::Result {
-        match self {
-            BatchFault::NotCsv { row } => write!(f, "record {row} is no record of the header's"),
-            BatchFault::NoColumn { name } => write!(f, "no column {name}"),
-            BatchFault::UnknownKey { row, column } => {
-                write!(f, "record {row} has an unknown key in column {column}")
-            }
-            BatchFault::NotNumber { row, column } => {
-                write!(f, "record {row} has no number in column {column}")
-            }
-            BatchFault::OutOfMemory => write!(f, "out of memory"),
-        }
-    }
-}
-
-impl std::error::Error for BatchFault {}
 
 impl From<OutOfMemory> for BatchFault {
     ghost from_gives = { λ _ e. e ≡ NoMemory };
@@ -67,7 +54,8 @@ impl BatchFault {
 
     /// The fault of a record whose field in this column is no key.
     pub(crate) fn unknown_key(row: u64, column: &Text) -> BatchFault
-        ensures { (result ≡ BatchFault.UnknownKey row column.now) ⊎ (result ≡ BatchFault.OutOfMemory) }
+        ensures { (result ≡ BatchFault.UnknownKey row column.now)
+            ⊎ (result ≡ BatchFault.OutOfMemory) }
     {
         match column.copy() {
             Ok(column) => BatchFault::UnknownKey { row, column },
@@ -77,7 +65,8 @@ impl BatchFault {
 
     /// The fault of a record whose field in this column is neither empty nor a number.
     pub(crate) fn not_number(row: u64, column: &Text) -> BatchFault
-        ensures { (result ≡ BatchFault.NotNumber row column.now) ⊎ (result ≡ BatchFault.OutOfMemory) }
+        ensures { (result ≡ BatchFault.NotNumber row column.now)
+            ⊎ (result ≡ BatchFault.OutOfMemory) }
     {
         match column.copy() {
             Ok(column) => BatchFault::NotNumber { row, column },

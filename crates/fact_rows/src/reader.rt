@@ -8,7 +8,7 @@ ghost use Rattle.fact_rows.specs.BatchFiles.{HasDimensions, batch_of, dimensions
 use crate::bound::BoundCube;
 use crate::fault::BatchFault;
 use csv_records::{Record, Rows};
-use fact_batches::Batch;
+use fact_versions::Batch;
 use olap_catalog::Catalog;
 use olap_meaning::{CubeId, LeafId, OutOfMemory};
 use std::alloc::Global;
@@ -25,7 +25,8 @@ pub fn read_batch(
     requires paired { HasDimensions catalog.now cube }
     ensures ok { IfOk result (λ batch. batch_of catalog.now cube bytes.now ≡ Ok batch) }
     ensures fit { IfOk result (λ batch. list_all (is_row catalog.now cube) batch.rows ≡ true) }
-    ensures err { IfErr result (λ fault. (fault ≡ BatchFault.OutOfMemory) ⊎ (batch_of catalog.now cube bytes.now ≡ Err fault)) }
+    ensures err { IfErr result (λ fault.
+        (fault ≡ BatchFault.OutOfMemory) ⊎ (batch_of catalog.now cube bytes.now ≡ Err fault)) }
 {
     let mut rows = Rows::new(alloc, bytes);
     let mut header = Record::new(alloc);
@@ -40,9 +41,11 @@ pub fn read_batch(
 fn read_no_row(alloc: Global, catalog: &Catalog, cube: CubeId) -> Result<Batch, BatchFault>
     requires known { cube < length catalog.now.cubes }
     requires paired { HasDimensions catalog.now cube }
-    ensures ok { IfOk result (λ batch. (header_fault catalog.now cube [] ≡ None) × (of_cube catalog.now cube (Ok []) ≡ Ok batch)) }
+    ensures ok { IfOk result (λ batch.
+        (header_fault catalog.now cube [] ≡ None) × (of_cube catalog.now cube (Ok []) ≡ Ok batch)) }
     ensures none { IfOk result (λ batch. batch.rows ≡ []) }
-    ensures err { IfErr result (λ fault. (fault ≡ BatchFault.OutOfMemory) ⊎ (header_fault catalog.now cube [] ≡ Some fault)) }
+    ensures err { IfErr result (λ fault.
+        (fault ≡ BatchFault.OutOfMemory) ⊎ (header_fault catalog.now cube [] ≡ Some fault)) }
 {
     let bound = BoundCube::bind(alloc, catalog, cube, Record::new(alloc))?;
     Ok(bound.empty_batch(alloc)?)
@@ -55,9 +58,14 @@ fn read_rows(
     rows: &mut Rows<'_>,
     most: usize,
 ) -> Result<Batch, BatchFault>
-    ensures ok { IfOk result (λ batch. of_cube bound.now.catalog bound.now.cube (rows_with bound.now.catalog bound.now.cube bound.now.header [] rows.old) ≡ Ok batch) }
-    ensures fit { IfOk result (λ batch. list_all (is_row bound.now.catalog bound.now.cube) batch.rows ≡ true) }
-    ensures err { IfErr result (λ fault. (fault ≡ BatchFault.OutOfMemory) ⊎ (rows_with bound.now.catalog bound.now.cube bound.now.header [] rows.old ≡ Err fault)) }
+    ensures ok { IfOk result (λ batch.
+        of_cube bound.now.catalog bound.now.cube
+        (rows_with bound.now.catalog bound.now.cube bound.now.header [] rows.old) ≡ Ok batch) }
+    ensures fit { IfOk result (λ batch.
+        list_all (is_row bound.now.catalog bound.now.cube) batch.rows ≡ true) }
+    ensures err { IfErr result (λ fault.
+        (fault ≡ BatchFault.OutOfMemory)
+        ⊎ (rows_with bound.now.catalog bound.now.cube bound.now.header [] rows.old ≡ Err fault)) }
 {
     let mut batch = bound.empty_batch(alloc)?;
     batch.reserve(most)?;
@@ -78,12 +86,25 @@ fn add_row(
     leaves: &mut Vec<LeafId>,
     numbers: &mut Vec<Option<i64>>,
 ) -> Result<(), BatchFault>
-    requires dimensions { batch.old.dimensions ≡ length (dimensions_of bound.now.catalog bound.now.cube) }
-    requires columns { batch.old.columns ≡ length (number_columns bound.now.catalog bound.now.cube) }
-    ensures sound { OnOk result (row_fault bound.now.catalog bound.now.cube bound.now.header (suc (length batch.old.rows)) row.now ≡ None) }
-    ensures ok { OnOk result (batch.new ≡ record batch.old { rows = batch.old.rows ++ row_of bound.now.catalog bound.now.cube bound.now.header row.now ∷ [] }) }
-    ensures fit { OnOk result (is_row bound.now.catalog bound.now.cube (row_of bound.now.catalog bound.now.cube bound.now.header row.now) ≡ true) }
-    ensures err { IfErr result (λ fault. (fault ≡ BatchFault.OutOfMemory) ⊎ (row_fault bound.now.catalog bound.now.cube bound.now.header (suc (length batch.old.rows)) row.now ≡ Some fault)) }
+    requires dimensions { batch.old.dimensions
+        ≡ length (dimensions_of bound.now.catalog bound.now.cube) }
+    requires columns { batch.old.columns
+        ≡ length (number_columns bound.now.catalog bound.now.cube) }
+    ensures sound { OnOk result
+        (row_fault bound.now.catalog bound.now.cube bound.now.header (suc (length batch.old.rows))
+        row.now ≡ None) }
+    ensures ok { OnOk result
+        (batch.new ≡ record batch.old {
+          rows = batch.old.rows ++ row_of bound.now.catalog
+              bound.now.cube bound.now.header row.now ∷ [];
+        }) }
+    ensures fit { OnOk result
+        (is_row bound.now.catalog bound.now.cube
+        (row_of bound.now.catalog bound.now.cube bound.now.header row.now) ≡ true) }
+    ensures err { IfErr result (λ fault.
+        (fault ≡ BatchFault.OutOfMemory)
+        ⊎ (row_fault bound.now.catalog bound.now.cube bound.now.header
+        (suc (length batch.old.rows)) row.now ≡ Some fault)) }
 {
     let n = batch.len() + 1;
     if !bound.is_csv(row) {

@@ -1,7 +1,7 @@
 -- The first of some batches, one after another.
 use Rattle.std.proofs.Common.{◌≡◌, ◌<◌, ◌≤◌, ◌+◌, ℕ, zero, suc, List, [], ◌∷◌, ◌++◌, map, length, take, get_or, refl, ap, arith}
 use Rattle.std.proofs.lemmas.List.Sums.{sum_by-append, sum_by-take-le}
-use Rattle.fact_batches.specs.FactRows.{FactRows}
+use Rattle.fact_versions.specs.FactRows.{FactRows}
 use Rattle.fact_versions.specs.Facts.{rows_of_batches}
 
 -- one more of the first

@@ -1,7 +1,7 @@
 -- Facts that have grown by a batch, for who appends more than one.
 use Rattle.std.proofs.Common.{◌≡◌, ◌<◌, ◌≢◌, ℕ, [], ◌∷◌, ◌++◌, All, length, length-set, get_or-set_same, get_or-set_other}
 use Rattle.std.proofs.lemmas.List.Elements.{All-append, All-cons, All-nil}
-use Rattle.fact_batches.specs.FactRows.{FactRows}
+use Rattle.fact_versions.specs.FactRows.{FactRows}
 use Rattle.fact_versions.specs.Facts.{FactsOf, batches_of, with_batch}
 
 pub length-cubes : (facts : FactsOf) (cube : ℕ) (batch : FactRows) → length (with_batch facts cube batch).cubes ≡ length facts.cubes

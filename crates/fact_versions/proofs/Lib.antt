@@ -1,2 +1,4 @@
+pub mod ColumnFacts
+pub mod RowFacts
 pub mod BatchFacts
 pub mod Grown

@@ -1,7 +1,7 @@
 -- What facts and snapshots keep beside their batches.
 use Rattle.std.specs.Prelude.{◌≡◌, ◌≤◌, ℕ, All, List, length, sum_by}
 use Rattle.olap_meaning.specs.declared.TheConstants.{ROW_LIMIT, VERSION_LIMIT}
-use Rattle.fact_batches.specs.FactRows.{FactRows}
+use Rattle.fact_versions.specs.FactRows.{FactRows}
 use Rattle.fact_versions.specs.Facts.{rows_of_batches}
 
 -- the number of rows over all cubes, within its limit, and no cube has more versions than it may

@@ -1,2 +1,4 @@
+pub mod FactRows
+pub mod Columns
 pub mod Facts
 pub mod Kept

@@ -2,7 +2,7 @@
 ghost use Rattle.std.specs.Prelude.{◌≡◌, ◌<◌, ◌≤◌, ◌^◌, [], ◌∷◌, ◌++◌, Some, IfOk, OnOk, OnErr, length, slice_get, take};
 ghost use Rattle.fact_versions.specs.Facts.{rows_of_batches};
 
-use fact_batches::Batch;
+use crate::batch::Batch;
 use olap_meaning::OutOfMemory;
 use std::alloc::Global;
 use std::marker::Model;
@@ -16,7 +16,7 @@ pub(crate) struct Batches {
 
 impl Model for Batches {
     ghost use Rattle.std.specs.Prelude.{List, map};
-    ghost use Rattle.fact_batches.specs.FactRows.{FactRows};
+    ghost use Rattle.fact_versions.specs.FactRows.{FactRows};
 
     ghost Value = { List FactRows };
 

@@ -1,11 +1,11 @@
 //! The batches of all cubes.
 ghost use Rattle.std.specs.Prelude.{◌≡◌, ◌⊎◌, ◌<◌, ◌≤◌, [], All, None, Some, IfErr, IfOk, OnErr, OnOk, length, replicate, take};
-ghost use Rattle.fact_versions.specs.Facts.{IsAlike, append_fault, batches_of, with_batch};
+ghost use Rattle.fact_versions.specs.Facts.{IsAlike, append_fault, arrival, batches_of, with_batch};
 
+use crate::batch::Batch;
 use crate::batches::Batches;
 use crate::faults::AppendFault;
 use crate::snapshot::Snapshot;
-use fact_batches::Batch;
 use olap_meaning::{CubeId, OutOfMemory, ROW_LIMIT, VERSION_LIMIT, Version};
 use std::alloc::Global;
 use std::marker::Model;
@@ -35,7 +35,8 @@ impl Facts {
     /// So many cubes at version 0, and how many rows there may be over all of them.
     pub fn new(alloc: Global, cubes: u32, row_limit: u32) -> Result<Facts, OutOfMemory>
         requires { row_limit ≤ ROW_LIMIT }
-        ensures { IfOk result (λ facts. facts ≡ record { limit = row_limit; cubes = replicate cubes [] }) }
+        ensures { IfOk result
+            (λ facts. facts ≡ record { limit = row_limit; cubes = replicate cubes [] }) }
     {
         Ok(Facts {
             alloc,
@@ -49,10 +50,11 @@ impl Facts {
     pub fn append(&mut self, cube: CubeId, batch: Arc<Batch>) -> Result<Version, AppendFault>
         requires known { cube < length self.old.cubes }
         requires alike { All (IsAlike batch.value) (batches_of self.old cube) }
-        ensures admitted { OnOk result (append_fault self.old cube batch.value ≡ None) }
+        ensures admitted { OnOk result (append_fault (arrival self.old cube batch.value) ≡ None) }
         ensures appended { OnOk result (self.new ≡ with_batch self.old cube batch.value) }
         ensures version { IfOk result (λ version. version ≡ length (batches_of self.new cube)) }
-        ensures fault { IfErr result (λ fault. (fault ≡ AppendFault.OutOfMemory) ⊎ (append_fault self.old cube batch.value ≡ Some fault)) }
+        ensures fault { IfErr result (λ fault. (fault ≡ AppendFault.OutOfMemory)
+            ⊎ (append_fault (arrival self.old cube batch.value) ≡ Some fault)) }
         ensures unchanged { OnErr result (self.new ≡ self.old) }
     {
         let total = u64::from(self.held) + batch.len();

@@ -3,7 +3,8 @@ ghost use Rattle.std.specs.Prelude.{◌≡◌, ◌+◌, ◌<◌, ◌≤◌, Some
 ghost use Rattle.fact_versions.specs.Facts.{rows_of_batches};
 
 use crate::batches::Batches;
-use fact_batches::{Piece, Steps};
+use crate::piece::Piece;
+use crate::steps::Steps;
 use olap_meaning::{ROW_LIMIT, VERSION_LIMIT, Version};
 use std::marker::Model;
 use std::sync::ledger::Ledger;
@@ -17,7 +18,7 @@ pub struct Snapshot {
 
 impl Model for Snapshot {
     ghost use Rattle.std.specs.Prelude.{List};
-    ghost use Rattle.fact_batches.specs.FactRows.{FactRows};
+    ghost use Rattle.fact_versions.specs.FactRows.{FactRows};
     ghost use Rattle.fact_versions.specs.Kept.{IsSnapshot};
 
     ghost Value = { List FactRows };

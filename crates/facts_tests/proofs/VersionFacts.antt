@@ -2,7 +2,7 @@
 use Rattle.std.proofs.Common.{◌≡◌, ◌∙◌, ◌+◌, ℕ, List, Some, All, length, take, slice_get, arith}
 use Rattle.std.proofs.lemmas.List.Sums.{sum_by_more}
 use Rattle.std.proofs.lemmas.Option.{get_or_from_slice_get, slice_get_within}
-use Rattle.fact_batches.specs.FactRows.{FactRows}
+use Rattle.fact_versions.specs.FactRows.{FactRows}
 use Rattle.fact_versions.specs.Facts.{FactsOf, batches_of, rows_of_batches, with_batch}
 use Rattle.fact_versions.proofs.Grown.{All-with_batch, length-cubes}
 

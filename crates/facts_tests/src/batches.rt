@@ -1,7 +1,7 @@
 //! Batches of two dimensions and one fact column.
 ghost use Rattle.std.specs.Prelude.{◌≡◌, ◌+◌, IfOk, OnOk, length};
 
-use fact_batches::{Batch, Piece, Steps};
+use fact_versions::{Batch, Piece, Steps};
 use olap_meaning::{LeafId, OutOfMemory};
 use std::alloc::Global;
 use std::marker::Brand;

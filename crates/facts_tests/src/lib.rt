@@ -1,9 +1,20 @@
-//! Tests of batches and of the versions of cubes. They stand apart, since a crate with tests is proved twice.
+//! Tests of batches, of the versions of cubes, and of segments and their loads. They stand apart, since a crate with tests
+//! is proved twice.
 #![tactic(auto)]
 
 #[cfg(test)]
 mod batches;
 #[cfg(test)]
+mod bodies;
+#[cfg(test)]
 mod faults;
+#[cfg(test)]
+mod files;
+#[cfg(test)]
+mod headers;
+#[cfg(test)]
+mod loads;
+#[cfg(test)]
+mod parts;
 #[cfg(test)]
 mod versions;

@@ -3,8 +3,7 @@ ghost use Rattle.std.specs.Prelude.{◌≡◌, ◌+◌, All, IfOk, OnOk, length}
 ghost use Rattle.fact_versions.specs.Facts.{IsAlike, batches_of, rows_of_batches};
 
 use crate::batches::{Line, batch_of, no_memory, read_lines};
-use fact_batches::{Batch, Steps};
-use fact_versions::{AppendFault, Facts, Snapshot};
+use fact_versions::{AppendFault, Batch, Facts, Snapshot, Steps};
 use olap_meaning::{CubeId, OutOfMemory, VERSION_LIMIT, Version};
 use std::alloc::Global;
 use std::marker::Brand;

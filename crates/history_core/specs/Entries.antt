@@ -6,7 +6,8 @@ use Rattle.olap_meaning.specs.History.{Entry, Append, Start, Done, Drop, Answer}
 -- what an event says: its rows are those of its batch
 abbrev pub entry_of : Event → Entry
 entry_of (event.Append who cube version batch) = Append who cube version batch.value.rows
-entry_of (event.Start who header version reason) = Start (record { who = who; header = header; version = version; reason = reason })
+entry_of (event.Start who header version reason) =
+    Start (record { who = who; header = header; version = version; reason = reason })
 entry_of (event.Done who load) = Done who load
 entry_of (event.Drop who load) = Drop who load
 entry_of (event.Answer who cells) = Answer who cells

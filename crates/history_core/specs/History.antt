@@ -12,4 +12,5 @@ pub record HistoryOf : Type 0 where
 
 -- the setting of a catalog, a limit of rows and a budget of groups
 abbrev pub setting_of : Catalog → ℕ → ℕ → Setting
-setting_of catalog row_limit budget = record { catalog = catalog; row_limit = row_limit; budget = budget }
+setting_of catalog row_limit budget =
+    record { catalog = catalog; row_limit = row_limit; budget = budget }

@@ -4,32 +4,42 @@ use Rattle.olap_meaning.specs.declared.cells.Who.{Who}
 use Rattle.olap_meaning.specs.declared.cells.CellSource.{CellSource}
 use Rattle.olap_meaning.specs.History.{Entry, Answer, entry_at, version, floor}
 use Rattle.olap_meaning.specs.Legal.{caller}
-use Rattle.olap_meaning.specs.Laws.{IsServed}
+use Rattle.olap_meaning.specs.Laws.{IsServedInVersion}
 use Rattle.olap_meaning.specs.Worth.{value, answered_version, worth}
 use Rattle.history_core.specs.History.{HistoryOf}
 
--- each cell of an answer has a version, no older than the cell's floor and no newer than the cube's version at the answer
+-- each cell of an answer has a version, no older than the cell's floor and no newer than the cube's version at the
+-- answer
 abbrev pub HasFreshAnswers : HistoryOf → Type 0
 HasFreshAnswers history =
-    (p : ℕ) (who : Who) (cells : List CellSource) → entry_at history.entries p ≡ Some (Answer who cells)
+    (p : ℕ) (who : Who) (cells : List CellSource)
+    → entry_at history.entries p ≡ Some (Answer who cells)
     → (answered : CellSource) → Contains cells answered
     → (v : ℕ) × (answered_version (take p history.entries) answered ≡ Some v)
-    × (floor (take p history.entries) answered.cell ≤ v) × (v ≤ version (take p history.entries) answered.cell.cube)
+    × (floor (take p history.entries) answered.cell ≤ v)
+    × (v ≤ version (take p history.entries) answered.cell.cube)
 
--- each cell of an answer is worth the aggregate over the rows of one recorded version, in which its live loads serve it
+-- each cell of an answer is worth the aggregate over the rows of one recorded version, in which its live loads serve
+-- it
 abbrev pub HasServedAnswers : HistoryOf → Type 0
 HasServedAnswers history =
-    (p : ℕ) (who : Who) (cells : List CellSource) → entry_at history.entries p ≡ Some (Answer who cells)
+    (p : ℕ) (who : Who) (cells : List CellSource)
+    → entry_at history.entries p ≡ Some (Answer who cells)
     → (answered : CellSource) → Contains cells answered
-    → (v : ℕ) × IsServed (take p history.entries) answered v
-    × (worth history.setting.catalog (take p history.entries) answered ≡ Some (value history.setting.catalog (take p history.entries) answered.cell v))
+    → (v : ℕ) × IsServedInVersion (take p history.entries) answered v
+    × (worth history.setting.catalog (take p history.entries) answered
+    ≡ Some (value history.setting.catalog (take p history.entries) answered.cell v))
 
 -- the version of a cube only rises
 abbrev pub HasRisingVersions : HistoryOf → Type 0
-HasRisingVersions history = (cube m n : ℕ) → m ≤ n → version (take m history.entries) cube ≤ version (take n history.entries) cube
+HasRisingVersions history =
+    (cube m n : ℕ) → m ≤ n
+    → version (take m history.entries) cube ≤ version (take n history.entries) cube
 
 -- the call numbers of a seat rise
 abbrev pub HasRisingCalls : HistoryOf → Type 0
 HasRisingCalls history =
-    (p q : ℕ) (earlier later : Entry) (first second : Who) → p < q → entry_at history.entries p ≡ Some earlier → entry_at history.entries q ≡ Some later
-    → caller earlier ≡ Some first → caller later ≡ Some second → first.seat ≡ second.seat → first.call < second.call
+    (p q : ℕ) (earlier later : Entry) (first second : Who) → p < q
+    → entry_at history.entries p ≡ Some earlier → entry_at history.entries q ≡ Some later
+    → caller earlier ≡ Some first → caller later ≡ Some second → first.seat ≡ second.seat
+    → first.call < second.call

@@ -1,5 +1,5 @@
 //! Entries of a history.
-use fact_batches::Batch;
+use fact_versions::Batch;
 use olap_meaning::{Cell, CellSource, CubeId, Header, List, Version, Who};
 use std::sync::Arc;
 

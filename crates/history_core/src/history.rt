@@ -1,6 +1,5 @@
 //! Histories that are legal by their type.
 ghost use Rattle.std.specs.Prelude.{◌≡◌, ◌≤◌, ◌<◌, ◌+◌, ◌++◌, ◌∷◌, ◌==◌, [], length, option_map, option_copied, OnOk, OnErr};
-ghost use Rattle.std.specs.Vec.{vec_len, vec_capacity};
 ghost use Rattle.olap_meaning.specs.History.{entry_at};
 ghost use Rattle.olap_meaning.specs.Legal.{Legal, LegalStep};
 ghost use Rattle.history_core.specs.Entries.{entry_of};
@@ -41,7 +40,12 @@ impl Model for History {
 impl History {
     /// The history of a cache that begins. It takes no memory.
     pub fn new(alloc: Global, catalog: Arc<Catalog>, row_limit: u32, budget: u64) -> History
-        ensures { result ≡ record { setting = setting_of catalog.value row_limit budget; entries = []; spare = 0 } }
+        ensures { result
+            ≡ record {
+              setting = setting_of catalog.value row_limit budget;
+              entries = [];
+              spare = 0;
+            } }
     {
         History {
             catalog,
@@ -72,7 +76,7 @@ impl History {
         ensures entries { self.new.entries ≡ self.old.entries ++ entry_of entry ∷ [] }
         ensures spare { self.new.spare + 1 ≡ self.old.spare }
     {
-        add(&mut self.entries, entry);
+        self.entries.push_reserved(entry);
     }
 
     /// How many entries there are.
@@ -119,7 +123,7 @@ impl History {
     }
 
     /// Each entry is a legal step after those before it. This costs nothing, as the laws below.
-    pub fn is_legal(&self)
+    pub fn steps_are_legal(&self)
         ensures { Legal self.now.setting self.now.entries }
     {
         let _ = &self.entries;
@@ -129,7 +133,7 @@ impl History {
     pub fn answers_are_fresh(&self)
         ensures { HasFreshAnswers self.now }
     {
-        self.is_legal();
+        self.steps_are_legal();
         laws::answers_are_fresh();
     }
 
@@ -137,7 +141,7 @@ impl History {
     pub fn answers_are_served(&self)
         ensures { HasServedAnswers self.now }
     {
-        self.is_legal();
+        self.steps_are_legal();
         laws::answers_are_served();
     }
 
@@ -152,17 +156,7 @@ impl History {
     pub fn calls_rise(&self)
         ensures { HasRisingCalls self.now }
     {
-        self.is_legal();
+        self.steps_are_legal();
         laws::calls_rise();
     }
-}
-
-// Adds an entry where there is room. By `insert` and not by `push`, which does not say that the room stays.
-fn add(entries: &mut Vec<Entry>, entry: Entry)
-    requires { vec_len entries.old < vec_capacity entries.old }
-    ensures items { entries.new.items ≡ entries.old.items ++ entry ∷ [] }
-    ensures len { vec_len entries.new ≡ vec_len entries.old + 1 }
-    ensures capacity { vec_capacity entries.new ≡ vec_capacity entries.old }
-{
-    entries.insert(entries.len(), entry).unwrap();
 }

@@ -1,10 +1,15 @@
-//! The history that the manager of the cache keeps: its events in order, each a legal step after those before it.
+//! The history that the manager of the cache keeps: its events in order, each a legal step after those before it; and
+//! what calls on a cache answer.
 #![tactic(auto)]
 
+mod answers;
+mod cells;
 mod entry;
 mod history;
 mod shared;
 
+pub use answers::{Answer, Answered, Appended};
+pub use cells::is_cell;
 pub use entry::Entry;
 pub use history::History;
 pub use olap_meaning::CellSource;

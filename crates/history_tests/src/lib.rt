@@ -1,6 +1,8 @@
-//! Tests of the plain definitions: small histories worked by hand, and legal and other steps among them. They stand
-//! apart, since a crate with tests is proved twice.
+//! Tests of histories, as the manager keeps them and as the plain bodies see them. They stand apart, since a crate with
+//! tests is proved twice.
 #![tactic(auto)]
 
 #[cfg(test)]
-mod small;
+mod histories;
+#[cfg(test)]
+mod plain;

@@ -1,2 +1,5 @@
 pub mod LineLemmas
+pub mod Fronts
+pub mod Tells
 pub mod Taking
+pub mod Words

@@ -1,12 +1,12 @@
 -- How bytes come from a source behind those that are held.
-use Rattle.std.proofs.Common.{◌≡◌, ℕ, ◌+◌, ◌≤◌, List, ◌++◌, length, take, drop, refl, arith, ap, sym, ◌∙◌, append_assoc}
-use Rattle.std.specs.Prelude.{Result, Ok, Err, OnErr, Option, Some, None, option_map, slice_range}
+use Rattle.std.proofs.Common.{◌≡◌, ℕ, ◌+◌, ◌≤◌, List, ◌++◌, length, take, drop, refl, arith, ap, sym, subst, ◌∙◌, append_assoc}
+use Rattle.std.specs.Prelude.{Result, Ok, Err, OnErr, Option, Some, None, slice_range}
 use Rattle.std.proofs.lemmas.List.{take_at, length-take, drop-append-le, drop-drop}
 use Rattle.std.proofs.Math.Seq.{take-add}
 use Rattle.std.proofs.lemmas.Slice.{between_is}
 use Rattle.outside.specs.Told.{TakenOff}
-use Rattle.olap_meaning.specs.Lines.{front_of}
-use Rattle.input_lines.specs.Reader.{HasTaken, not_given, front_told}
+use Rattle.olap_meaning.specs.Lines.{Begins}
+use Rattle.input_lines.specs.Reader.{HasTaken, TellsFront, not_given, front_told}
 use Rattle.input_lines.specs.declared.next.Next.{Next}
 
 -- some bytes, and then others
@@ -44,15 +44,15 @@ HasTaken-read before after xs ys i j n order within same taken = record {
 }
 
 -- what is told of the bytes that are held holds of all that were not given
-pub told-from : (before after : Option (List ℕ)) (held all new line : List ℕ) (next : Next) → HasTaken before after held all → ((rest : List ℕ) → after ≡ Some rest → front_of (all ++ rest) ≡ front_told next line (new ++ rest)) → option_map front_of (not_given held before) ≡ option_map (front_told next line) (not_given new after)
-told-from before None held all new line next has told = let e = has.taken in cc
-told-from before (Some rest) held all new line next has told =
-    let e = has.taken in
-    let f = told rest refl in
-    let h = has.behind in
-    let k = append_assoc held has.bytes rest in
-    let left : before ≡ Some (has.bytes ++ rest) = e in
-    rw left (ap Some (ap front_of (sym (ap (λ (zs : List ℕ). zs ++ rest) h ∙ k)) ∙ f))
+pub told-from : (before after : Option (List ℕ)) (held all new line : List ℕ) (next : Next) → HasTaken before after held all → ((rest : List ℕ) → after ≡ Some rest → Begins (all ++ rest) (front_told next line (new ++ rest)))
+    → TellsFront (not_given held before) next line (not_given new after)
+told-from None None held all new line next has told = tt
+told-from (Some bytes) None held all new line next has told = absurd (cc (has.taken))
+told-from None (Some rest) held all new line next has told = absurd (cc (has.taken))
+told-from (Some bytes) (Some rest) held all new line next has told =
+    let left : bytes ≡ has.bytes ++ rest = cc (has.taken) in
+    let whole : held ++ bytes ≡ all ++ rest = ap (λ (zs : List ℕ). held ++ zs) left ∙ sym (append_assoc held has.bytes rest) ∙ ap (λ (zs : List ℕ). zs ++ rest) (sym has.behind) in
+    subst (λ (zs : List ℕ). Begins zs (front_told next line (new ++ rest))) (sym whole) (told rest refl)
 
 -- a slice written back into the list that it was lent from
 pub written_back : (n : ℕ) (new old : List ℕ) → length new ≡ n → take n (new ++ drop (length new) old) ≡ new

@@ -1,12 +1,16 @@
-//! An input, line by line.
+//! An input, line by line, and what each line asks for.
 //!
 //! A line ends at an LF. A CR just before the LF is not part of it, but counts for its length. Bytes behind the last LF
-//! are a line too. The definitions stand in `specs/Lines.antt`, over whole inputs; the reader here tells the same lines
-//! however its source cuts the input into pieces.
+//! are a line too. The definitions stand in `Lines` and `Requests` of `olap_meaning`, over whole inputs and whole lines;
+//! the reader here tells the same lines however its source cuts the input into pieces.
 #![tactic(auto)]
 
+mod argument;
+pub mod laws;
 mod next;
 mod reader;
+mod request;
 
 pub use next::Next;
 pub use reader::{BUFFER_SIZE, LINE_LIMIT, LineReader};
+pub use request::{Request, read_request};

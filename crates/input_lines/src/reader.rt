@@ -1,8 +1,8 @@
 //! A reader of lines.
-ghost use Rattle.std.specs.Prelude.{◌≡◌, ◌≢◌, ◌+◌, ◌<◌, ◌≤◌, ◌++◌, ℕ, List, [], IfOk, OnOk, OnErr, IfSome, Err, Ok, All, length, take, drop, slice_range, option_map};
+ghost use Rattle.std.specs.Prelude.{◌≡◌, ◌≢◌, ◌+◌, ◌<◌, ◌≤◌, ◌++◌, ℕ, List, [], IfOk, OnOk, OnErr, IfSome, Err, Ok, length, take, drop, slice_range};
 ghost use Rattle.outside.specs.Told.{TakenOff};
-ghost use Rattle.olap_meaning.specs.Lines.{front_of, lines_of, onto_lines, line_length, without_cr};
-ghost use Rattle.input_lines.specs.Reader.{not_given, front_told, HasTaken, NeedsNoMore, Shows, IsFound};
+ghost use Rattle.olap_meaning.specs.Lines.{Begins, HasNoLf};
+ghost use Rattle.input_lines.specs.Reader.{not_given, front_told, line_length, without_cr, HasTaken, NeedsNoMore, Shows, IsFound, TellsFront};
 
 use crate::next::{Found, Next};
 use memchr::memchr;
@@ -57,7 +57,8 @@ fn make_room(bytes: &mut Vec<u8>, start: usize, end: usize) -> (usize, usize)
     ensures len { bytes.new.len ≡ bytes.old.len }
     ensures order { result.0 ≤ result.1 }
     ensures room { result.1 ≤ LINE_LIMIT }
-    ensures same { slice_range bytes.new.items result.0 result.1 ≡ slice_range bytes.old.items start end }
+    ensures same { slice_range bytes.new.items result.0 result.1
+        ≡ slice_range bytes.old.items start end }
 {
     if end <= LINE_LIMIT {
         return (start, end);
@@ -72,7 +73,8 @@ fn read_to<S: Source>(source: &mut S, bytes: &mut [u8], place: usize) -> Result<
     ensures size { length bytes.new ≡ length bytes.old }
     ensures before { take place bytes.new ≡ take place bytes.old }
     ensures within { IfOk result (λ n. place + n ≤ length bytes.old) }
-    ensures taken { IfOk result (λ n. TakenOff (S.left source.old) (S.left source.new) (take n (drop place bytes.new))) }
+    ensures taken { IfOk result
+        (λ n. TakenOff (S.left source.old) (S.left source.new) (take n (drop place bytes.new))) }
     ensures end { IfOk result (λ n. n ≡ 0 → IfSome (S.left source.new) (λ left. left ≡ [])) }
     ensures untaken { OnErr result (S.left source.new ≡ S.left source.old) }
     ensures count { S.faults source.old ≤ S.faults source.new }
@@ -93,10 +95,14 @@ fn read_behind<S: Source>(
     ensures len { bytes.new.len ≡ bytes.old.len }
     ensures order { IfOk result (λ new_end. end ≤ new_end) }
     ensures within { IfOk result (λ new_end. new_end ≤ bytes.old.len) }
-    ensures taken { IfOk result (λ new_end. HasTaken (S.left source.old) (S.left source.new) (slice_range bytes.old.items start end) (slice_range bytes.new.items start new_end)) }
+    ensures taken { IfOk result
+        (λ new_end. HasTaken (S.left source.old) (S.left source.new)
+        (slice_range bytes.old.items start end) (slice_range bytes.new.items start new_end)) }
     ensures untaken { OnErr result (S.left source.new ≡ S.left source.old) }
-    ensures kept { OnErr result (slice_range bytes.new.items start end ≡ slice_range bytes.old.items start end) }
-    ensures end { IfOk result (λ new_end. new_end ≡ end → IfSome (S.left source.new) (λ left. left ≡ [])) }
+    ensures kept { OnErr result
+        (slice_range bytes.new.items start end ≡ slice_range bytes.old.items start end) }
+    ensures end { IfOk result
+        (λ new_end. new_end ≡ end → IfSome (S.left source.new) (λ left. left ≡ [])) }
     ensures count { S.faults source.old ≤ S.faults source.new }
     ensures cause { OnErr result (S.faults source.old < S.faults source.new) }
 {
@@ -183,7 +189,8 @@ impl LineReader {
     // Takes more bytes of the source, and gives their number: 0 only at its end.
     fn fill<S: Source>(&mut self, source: &mut S) -> Result<usize, Failed>
         requires { length self.old.held ≤ LINE_LIMIT }
-        ensures taken { HasTaken (S.left source.old) (S.left source.new) self.old.held self.new.held }
+        ensures taken { HasTaken (S.left source.old)
+            (S.left source.new) self.old.held self.new.held }
         ensures kept { OnErr result (self.new.held ≡ self.old.held) }
         ensures number { IfOk result (λ n. length self.new.held ≡ length self.old.held + n) }
         ensures end { IfOk result (λ n. n ≡ 0 → IfSome (S.left source.new) (λ left. left ≡ [])) }
@@ -204,8 +211,10 @@ impl LineReader {
     fn find<S: Source>(&mut self, source: &mut S) -> Result<Found, Failed>
         requires { self.old.line ≡ [] }
         ensures found { IfOk result (λ found. IsFound found self.new.held) }
-        ensures end { IfOk result (λ found. found ≡ Found.Neither → IfSome (S.left source.new) (λ left. left ≡ [])) }
-        ensures taken { HasTaken (S.left source.old) (S.left source.new) self.old.held self.new.held }
+        ensures end { IfOk result
+            (λ found. found ≡ Found.Neither → IfSome (S.left source.new) (λ left. left ≡ [])) }
+        ensures taken { HasTaken (S.left source.old)
+            (S.left source.new) self.old.held self.new.held }
         ensures unasked { NeedsNoMore self.old.held → source.new ≡ source.old }
         ensures unready { OnErr result (¬ NeedsNoMore self.new.held) }
         ensures line { self.new.line ≡ [] }
@@ -251,11 +260,13 @@ impl LineReader {
     fn give(&mut self, found: Found) -> Next
         requires found { IsFound found self.old.held }
         requires line { self.old.line ≡ [] }
-        ensures told { (rest : List ℕ) → (found ≡ Found.Neither → rest ≡ []) → front_of (self.old.held ++ rest) ≡ front_told result self.new.line (self.new.held ++ rest) }
+        ensures told { (rest : List ℕ) → (found ≡ Found.Neither → rest ≡ [])
+            → Begins (self.old.held ++ rest)
+            (front_told result self.new.line (self.new.held ++ rest)) }
         ensures kept { result ≢ Next.Line → self.new.held ≡ self.old.held }
         ensures no_line { result ≢ Next.Line → self.new.line ≡ [] }
         ensures short { length self.new.line ≤ LINE_LIMIT }
-        ensures no_lf { All (λ b. b ≢ 10) self.new.line }
+        ensures no_lf { HasNoLf self.new.line }
         ensures fewer { length self.new.held ≤ length self.old.held }
     {
         match found {
@@ -276,20 +287,24 @@ impl LineReader {
     /// and a failure loses nothing: the next call goes on where this one was.
     pub fn next<S: Source>(&mut self, source: &mut S) -> Result<Next, Failed>
         // Where the source tells its bytes, the answer tells what the bytes that were not given begin with.
-        ensures told { IfOk result (λ next. option_map front_of (not_given self.old.held (S.left source.old)) ≡ option_map (front_told next self.new.line) (not_given self.new.held (S.left source.new))) }
-
-        // So its lines, each with the rest, are the lines of all these bytes.
-        ensures lines { IfOk result (λ next. option_map lines_of (not_given self.old.held (S.left source.old)) ≡ option_map (λ rest. onto_lines (front_told next self.new.line rest) lines_of) (not_given self.new.held (S.left source.new))) }
+        ensures told { IfOk result (λ next. TellsFront
+            (not_given self.old.held (S.left source.old)) next self.new.line
+            (not_given self.new.held (S.left source.new))) }
 
         // At each source, the answer tells it of the bytes that were held and then taken.
-        ensures shown { IfOk result (λ next. Shows next (S.left source.old) (S.left source.new) self.old.held self.new.line self.new.held) }
+        ensures shown { IfOk result
+            (λ next. Shows next (S.left source.old)
+            (S.left source.new) self.old.held self.new.line self.new.held) }
 
         // All but a line leaves the bytes as they were.
-        ensures kept { result ≢ Ok Next.Line → HasTaken (S.left source.old) (S.left source.new) self.old.held self.new.held }
-        ensures same { result ≢ Ok Next.Line → not_given self.new.held (S.left source.new) ≡ not_given self.old.held (S.left source.old) }
+        ensures kept { result ≢ Ok Next.Line
+            → HasTaken (S.left source.old) (S.left source.new) self.old.held self.new.held }
+        ensures same { result ≢ Ok Next.Line
+            → not_given self.new.held (S.left source.new)
+            ≡ not_given self.old.held (S.left source.old) }
         ensures no_line { result ≢ Ok Next.Line → self.new.line ≡ [] }
         ensures short { length self.new.line ≤ LINE_LIMIT }
-        ensures no_lf { All (λ b. b ≢ 10) self.new.line }
+        ensures no_lf { HasNoLf self.new.line }
         ensures bound { length self.new.held ≤ BUFFER_SIZE }
 
         // No byte is asked for while it is known what comes next, and so a failure comes only where it is not.

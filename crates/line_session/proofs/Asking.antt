@@ -18,23 +18,12 @@ use Rattle.olap_meaning.specs.History.{Entry, Append, Flush, Start, Done, Drop, 
 use Rattle.olap_meaning.specs.Legal.{Legal, is_call_below, is_call_of, is_next_call}
 use Rattle.olap_meaning.specs.Worth.{cost}
 use Rattle.segment_load.specs.Loads.{JobOf}
-use Rattle.cache_manager.specs.Answers.{HasSource, SomeWants}
-use Rattle.cache_manager.specs.Cache.{CacheOf}
+use Rattle.history_core.specs.Answers.{HasSource, SomeWants}
+use Rattle.history_core.specs.Cache.{CacheOf}
 use Rattle.cache_manager.specs.Jobs.{IsJobOf, NoneFlies, numbers_from}
 use Rattle.cache_manager.specs.Runs.{apart}
 use Rattle.cache_manager.proofs.Pushes.{flying_back, recorded, version-length}
 use Rattle.line_session.specs.Asks.{AreOut, done_of, is_of_load, rows_of_job, rows_read, rows_started}
-
-above_numbers : (v first count : ℕ) → v < first → among (numbers_from first count) v ≡ false
-above_numbers v first zero l = refl
-above_numbers v first (suc count) l = false_from_ne_true _ (λ h. elim (or_cases (first == v) (among (numbers_from (suc first) count) v) h) [
-  | inl here ↦ let e : first ≡ v = eqb-true first v here in omega (arith, e, l)
-  | inr there ↦ both_ways _ (above_numbers v (suc first) count (omega (arith, l))) there
-])
-
-pub apart_numbers : (first count : ℕ) → apart (numbers_from first count) ≡ true
-apart_numbers first zero = refl
-apart_numbers first (suc count) = and_from _ _ (not_from_false _ (above_numbers first (suc first) count (omega arith))) (apart_numbers (suc first) count)
 
 -- after some Starts only their loads may fly, beside those that did
 started_flying : (entries : List Entry) (loads : List Load) (n j : ℕ) → n ≡ length entries + 1 → flying (entries ++ map Start loads) j ≡ true → (flying entries j ≡ true) ⊎ (among (numbers_from n (length loads)) j ≡ true)

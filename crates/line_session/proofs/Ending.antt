@@ -11,10 +11,11 @@ use Rattle.olap_meaning.specs.Covering.{among}
 use Rattle.olap_meaning.specs.History.{Entry, Done, Drop, ends, flying, load_at, rows_of, started}
 use Rattle.olap_meaning.specs.Legal.{Legal}
 use Rattle.segment_load.specs.Loads.{JobOf}
-use Rattle.cache_manager.specs.Cache.{CacheOf}
+use Rattle.history_core.specs.Cache.{CacheOf}
 use Rattle.cache_manager.specs.Jobs.{IsJobOf, actor, entries_of}
 use Rattle.cache_manager.specs.Runs.{apart}
-use Rattle.cache_manager.proofs.Pushes.{any_none, flying_back, load_on, recorded, rows_on}
+use Rattle.cache_manager.proofs.JobFacts.{jobs_stay, other_loads}
+use Rattle.cache_manager.proofs.Pushes.{flying_back}
 use Rattle.line_session.specs.Asks.{AreOut, Ends, EndsLoads, is_of_load}
 
 -- the entry that ends a load
@@ -38,44 +39,6 @@ pub end_part : (job : JobOf) (b : Bool) → is_of_load (end_of job b) ≡ true
 end_part job true = refl
 end_part job false = refl
 
-module _ (before after : CacheOf) (entry : Entry) (same : after.setting ≡ before.setting) (grown : after.entries ≡ before.entries ++ entry ∷ []) (legal : Legal before.setting before.entries) where
-  unended_on : (who : Who) (j : ℕ) → ends j entry ≡ false → list_any (ends j) (entries_of before.entries who.seat) ≡ false → list_any (ends j) (entries_of after.entries who.seat) ≡ false
-  unended_on who j other none =
-      ap (λ (es : List Entry). list_any (ends j) (entries_of es who.seat)) grown
-      ∙ ap (list_any (ends j)) (filter-append (λ e. (actor e).seat == who.seat) before.entries (entry ∷ []))
-      ∙ by ((actor entry).seat == who.seat) refl
-    where
-      by : (b : Bool) → ((actor entry).seat == who.seat) ≡ b → list_any (ends j) (entries_of before.entries who.seat ++ entries_of (entry ∷ []) who.seat) ≡ false
-      by true e = rw e (any_none (ends j) (entries_of before.entries who.seat) entry none other)
-      by false e = rw (e, append-nil (entries_of before.entries who.seat)) none
-
-  job_stays : (job : JobOf) → ends job.load entry ≡ false → IsJobOf before job → IsJobOf after job
-  job_stays job other is =
-      let rows : rows_of after.entries is.load.header.cube is.load.version ≡ rows_of before.entries is.load.header.cube is.load.version =
-      ap (λ (es : List Entry). rows_of es is.load.header.cube is.load.version) grown
-      ∙ rows_on before.entries entry is.load.header.cube is.load.version (recorded before.setting before.entries job.load is.load legal is.flies.started) in
-      record {
-        load = is.load;
-        catalog = is.catalog ∙ sym (ap (λ (s : Setting). s.catalog) same);
-        flies = record {
-          started = ap (λ (es : List Entry). load_at es job.load) grown ∙ load_on before.entries entry job.load is.load is.flies.started;
-          own = is.flies.own;
-          unended = unended_on job.who job.load other is.flies.unended;
-        };
-        header = is.header;
-        rows = is.rows ∙ sym rows;
-        costs = is.costs ∙ sym (ap length rows);
-      }
-
-  pub jobs_stay : (v : ℕ) (jobs : List JobOf) → ((j : ℕ) → ends j entry ≡ (v == j)) → among (map (λ job. job.load) jobs) v ≡ false → All (IsJobOf before) jobs → All (IsJobOf after) jobs
-  jobs_stay v [] just none all = All-nil (IsJobOf after)
-  jobs_stay v (job ∷ jobs) just none all =
-      All-cons (IsJobOf after) job jobs
-      (job_stays job
-      (just job.load ∙ false_from_ne_true (v == job.load) (λ h. both_ways _ none (or_left (job.load == v) (among (map (λ o. o.load) jobs) v) (eq-eqb job.load v (sym (eqb-true v job.load h))))))
-      (All-head (IsJobOf before) job jobs all))
-      (jobs_stay v jobs just (false_from_ne_true _ (λ h. both_ways _ none (or_right (job.load == v) (among (map (λ o. o.load) jobs) v) h))) (All-tail (IsJobOf before) job jobs all))
-
 -- the jobs behind one that was ended
 pub rest_out :
     (before after : CacheOf) (job : JobOf) (rest : List JobOf) (b : Bool) → after.setting ≡ before.setting → Ends before.entries after.entries job b → Legal before.setting before.entries → All (IsJobOf before) (job ∷ rest) → apart (map (λ j. j.load) (job ∷ rest)) ≡ true → AreOut before.entries (job ∷ rest)
@@ -83,7 +46,7 @@ pub rest_out :
 rest_out before after job rest b same end legal all different out =
     let parts = and_parts (not (among (map (λ j. j.load) rest) job.load)) (apart (map (λ j. j.load) rest)) different in
     let grown : after.entries ≡ before.entries ++ end_of job b ∷ [] = ends_as before.entries after.entries job b end in (
-      jobs_stay before after (end_of job b) same grown legal job.load rest (end_ends job b) (not-true _ parts.0) (All-tail (IsJobOf before) job rest all),
+      jobs_stay before after (end_of job b) same grown legal rest (λ k other m. end_ends job b _ ∙ other_loads job.load rest (not-true _ parts.0) k other m) (All-tail (IsJobOf before) job rest all),
       parts.1,
       λ j flies.
           let back = flying_back before.entries (end_of job b) j (ap (λ (es : List Entry). flying es j) (sym grown) ∙ flies) in

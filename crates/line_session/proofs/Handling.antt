@@ -16,9 +16,9 @@ use Rattle.olap_meaning.specs.CellQueries.{Meant, NoMatch, meaning_of}
 use Rattle.olap_meaning.specs.History.{Entry, Append, Flush, Start, Done, Drop, Answer, Saw, is_some_and, load_at}
 use Rattle.olap_meaning.specs.Legal.{Legal, caller, is_call_below, is_call_of, is_next_call}
 use Rattle.olap_meaning.specs.Requests.{Request, NotText, Blank, Quit, OneCell, Unbuilt}
-use Rattle.cache_manager.specs.declared.answers.Answer.{Answer as Told}
-use Rattle.cache_manager.specs.Cache.{CacheOf}
-use Rattle.cache_manager.specs.Answers.{source_of}
+use Rattle.history_core.specs.declared.answers.Answer.{Answer as Told}
+use Rattle.history_core.specs.Cache.{CacheOf}
+use Rattle.history_core.specs.Answers.{source_of}
 use Rattle.cache_manager.proofs.Pushes.{recorded}
 use Rattle.line_session.specs.Asks.{AddsAnswer, AddsLoads, rows_read, rows_started}
 use Rattle.line_session.specs.Replies.{AnswersMeaning, AnswersRequest, Handles}

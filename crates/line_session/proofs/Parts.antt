@@ -10,11 +10,11 @@ use Rattle.olap_meaning.specs.declared.cells.Cell.{Cell}
 use Rattle.olap_meaning.specs.declared.cells.Who.{Who}
 use Rattle.olap_meaning.specs.History.{Entry, Load, Start, flushes}
 use Rattle.olap_meaning.specs.declared.tables.Setting.{Setting}
-use Rattle.olap_meaning.specs.Legal.{Legal}
+use Rattle.olap_meaning.specs.Legal.{Legal, is_cell}
 use Rattle.segment_load.specs.Loads.{JobOf}
-use Rattle.cache_manager.specs.Answers.{HasSource}
-use Rattle.cache_manager.specs.Cache.{CacheOf}
-use Rattle.cache_manager.specs.Groups.{is_known, loads_for}
+use Rattle.history_core.specs.Answers.{HasSource}
+use Rattle.history_core.specs.Cache.{CacheOf}
+use Rattle.cache_manager.specs.Groups.{loads_for}
 use Rattle.cache_manager.specs.Jobs.{IsJobOf, NoneFlies, numbers_from}
 use Rattle.cache_manager.proofs.Ready.{delivered_looks_are_ready}
 use Rattle.line_session.specs.Asks.{AddsLoads, EndsLoads, done_of, is_of_load, rows_of_job, rows_read, rows_started}
@@ -48,14 +48,14 @@ read_by_starts before middle after loads jobs rest legal started numbers all gro
 
 -- where the loads of a look were all delivered, each of its cells has a source
 pub ready_again :
-    (before middle after : CacheOf) (who : Who) (cells : List Cell) (jobs : List JobOf) → list_all (is_known before.setting.catalog) cells ≡ true → middle.entries ≡ before.entries ++ map Start (loads_for who before.entries cells)
-    → map (λ job. job.load) jobs ≡ numbers_from (length before.entries + 1) (length (loads_for who before.entries cells)) → after.setting ≡ before.setting → after.entries ≡ middle.entries ++ map done_of jobs → All (HasSource after) cells
+    (before middle after : CacheOf) (who : Who) (cells : List Cell) (jobs : List JobOf) → list_all (is_cell before.setting.catalog) cells ≡ true → middle.entries ≡ before.entries ++ map Start (loads_for before who cells)
+    → map (λ job. job.load) jobs ≡ numbers_from (length before.entries + 1) (length (loads_for before who cells)) → after.setting ≡ before.setting → after.entries ≡ middle.entries ++ map done_of jobs → All (HasSource after) cells
 ready_again before middle after who cells jobs known started numbers same ended =
-    let starts = map Start (loads_for who before.entries cells) in
+    let starts = map Start (loads_for before who cells) in
     let dones = map done_of jobs in
     let whole : after.entries ≡ before.entries ++ (starts ++ dones) = ended ∙ ap (λ (es : List Entry). es ++ dones) started ∙ append_assoc before.entries starts dones in
     let final : All (HasSource (record { setting = before.setting; entries = before.entries ++ (starts ++ dones) })) cells =
-    delivered_looks_are_ready before who cells dones known (none cells) (dones_keep before.entries starts jobs (length before.entries + 1) (length (loads_for who before.entries cells)) numbers) in
+    delivered_looks_are_ready before who cells dones known (none cells) (dones_keep before.entries starts jobs (length before.entries + 1) (length (loads_for before who cells)) numbers) in
     let moved : All (HasSource (record { setting = after.setting; entries = before.entries ++ (starts ++ dones) })) cells =
     subst (λ (s : Setting). All (HasSource (record { setting = s; entries = before.entries ++ (starts ++ dones) })) cells) (sym same) final in
     subst (λ (es : List Entry). All (HasSource (record { setting = after.setting; entries = es })) cells) (sym whole) moved

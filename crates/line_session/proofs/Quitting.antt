@@ -5,9 +5,10 @@ use Rattle.std.specs.List.{list_all, position_or_len}
 use Rattle.std.specs.Option.{option_map_or}
 use Rattle.std.specs.Str.{is_utf8}
 use Rattle.std.proofs.lemmas.Bool.{and_parts}
-use Rattle.olap_meaning.specs.Requests.{after_white, argument_behind, behind_word, first_word, is_blank, is_white}
+use Rattle.olap_meaning.specs.Requests.{after_white, argument_behind, behind_word, first_word, is_blank}
+use Rattle.olap_meaning.specs.Tokens.{is_white}
 use Rattle.olap_meaning.specs.Tokens.{in_capitals}
-use Rattle.line_session.specs.Sessions.{ends}
+use Rattle.line_session.specs.Sessions.{ends_session}
 
 none_other : (p : ℕ → Bool) (text : List ℕ) → list_all p text ≡ true → position_or_len (λ c. not (p c)) text ≡ length text
 none_other p [] all = refl
@@ -16,7 +17,7 @@ none_other p (c ∷ text) all = let here : p c ≡ true = (and_parts _ _ all).0 
 no_word : (line : List ℕ) → is_blank line ≡ true → after_white line ≡ []
 no_word line blank = ap (λ n. drop n line) (none_other is_white line blank) ∙ drop-length line
 
-pub blank_goes_on : (line : List ℕ) → is_blank line ≡ true → ends line ≡ false
+pub blank_goes_on : (line : List ℕ) → is_blank line ≡ true → ends_session line ≡ false
 blank_goes_on line blank =
     ap (λ text. is_utf8 line && option_map_or is_blank (if bytes_eq (in_capitals (first_word text)) (codes "QUIT") then argument_behind (behind_word text) else None) false) (no_word line blank) ∙ by (is_utf8 line)
   where

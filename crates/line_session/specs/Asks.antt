@@ -7,10 +7,10 @@ use Rattle.olap_meaning.specs.History.{Entry, Start, Done, Drop, Answer, flying}
 use Rattle.olap_meaning.specs.Covering.{among}
 use Rattle.olap_meaning.specs.Worth.{cost}
 use Rattle.segment_load.specs.Loads.{JobOf, rows_in}
-use Rattle.cache_manager.specs.Answers.{IsAnswer, source_of}
-use Rattle.cache_manager.specs.Cache.{CacheOf}
+use Rattle.history_core.specs.Answers.{IsAnswer, source_of}
+use Rattle.history_core.specs.Cache.{CacheOf}
 use Rattle.cache_manager.specs.Jobs.{NoneFlies}
-use Rattle.cache_manager.specs.declared.answers.Answer.{Answer as Told}
+use Rattle.history_core.specs.declared.answers.Answer.{Answer as Told}
 
 -- an entry is a part of a load: its Start or its end
 abbrev pub is_of_load : Entry → Bool
@@ -32,12 +32,14 @@ pub record AddsLoads (before after : CacheOf) (loads : List Entry) : Type 0 wher
   pub closed : NoneFlies after.entries
 
 -- cells were answered: by parts of loads that are all closed, and then by the answer to the cells at that time
-pub record AddsAnswer (before after : CacheOf) (who : Who) (cells : List Cell) (answer : Told) : Type 0 where
+pub record AddsAnswer (before after : CacheOf) (who : Who) (cells : List Cell)
+    (answer : Told) : Type 0 where
   pub loads : List Entry
   pub middle : CacheOf
   pub loaded : AddsLoads before middle loads
   pub setting : after.setting ≡ before.setting
-  pub entries : after.entries ≡ middle.entries ++ Answer who (map (source_of middle.entries) cells) ∷ []
+  pub entries : after.entries
+      ≡ middle.entries ++ Answer who (map (source_of middle.entries) cells) ∷ []
   pub answered : IsAnswer middle cells answer
 
 -- a load was ended: it was delivered, or given up
@@ -55,7 +57,8 @@ rows_of_job job = length (rows_in job.snapshot)
 
 -- each load that flies is that of one of some jobs
 abbrev pub AreOut : List Entry → List JobOf → Type 0
-AreOut entries jobs = (j : ℕ) → flying entries j ≡ true → among (map (λ job. job.load) jobs) j ≡ true
+AreOut entries jobs =
+    (j : ℕ) → flying entries j ≡ true → among (map (λ job. job.load) jobs) j ≡ true
 
 -- a history goes on with ends of loads
 pub record EndsLoads (before after : List Entry) : Type 0 where

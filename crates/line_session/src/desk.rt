@@ -3,15 +3,15 @@ ghost use Rattle.std.specs.Prelude.{◌≡◌, ◌≤◌, ◌+◌, ◌++◌, ℕ
 ghost use Rattle.std.specs.List.{list_all};
 ghost use Rattle.olap_meaning.specs.Covering.{among};
 ghost use Rattle.olap_meaning.specs.History.{Entry, flying, kept};
-ghost use Rattle.olap_meaning.specs.Legal.{is_next_call};
+ghost use Rattle.olap_meaning.specs.Legal.{is_next_call, is_cell};
 ghost use Rattle.segment_load.specs.Loads.{JobOf, rows_in};
-ghost use Rattle.cache_manager.specs.Groups.{is_known};
 ghost use Rattle.cache_manager.specs.Jobs.{IsJobOf, NoneFlies};
 ghost use Rattle.cache_manager.specs.Runs.{apart};
 ghost use Rattle.line_session.specs.Asks.{AddsAnswer, AddsLoads, AreOut, Ends, EndsLoads, done_of, rows_of_job, rows_started};
 
-use cache_manager::{Answer, Look, Manager};
-use fact_batches::Steps;
+use cache_manager::{Look, Manager};
+use fact_versions::Steps;
+use history_core::Answer;
 use olap_meaning::{Cell, List, OutOfMemory, Who};
 use segment_load::{LoadJob, run_load};
 use std::alloc::Global;
@@ -64,14 +64,15 @@ fn end_loads<L: Ledger>(
     ensures setting { manager.new.setting ≡ manager.old.setting }
     ensures ended { EndsLoads manager.old.entries manager.new.entries }
     ensures closed { NoneFlies manager.new.entries }
-    ensures delivered { result ≡ true → manager.new.entries ≡ manager.old.entries ++ map done_of jobs }
+    ensures delivered { result ≡ true → manager.new.entries ≡ manager.old.entries
+        ++ map done_of jobs }
     ensures cost { result ≡ true → steps.new ≡ steps.old + sum_by rows_of_job jobs }
     ensures at_least { steps.old ≤ steps.new }
     ensures at_most { steps.new ≤ steps.old + sum_by rows_of_job jobs }
 {
     let mut run = true;
     for job in jobs.into_vec() {
-        manager.is_legal();
+        manager.steps_are_legal();
         run = end_load(alloc, manager, job, run, steps);
     }
     run
@@ -87,19 +88,20 @@ pub fn ask<L: Ledger>(
     steps: &mut Steps<L>,
 ) -> Result<Answer, OutOfMemory>
     requires call { IsTrue (is_next_call manager.old.entries who) }
-    requires known { IsTrue (list_all (is_known manager.old.setting.catalog) cells.now) }
+    requires known { IsTrue (list_all (is_cell manager.old.setting.catalog) cells.now) }
     requires idle { NoneFlies manager.old.entries }
     ensures answered { IfOk result (AddsAnswer manager.old manager.new who cells.now) }
     ensures err { OnErr result ((loads : List Entry) × AddsLoads manager.old manager.new loads) }
     ensures idle { NoneFlies manager.new.entries }
-    ensures cost { OnOk result (steps.new ≡ steps.old + rows_started manager.old.entries manager.new.entries) }
+    ensures cost { OnOk result
+        (steps.new ≡ steps.old + rows_started manager.old.entries manager.new.entries) }
     ensures at_least { steps.old ≤ steps.new }
     ensures at_most { steps.new ≤ steps.old + rows_started manager.old.entries manager.new.entries }
 {
     match manager.look(who, cells)? {
         Look::Ready(answer) => Ok(answer),
         Look::Load(jobs) => {
-            manager.is_legal();
+            manager.steps_are_legal();
             if !end_loads(alloc, manager, jobs, steps) {
                 return Err(OutOfMemory);
             }

@@ -3,7 +3,6 @@
 
 mod desk;
 mod query;
-mod reply;
 mod session;
 
 pub use desk::ask;

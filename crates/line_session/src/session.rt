@@ -3,19 +3,18 @@ ghost use Rattle.std.specs.Prelude.{◌≡◌, ◌≢◌, ◌≤◌, ◌<◌, �
 ghost use Rattle.cache_manager.specs.Jobs.{NoneFlies};
 ghost use Rattle.olap_meaning.specs.Legal.{is_next_call};
 ghost use Rattle.olap_meaning.specs.Requests.{too_long_reply};
+ghost use Rattle.olap_meaning.specs.Texts.{text_of};
 ghost use Rattle.outside.specs.Told.{TakesFront, with_bytes};
 ghost use Rattle.input_lines.specs.Reader.{not_given};
 ghost use Rattle.line_session.specs.Asks.{rows_started};
-ghost use Rattle.line_session.specs.Replies.{Handles, text_of};
-ghost use Rattle.line_session.specs.Sessions.{GoesOn, IsLineAnswered, IsServed, Turns, asker, ends};
+ghost use Rattle.line_session.specs.Replies.{Handles};
+ghost use Rattle.line_session.specs.Sessions.{GoesOn, IsLineAnswered, IsServed, Turns, asker, ends_session};
 
 use crate::query::reply_to_query;
-use crate::reply::Reply;
 use cache_manager::Manager;
-use fact_batches::Steps;
-use input_lines::{LineReader, Next};
-use line_requests::{Request, read_request};
-use olap_meaning::{OutOfMemory, Who};
+use fact_versions::Steps;
+use input_lines::{LineReader, Next, Request, read_request};
+use olap_meaning::{OutOfMemory, Who, Written};
 use outside::{Failed, Sink, Source};
 use std::alloc::Global;
 use std::sync::ledger::Ledger;
@@ -44,20 +43,20 @@ fn reply_to_line<L: Ledger>(
     number: u64,
     line: &[u8],
     steps: &mut Steps<L>,
-) -> (Reply, bool)
+) -> (Written, bool)
     requires call { IsTrue (is_next_call manager.old.entries (asker number)) }
     requires idle { NoneFlies manager.old.entries }
     ensures handled { Handles manager.old manager.new (asker number) line.now (text_of result.0) }
-    ensures ends { result.1 ≡ ends line.now }
+    ensures ends { result.1 ≡ ends_session line.now }
     ensures grown { GoesOn manager.old manager.new }
     ensures idle { NoneFlies manager.new.entries }
     ensures at_least { steps.old ≤ steps.new }
     ensures at_most { steps.new ≤ steps.old + rows_started manager.old.entries manager.new.entries }
 {
     match read_request(alloc, line) {
-        Ok(Request::NotText) => (Reply::Fixed("ERR 2 UTF8\n"), false),
-        Ok(Request::Blank) => (Reply::Fixed(""), false),
-        Ok(Request::Quit) => (Reply::Fixed("BYE\n"), true),
+        Ok(Request::NotText) => (Written::Fixed("ERR 2 UTF8\n"), false),
+        Ok(Request::Blank) => (Written::Fixed(""), false),
+        Ok(Request::Quit) => (Written::Fixed("BYE\n"), true),
         Ok(Request::OneCell(query)) => {
             let who = Who {
                 seat: 1,
@@ -65,8 +64,8 @@ fn reply_to_line<L: Ledger>(
             };
             (reply_to_query(alloc, manager, who, &query, steps), false)
         }
-        Ok(Request::Unbuilt) => (Reply::Fixed("ERR 17 UNBUILT\n"), false),
-        Err(OutOfMemory) => (Reply::Fixed("ERR 15 MEMORY\n"), false),
+        Ok(Request::Unbuilt) => (Written::Fixed("ERR 17 UNBUILT\n"), false),
+        Err(OutOfMemory) => (Written::Fixed("ERR 15 MEMORY\n"), false),
     }
 }
 
@@ -95,7 +94,8 @@ fn answer_line<O: Sink, L: Ledger>(
     requires call { IsTrue (is_next_call manager.old.entries (asker number)) }
     requires idle { NoneFlies manager.old.entries }
     ensures grown { GoesOn manager.old manager.new }
-    ensures answered { IsLineAnswered number manager.old manager.new line.now (O.taken sink.old) (O.taken sink.new) result }
+    ensures answered { IsLineAnswered number manager.old manager.new line.now (O.taken sink.old)
+        (O.taken sink.new) result }
     ensures call { IsTrue (is_next_call manager.new.entries (asker (number + 1))) }
     ensures idle { NoneFlies manager.new.entries }
     ensures count { O.faults sink.old ≤ O.faults sink.new }
@@ -115,8 +115,10 @@ fn answer_line<O: Sink, L: Ledger>(
 // Sends the reply to too long a line.
 fn refuse_long_line<O: Sink>(sink: &mut O) -> SessionEnd
     ensures end { (result ≡ SessionEnd.LongLine) ⊎ (result ≡ SessionEnd.SendFault) }
-    ensures all { result ≡ SessionEnd.LongLine → O.taken sink.new ≡ with_bytes (O.taken sink.old) too_long_reply }
-    ensures front { result ≡ SessionEnd.SendFault → TakesFront (O.taken sink.old) (O.taken sink.new) too_long_reply }
+    ensures all { result ≡ SessionEnd.LongLine → O.taken sink.new
+        ≡ with_bytes (O.taken sink.old) too_long_reply }
+    ensures front { result ≡ SessionEnd.SendFault
+        → TakesFront (O.taken sink.old) (O.taken sink.new) too_long_reply }
     ensures count { O.faults sink.old ≤ O.faults sink.new }
     ensures cause { result ≡ SessionEnd.SendFault → O.faults sink.old < O.faults sink.new }
 {
@@ -145,9 +147,11 @@ fn take_turn<S: Source, O: Sink, L: Ledger>(
     ensures call { IsTrue (is_next_call manager.new.entries (asker (number + 1))) }
     ensures idle { NoneFlies manager.new.entries }
     ensures receive_count { S.faults source.old ≤ S.faults source.new }
-    ensures receive_cause { result ≡ Some SessionEnd.ReceiveFault → S.faults source.old < S.faults source.new }
+    ensures receive_cause { result ≡ Some SessionEnd.ReceiveFault
+        → S.faults source.old < S.faults source.new }
     ensures send_count { O.faults sink.old ≤ O.faults sink.new }
-    ensures send_cause { result ≡ Some SessionEnd.SendFault → O.faults sink.old < O.faults sink.new }
+    ensures send_cause { result ≡ Some SessionEnd.SendFault
+        → O.faults sink.old < O.faults sink.new }
     ensures at_least { steps.old ≤ steps.new }
     ensures at_most { steps.new ≤ steps.old + rows_started manager.old.entries manager.new.entries }
 {
@@ -173,19 +177,23 @@ pub fn serve<S: Source, O: Sink, L: Ledger>(
 ) -> Result<SessionEnd, OutOfMemory>
     requires call { IsTrue (is_next_call manager.old.entries (asker 1)) }
     requires idle { NoneFlies manager.old.entries }
-    ensures served { IfOk result (λ end. IsServed 1 end manager.old manager.new (S.left source.old) (O.taken sink.old) (O.taken sink.new)) }
+    ensures served { IfOk result
+        (λ end. IsServed 1 end manager.old manager.new (S.left source.old) (O.taken sink.old)
+        (O.taken sink.new)) }
     ensures idle { NoneFlies manager.new.entries }
     ensures receive_count { S.faults source.old ≤ S.faults source.new }
-    ensures receive_cause { result ≡ Ok SessionEnd.ReceiveFault → S.faults source.old < S.faults source.new }
+    ensures receive_cause { result ≡ Ok SessionEnd.ReceiveFault
+        → S.faults source.old < S.faults source.new }
     ensures send_count { O.faults sink.old ≤ O.faults sink.new }
     ensures send_cause { result ≡ Ok SessionEnd.SendFault → O.faults sink.old < O.faults sink.new }
-    ensures unserved { OnErr result ((manager.new ≡ manager.old) × (source.new ≡ source.old) × (sink.new ≡ sink.old)) }
+    ensures unserved { OnErr result
+        ((manager.new ≡ manager.old) × (source.new ≡ source.old) × (sink.new ≡ sink.old)) }
     ensures at_least { steps.old ≤ steps.new }
     ensures at_most { steps.new ≤ steps.old + rows_started manager.old.entries manager.new.entries }
 {
     let mut reader = LineReader::new(alloc)?;
     for number in 1..u64::MAX {
-        manager.is_legal();
+        manager.steps_are_legal();
         if let Some(end) = take_turn(alloc, manager, number, &mut reader, source, sink, steps) {
             return Ok(end);
         }

@@ -1,5 +1,5 @@
 -- What a character begins, and what a text of tokens begins with.
-use Rattle.std.proofs.Common.{◌≡◌, ◌≢◌, ℕ, ◌<◌, ◌≤◌, Bool, true, false, List, [], ◌∷◌, ◌++◌, inl, inr, refl, sym, ap, subst, ◌∙◌, arith, codes, append_assoc}
+use Rattle.std.proofs.Common.{◌≡◌, ◌≢◌, ℕ, ◌<◌, ◌≤◌, Bool, true, false, List, [], ◌∷◌, ◌++◌, refl, sym, ap, subst, ◌∙◌, arith, codes, append_assoc}
 use Rattle.std.specs.Char.{to_ascii_uppercase}
 use Rattle.std.proofs.lemmas.Bool.Decides.{nat_tests}
 use Rattle.olap_meaning.specs.declared.queries.Keyword.{Keyword}
@@ -9,17 +9,16 @@ use Rattle.olap_meaning.specs.declared.queries.Sign.TheVariants.{OpenBrace, Clos
 use Rattle.olap_meaning.specs.declared.queries.Token.{Token}
 use Rattle.olap_meaning.specs.declared.queries.Token.TheVariants as token
 use Rattle.mdx_reader.specs.declared.mode.Start.TheVariants as start
-use Rattle.olap_meaning.specs.Tokens.{IsWhite, keyword_text, in_capitals, sign_text, escaped, Spells, white, keyword, sign, name}
+use Rattle.olap_meaning.specs.Tokens.{is_white, keyword_text, in_capitals, sign_text, escaped, Spells, white, keyword, sign, name}
 use Rattle.mdx_reader.specs.Lexer.{start_of, InWord, InName}
 
-pub white_starts : (c : ℕ) → IsWhite c → start_of c ≡ start.White
+pub white_starts : (c : ℕ) → is_white c ≡ true → start_of c ≡ start.White
 unfolding start_of
-white_starts c (inl e) = ap start_of e
-white_starts c (inr e) = ap start_of e
+white_starts c h = grind (arith, nat_tests)
 
-pub is_white : (c : ℕ) → start_of c ≡ start.White → IsWhite c
+pub starts_white : (c : ℕ) → start_of c ≡ start.White → is_white c ≡ true
 unfolding start_of
-is_white c h = grind (arith, nat_tests)
+starts_white c h = grind (arith, nat_tests)
 
 pub is_open : (c : ℕ) → start_of c ≡ start.Name → c ≡ 91
 unfolding start_of
@@ -128,7 +127,7 @@ begins {c} {text} (name {tokens} n rest some p r) =
     a_name (ap start_of k ∙ open_starts) (record { more = n; rest = rest; others = tokens; some = some; parts = (let q : text ≡ (escaped n ++ codes "]") ++ rest = cc in q ∙ append_assoc (escaped n) (codes "]") rest); first = refl; goes = r })
 
 pub begun : {touching : Bool} {c : ℕ} {tokens : List Token} {text : List ℕ} → Begins touching c tokens text → Spells touching tokens (c ∷ text)
-begun {c} {text} (a_white h r) = white (is_white c h) r
+begun {c} {text} (a_white h r) = white (starts_white c h) r
 begun {c} {tokens} {text} (a_word h r) = subst (λ x. Spells false x (c ∷ text)) (sym r.first) (keyword (c ∷ r.more) r.rest r.whole (ap (λ x. c ∷ x) r.parts) r.goes)
 begun {touching} {c} {tokens} {text} (a_name h r) =
     let k = is_open c h in

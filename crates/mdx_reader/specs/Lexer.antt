@@ -60,7 +60,9 @@ pub record AfterName (name : List ℕ) (tokens : List Token) (text : List ℕ) :
 
 -- in a name, after these characters and a "]", which ended it or is the first of two
 abbrev pub Closing : List ℕ → List Token → List ℕ → Type 0
-Closing front tokens text = AfterName front tokens text ⊎ ((rest : List ℕ) × (text ≡ 93 ∷ rest) × InName (front ++ codes "]") tokens rest)
+Closing front tokens text =
+    AfterName front tokens text
+    ⊎ ((rest : List ℕ) × (text ≡ 93 ∷ rest) × InName (front ++ codes "]") tokens rest)
 
 -- the tokens that the text still spells
 abbrev pub Continues : Mode → List Token → List ℕ → Type 0
@@ -70,20 +72,29 @@ Continues (mode.InName front) tokens text = InName (string_bytes front) tokens t
 Continues (mode.Closing front) tokens text = Closing (string_bytes front) tokens text
 
 -- the whole has these tokens: those that were read, and those that the text still spells
-pub record Completes (read : List Token) (Still : List Token → List ℕ → Type 0) (whole : List Token) (text : List ℕ) : Type 0 where
+pub record Completes (read : List Token) (Still : List Token → List ℕ → Type 0) (whole : List Token)
+    (text : List ℕ) : Type 0 where
   pub tokens : List Token
   pub all : whole ≡ read ++ tokens
   pub goes : Still tokens text
 
 -- a character was read: what completes the whole with it is what completes it from the new mode, or nothing does
-abbrev pub Steps : List Token → (List Token → List ℕ → Type 0) → List ℕ → List Token → Option Mode → Type 0
-Steps old Still front new (Some next) = (whole : List Token) (text : List ℕ) → Completes old Still whole (front ++ text) ↔ Completes new (Continues next) whole text
-Steps old Still front new None = (whole : List Token) (text : List ℕ) → ¬ Completes old Still whole (front ++ text)
+abbrev pub Steps : List Token → (List Token → List ℕ → Type 0) → List ℕ → List Token → Option Mode
+    → Type 0
+Steps old Still front new (Some next) =
+    (whole : List Token) (text : List ℕ)
+    → Completes old Still whole (front ++ text) ↔ Completes new (Continues next) whole text
+Steps old Still front new None =
+    (whole : List Token) (text : List ℕ) → ¬ Completes old Still whole (front ++ text)
 
 -- where a text of this kind follows, a token has ended here, or none can have
-abbrev pub Ends : (List ℕ → Type 0) → List Token → (List Token → List ℕ → Type 0) → List Token → Bool → Type 0
-Ends Follows old Still new true = (whole : List Token) (text : List ℕ) → Follows text → Completes old Still whole text ↔ Completes new (Spells false) whole text
-Ends Follows old Still new false = (whole : List Token) (text : List ℕ) → Follows text → ¬ Completes old Still whole text
+abbrev pub Ends : (List ℕ → Type 0) → List Token → (List Token → List ℕ → Type 0) → List Token
+    → Bool → Type 0
+Ends Follows old Still new true =
+    (whole : List Token) (text : List ℕ) → Follows text
+    → Completes old Still whole text ↔ Completes new (Spells false) whole text
+Ends Follows old Still new false =
+    (whole : List Token) (text : List ℕ) → Follows text → ¬ Completes old Still whole text
 
 -- the text goes on with no letter or digit
 abbrev pub EndsWord : List ℕ → Type 0
@@ -97,4 +108,5 @@ EndsName (c ∷ text) = c ≢ 93
 
 -- the tokens of the text are those that were read, and those that the rest still spells
 abbrev pub IsSoFar : List ℕ → List Token → Mode → List ℕ → Type 0
-IsSoFar text read mode rest = (whole : List Token) → Spells false whole text ↔ Completes read (Continues mode) whole rest
+IsSoFar text read mode rest =
+    (whole : List Token) → Spells false whole text ↔ Completes read (Continues mode) whole rest

@@ -24,7 +24,8 @@ TookName old new None = (name : List ℕ) (others : List Token) → ¬ old ≡ t
 
 -- a path with a closing brace behind it, and then others
 abbrev pub IsPathThen : List Token → List (List ℕ) → List Token → Type 0
-IsPathThen tokens path others = (path ≢ []) × (tokens ≡ path_tokens path ++ token.Sign CloseBrace ∷ others)
+IsPathThen tokens path others =
+    (path ≢ []) × (tokens ≡ path_tokens path ++ token.Sign CloseBrace ∷ others)
 
 -- a path and its closing brace stood in front, or none did
 abbrev pub TookPath : List Token → List Token → Option (List (List ℕ)) → Type 0

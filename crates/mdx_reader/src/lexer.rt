@@ -34,7 +34,8 @@ fn is_letter(c: char) -> bool
 
 // The keyword that a word in capital letters is.
 fn keyword_of(letters: &str) -> Option<Keyword>
-    ensures { MatchOption result (IsNoKeyword letters.now) (λ keyword. letters.now ≡ keyword_text keyword) }
+    ensures { MatchOption result (IsNoKeyword letters.now)
+        (λ keyword. letters.now ≡ keyword_text keyword) }
 {
     match letters {
         "SELECT" => Some(Keyword::Select),
@@ -47,7 +48,8 @@ fn keyword_of(letters: &str) -> Option<Keyword>
 
 // Reads a character between tokens. None where no token begins with it.
 fn begin(alloc: Global, tokens: &mut VecDeque<Token>, c: char) -> Result<Option<Mode>, OutOfMemory>
-    ensures { IfOk result (λ next. Steps tokens.old.items (Spells false) (encode_utf8 c) tokens.new.items next) }
+    ensures { IfOk result
+        (λ next. Steps tokens.old.items (Spells false) (encode_utf8 c) tokens.new.items next) }
 {
     match start_of(c) {
         Start::White => Ok(Some(Mode::Between)),
@@ -67,7 +69,8 @@ fn begin(alloc: Global, tokens: &mut VecDeque<Token>, c: char) -> Result<Option<
 
 // Ends a word. False where it is no keyword.
 fn end_word(tokens: &mut VecDeque<Token>, letters: &str) -> Result<bool, OutOfMemory>
-    ensures { IfOk result (λ ended. Ends EndsWord tokens.old.items (InWord letters.now) tokens.new.items ended) }
+    ensures { IfOk result
+        (λ ended. Ends EndsWord tokens.old.items (InWord letters.now) tokens.new.items ended) }
 {
     let Some(keyword) = keyword_of(letters) else {
         return Ok(false);
@@ -78,7 +81,9 @@ fn end_word(tokens: &mut VecDeque<Token>, letters: &str) -> Result<bool, OutOfMe
 
 // Ends a name. False where it is empty.
 fn end_name(tokens: &mut VecDeque<Token>, name: String) -> Result<bool, OutOfMemory>
-    ensures { IfOk result (λ ended. Ends EndsName tokens.old.items (Closing (string_bytes name)) tokens.new.items ended) }
+    ensures { IfOk result
+        (λ ended. Ends EndsName tokens.old.items
+        (Closing (string_bytes name)) tokens.new.items ended) }
 {
     if name.is_empty() {
         return Ok(false);
@@ -94,7 +99,8 @@ fn step(
     mode: Mode,
     c: char,
 ) -> Result<Option<Mode>, OutOfMemory>
-    ensures { IfOk result (λ next. Steps tokens.old.items (Continues mode) (encode_utf8 c) tokens.new.items next) }
+    ensures { IfOk result
+        (λ next. Steps tokens.old.items (Continues mode) (encode_utf8 c) tokens.new.items next) }
 {
     match mode {
         Mode::Between => begin(alloc, tokens, c),
@@ -130,7 +136,9 @@ fn step(
 
 // Ends the text. False where it ends within a token.
 fn end_text(tokens: &mut VecDeque<Token>, mode: Mode) -> Result<bool, OutOfMemory>
-    ensures { IfOk result (λ ended. Ends (λ text. text ≡ []) tokens.old.items (Continues mode) tokens.new.items ended) }
+    ensures { IfOk result
+        (λ ended. Ends
+        (λ text. text ≡ []) tokens.old.items (Continues mode) tokens.new.items ended) }
 {
     match mode {
         Mode::Between => Ok(true),
@@ -142,7 +150,9 @@ fn end_text(tokens: &mut VecDeque<Token>, mode: Mode) -> Result<bool, OutOfMemor
 
 /// The tokens of a text. None where it has none.
 pub(crate) fn read_tokens(alloc: Global, text: &str) -> Result<Option<VecDeque<Token>>, OutOfMemory>
-    ensures { IfOk result (λ found. MatchOption found (HasNoTokens text.now) (λ tokens. Spells false tokens.items text.now)) }
+    ensures { IfOk result
+        (λ found. MatchOption found (HasNoTokens text.now)
+        (λ tokens. Spells false tokens.items text.now)) }
 {
     let mut tokens = VecDeque::new(alloc);
     let mut mode = Mode::Between;

@@ -59,7 +59,8 @@ pub(crate) fn query_of_tokens(
     alloc: Global,
     mut tokens: VecDeque<Token>,
 ) -> Result<Option<CellQuery>, OutOfMemory>
-    ensures { IfOk result (λ found. MatchOption found (AreTokensOfNone tokens.items) (AreTokensOf tokens.items)) }
+    ensures { IfOk result
+        (λ found. MatchOption found (AreTokensOfNone tokens.items) (AreTokensOf tokens.items)) }
 {
     if !take_keyword(&mut tokens, Keyword::Select)
         || take_sign(&mut tokens) != Some(Sign::OpenBrace)

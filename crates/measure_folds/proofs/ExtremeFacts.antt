@@ -1,35 +1,26 @@
--- The least and the greatest of lists side by side.
-use Rattle.std.proofs.Common.{◌≡◌, ◌∙◌, ◌++◌, ◌∷◌, [], ℤ, List, refl, ap, arith, int_lt, if◌then◌else◌, Some, Option}
+-- The greatest, or the least, of lists side by side.
+use Rattle.std.proofs.Common.{◌≡◌, ◌∙◌, ◌++◌, ◌∷◌, [], ℤ, List, Bool, true, false, refl, ap, arith, if◌then◌else◌, Some, Option}
+use Rattle.std.specs.Prelude.{fold}
 use Rattle.std.proofs.lemmas.Int.{ints}
 use Rattle.std.proofs.lemmas.List.Sums.{fold-append}
-use Rattle.olap_meaning.specs.Values.{least, greatest}
-use Rattle.measure_folds.specs.Kept.{least_of, greatest_of, lesser_of, greater_of}
+use Rattle.measure_folds.specs.Kept.{beyond, extreme_of, further_of}
 
 abbrev some : ℤ → Option ℤ
 some n = Some n
 
-lesser-assoc : (a b c : ℤ) → (if int_lt c (if int_lt b a then b else a) then c else (if int_lt b a then b else a))
-    ≡ (if int_lt (if int_lt c b then c else b) a then (if int_lt c b then c else b) else a)
-lesser-assoc a b c = grind (arith, ints)
+-- the further of two numbers
+abbrev further : Bool → ℤ → ℤ → ℤ
+further greatest m n = if beyond greatest n m then n else m
 
-least-from : (m n : ℤ) (ns : List ℤ) → least (if int_lt n m then n else m) ns ≡ (if int_lt (least n ns) m then least n ns else m)
-least-from m n [] = refl
-least-from m n (k ∷ ks) = ap (λ a. least a ks) (lesser-assoc m n k) ∙ least-from m (if int_lt k n then k else n) ks
+further-assoc : (greatest : Bool) (a b c : ℤ) → further greatest (further greatest a b) c ≡ further greatest a (further greatest b c)
+further-assoc true a b c = grind (arith, ints)
+further-assoc false a b c = grind (arith, ints)
 
-pub least_joined : (ns ms : List ℤ) → least_of (ns ++ ms) ≡ lesser_of (least_of ns) (least_of ms)
-least_joined [] ms = refl
-least_joined (n ∷ ns) [] = ap some (fold-append (λ m n. if int_lt n m then n else m) n ns [])
-least_joined (n ∷ ns) (m ∷ ms) = ap some (fold-append (λ m n. if int_lt n m then n else m) n ns (m ∷ ms) ∙ least-from (least n ns) m ms)
+further-from : (greatest : Bool) (m n : ℤ) (ns : List ℤ) → fold (further greatest) (further greatest m n) ns ≡ further greatest m (fold (further greatest) n ns)
+further-from greatest m n [] = refl
+further-from greatest m n (k ∷ ks) = ap (λ a. fold (further greatest) a ks) (further-assoc greatest m n k) ∙ further-from greatest m (further greatest n k) ks
 
-greater-assoc : (a b c : ℤ) → (if int_lt (if int_lt a b then b else a) c then c else (if int_lt a b then b else a))
-    ≡ (if int_lt a (if int_lt b c then c else b) then (if int_lt b c then c else b) else a)
-greater-assoc a b c = grind (arith, ints)
-
-greatest-from : (m n : ℤ) (ns : List ℤ) → greatest (if int_lt m n then n else m) ns ≡ (if int_lt m (greatest n ns) then greatest n ns else m)
-greatest-from m n [] = refl
-greatest-from m n (k ∷ ks) = ap (λ a. greatest a ks) (greater-assoc m n k) ∙ greatest-from m (if int_lt n k then k else n) ks
-
-pub greatest_joined : (ns ms : List ℤ) → greatest_of (ns ++ ms) ≡ greater_of (greatest_of ns) (greatest_of ms)
-greatest_joined [] ms = refl
-greatest_joined (n ∷ ns) [] = ap some (fold-append (λ m n. if int_lt m n then n else m) n ns [])
-greatest_joined (n ∷ ns) (m ∷ ms) = ap some (fold-append (λ m n. if int_lt m n then n else m) n ns (m ∷ ms) ∙ greatest-from (greatest n ns) m ms)
+pub extreme_joined : (greatest : Bool) (ns ms : List ℤ) → extreme_of greatest (ns ++ ms) ≡ further_of greatest (extreme_of greatest ns) (extreme_of greatest ms)
+extreme_joined greatest [] ms = refl
+extreme_joined greatest (n ∷ ns) [] = ap some (fold-append (further greatest) n ns [])
+extreme_joined greatest (n ∷ ns) (m ∷ ms) = ap some (fold-append (further greatest) n ns (m ∷ ms) ∙ further-from greatest (fold (further greatest) n ns) m ms)

@@ -1,6 +1,8 @@
 -- What the parts of a tally keep of the numbers that they were handed.
-use Rattle.std.specs.Prelude.{◌≡◌, ℕ, ◌*◌, ◌^◌, ◌≤◌, List, [], ◌∷◌, length, Option, None, Some, ℤ, pos, neg_ℤ, ◌≤ℤ◌, int_lt, if◌then◌else◌}
-use Rattle.olap_meaning.specs.Values.{known, total, least, greatest}
+use Rattle.std.specs.Prelude.{◌≡◌, ℕ, ◌*◌, ◌^◌, ◌≤◌, List, [], ◌∷◌, length, fold, Bool, true, false, Option, None, Some, ℤ, pos, neg_ℤ, ◌≤ℤ◌, int_lt, if◌then◌else◌}
+use Rattle.olap_meaning.specs.Values.{known, total}
+use Rattle.olap_meaning.specs.declared.Aggregator.{Aggregator}
+use Rattle.olap_meaning.specs.declared.Aggregator.TheVariants.{Max, Min}
 use Rattle.olap_meaning.specs.declared.TheConstants.{ROW_LIMIT}
 
 -- how many numbers there are and their sum, which is at most 2 ^ 63 a number, as each is of 64 bits
@@ -16,24 +18,28 @@ pub record AreRows (rows : ℕ) (numbers : List ℤ) (values : List (Option ℤ)
   pub room : rows ≤ ROW_LIMIT
   pub numbers_known : numbers ≡ known values
 
--- the least of some numbers, None where there are none
-abbrev pub least_of : List ℤ → Option ℤ
-least_of [] = None
-least_of (n ∷ ns) = Some (least n ns)
+-- the greatest of some numbers, or the least, and the numbers
+pub record ExtremeOf : Type 0 where
+  pub is_greatest : Bool
+  pub numbers : List ℤ
 
--- the greatest of some numbers, None where there are none
-abbrev pub greatest_of : List ℤ → Option ℤ
-greatest_of [] = None
-greatest_of (n ∷ ns) = Some (greatest n ns)
+-- the aggregator of the greatest, or of the least
+abbrev pub extreme_aggregator : Bool → Aggregator
+extreme_aggregator true = Max
+extreme_aggregator false = Min
 
--- the lesser of two numbers, of which either may be missing
-abbrev pub lesser_of : Option ℤ → Option ℤ → Option ℤ
-lesser_of None other = other
-lesser_of (Some m) None = Some m
-lesser_of (Some m) (Some n) = Some (if int_lt n m then n else m)
+-- a number lies beyond another: it is greater, or less
+abbrev pub beyond : Bool → ℤ → ℤ → Bool
+beyond true n m = int_lt m n
+beyond false n m = int_lt n m
 
--- the greater of two numbers, of which either may be missing
-abbrev pub greater_of : Option ℤ → Option ℤ → Option ℤ
-greater_of None other = other
-greater_of (Some m) None = Some m
-greater_of (Some m) (Some n) = Some (if int_lt m n then n else m)
+-- the greatest of some numbers, or the least, None where there are none
+abbrev pub extreme_of : Bool → List ℤ → Option ℤ
+extreme_of greatest [] = None
+extreme_of greatest (n ∷ ns) = Some (fold (λ m n. if beyond greatest n m then n else m) n ns)
+
+-- the greater or the lesser of two numbers, of which either may be missing
+abbrev pub further_of : Bool → Option ℤ → Option ℤ → Option ℤ
+further_of greatest None other = other
+further_of greatest (Some m) None = Some m
+further_of greatest (Some m) (Some n) = Some (if beyond greatest n m then n else m)

@@ -5,7 +5,7 @@ ghost use Rattle.measure_folds.specs.StateOf.{aggregator_of, numbers_of};
 
 use crate::counts::Count;
 use crate::distinct::Distinct;
-use crate::extremes::{Greatest, Least};
+use crate::extremes::Extreme;
 use crate::sums::Sums;
 use olap_meaning::{Aggregator, CellValue, OutOfMemory, ROW_LIMIT};
 use std::alloc::Global;
@@ -15,8 +15,7 @@ use std::alloc::Global;
 pub(crate) enum State {
     Sum(Sums),
     Count(Count),
-    Min(Least),
-    Max(Greatest),
+    Extreme(Extreme),
     Avg(Sums),
     DistinctCount(Distinct),
 }
@@ -29,8 +28,8 @@ pub(crate) fn new_state(alloc: Global, aggregator: Aggregator) -> State
     match aggregator {
         Aggregator::Sum => State::Sum(Sums::new()),
         Aggregator::Count => State::Count(Count::new()),
-        Aggregator::Min => State::Min(Least::new()),
-        Aggregator::Max => State::Max(Greatest::new()),
+        Aggregator::Min => State::Extreme(Extreme::new(false)),
+        Aggregator::Max => State::Extreme(Extreme::new(true)),
         Aggregator::Avg => State::Avg(Sums::new()),
         Aggregator::DistinctCount => State::DistinctCount(Distinct::new(alloc)),
     }
@@ -47,8 +46,7 @@ pub(crate) fn add_number(state: &mut State, number: i64) -> Result<(), OutOfMemo
     match state {
         State::Sum(sums) => sums.add(number),
         State::Count(count) => count.add(number),
-        State::Min(least) => least.add(number),
-        State::Max(greatest) => greatest.add(number),
+        State::Extreme(extreme) => extreme.add(number),
         State::Avg(sums) => sums.add(number),
         State::DistinctCount(distinct) => return distinct.add(number),
     }
@@ -61,7 +59,8 @@ pub(crate) fn add_value(state: &mut State, value: Option<i64>) -> Result<(), Out
     ensures aggregator { aggregator_of state.new ≡ aggregator_of state.old }
     ensures ok { OnOk result (numbers_of state.new ≡ numbers_of state.old ++ known (value ∷ [])) }
     ensures err { OnErr result (numbers_of state.new ≡ numbers_of state.old) }
-    ensures no_memory { (aggregator_of state.old ≢ Aggregator.DistinctCount) ⊎ (value ≡ None) → IsOk result }
+    ensures no_memory { (aggregator_of state.old ≢ Aggregator.DistinctCount) ⊎ (value ≡ None)
+        → IsOk result }
 {
     match value {
         Some(number) => add_number(state, number),
@@ -80,8 +79,7 @@ pub(crate) fn merge_state(state: &mut State, other: &State)
     match (state, other) {
         (State::Sum(sums), State::Sum(more)) => sums.merge(more),
         (State::Count(count), State::Count(more)) => count.merge(more),
-        (State::Min(least), State::Min(more)) => least.merge(more),
-        (State::Max(greatest), State::Max(more)) => greatest.merge(more),
+        (State::Extreme(extreme), State::Extreme(more)) => extreme.merge(more),
         (State::Avg(sums), State::Avg(more)) => sums.merge(more),
         _ => unreachable!(),
     }
@@ -95,8 +93,7 @@ pub(crate) fn worth(state: &State) -> CellValue
     match state {
         State::Sum(sums) => sums.sum(),
         State::Count(count) => count.count(),
-        State::Min(least) => least.least(),
-        State::Max(greatest) => greatest.greatest(),
+        State::Extreme(extreme) => extreme.value(),
         State::Avg(sums) => sums.average(),
         State::DistinctCount(distinct) => distinct.count(),
     }

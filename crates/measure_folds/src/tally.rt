@@ -52,9 +52,11 @@ impl Tally {
     /// Adds one row, by its value: NULL is None. Memory is taken only for a distinct count of a value that is not NULL.
     pub fn step(&mut self, value: Option<i64>) -> Result<(), OutOfMemory>
         requires { length self.old.values < ROW_LIMIT }
-        ensures ok { OnOk result (self.new ≡ record self.old { values = self.old.values ++ value ∷ [] }) }
+        ensures ok { OnOk result
+            (self.new ≡ record self.old { values = self.old.values ++ value ∷ [] }) }
         ensures err { OnErr result (self.new ≡ self.old) }
-        ensures no_memory { (self.old.aggregator ≢ Aggregator.DistinctCount) ⊎ (value ≡ None) → IsOk result }
+        ensures no_memory { (self.old.aggregator ≢ Aggregator.DistinctCount) ⊎ (value ≡ None)
+            → IsOk result }
     {
         add_value(&mut self.state, value)?;
         self.rows += 1;

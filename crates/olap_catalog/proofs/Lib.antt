@@ -1,7 +1,3 @@
-pub mod SeenFacts
-pub mod FieldFacts
-pub mod RecordFacts
-pub mod ColumnFacts
 pub mod LayoutFacts
 pub mod PartFacts
 pub mod ValueFacts

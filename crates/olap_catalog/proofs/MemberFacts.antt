@@ -16,7 +16,7 @@ use Rattle.olap_meaning.specs.declared.tables.Record.{Record}
 use Rattle.olap_meaning.specs.declared.tables.Hierarchy.{Hierarchy}
 use Rattle.olap_meaning.specs.declared.tables.Catalog.{Catalog}
 use Rattle.olap_meaning.specs.Catalog.{leaf_value, leaf_text, value_number, values, records, paths, path_of}
-use Rattle.olap_catalog.proofs.FieldFacts.{position_within}
+use Rattle.catalog_tables.proofs.FieldFacts.{position_within}
 use Rattle.olap_catalog.specs.Members.{next_of}
 use Rattle.olap_catalog.proofs.LayoutFacts.{drop_here}
 use Rattle.olap_catalog.proofs.PartFacts.{item_behind}

@@ -19,7 +19,7 @@ use Rattle.olap_meaning.specs.declared.cells.LevelRef.{LevelRef}
 use Rattle.olap_meaning.specs.declared.cells.LevelRef.TheVariants.{Measures, Whole, One}
 use Rattle.olap_meaning.specs.Catalog.{first_appearances, values, leaf_value, records, path_of, paths, paths_below, members_with, all_member, measure_members, children, first_members, default_member, named, named_below, and_then, member_from, match_of, member_name}
 use Rattle.olap_meaning.proofs.Appearances.{any-same}
-use Rattle.olap_catalog.specs.Tables.{TableOf, have_fields, number_of}
+use Rattle.catalog_tables.specs.Tables.{TableOf, have_fields, number_of}
 use Rattle.olap_catalog.specs.Columns.{column_texts, column_leaves}
 use Rattle.olap_catalog.specs.Parts.{plain, is_column, has_levels}
 use Rattle.olap_catalog.specs.Members.{is_there, HasLevels, all_text, from_root_or_fault, or_fault}

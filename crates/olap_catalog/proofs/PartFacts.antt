@@ -18,7 +18,7 @@ use Rattle.olap_meaning.specs.declared.tables.Cube.{Cube}
 use Rattle.olap_meaning.specs.History.{is_some_and}
 use Rattle.olap_meaning.specs.Legal.{rise}
 use Rattle.olap_meaning.specs.Schema.{columns_from, all_columns, levels_of, numbers_from, hierarchies_from, all_hierarchies, cube_over, hierarchies_in, IsWithinLimits, IsWithinCube}
-use Rattle.olap_catalog.specs.Tables.{TableOf, have_fields}
+use Rattle.catalog_tables.specs.Tables.{TableOf, have_fields}
 use Rattle.olap_catalog.specs.Parts.{is_column, is_level, has_levels, has_few_measures, AreParts, Names}
 use Rattle.olap_catalog.specs.Roots.{hierarchies_among, full_name_in, measure_names, root_names_in}
 use Rattle.olap_catalog.proofs.LayoutFacts.{columns_append, length_columns}

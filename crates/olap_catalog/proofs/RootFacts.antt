@@ -14,9 +14,10 @@ use Rattle.olap_meaning.specs.declared.tables.Cube.{Cube}
 use Rattle.olap_meaning.specs.declared.cells.LevelRef.TheVariants.{Measures, Whole}
 use Rattle.olap_meaning.specs.Schema.{dimension_with}
 use Rattle.olap_meaning.specs.Catalog.{full_name, root_name, hierarchies_of, find_root, match_of}
-use Rattle.olap_catalog.specs.Tables.{TableOf}
+use Rattle.catalog_tables.specs.Tables.{TableOf}
+use Rattle.olap_meaning.specs.FullNames.{joined_name}
 use Rattle.olap_catalog.specs.Parts.{plain, records_in}
-use Rattle.olap_catalog.specs.Roots.{hierarchies_among, full_name_in, joined_name, name_at, root_names_in}
+use Rattle.olap_catalog.specs.Roots.{hierarchies_among, full_name_in, name_at, root_names_in}
 
 -- the item at a place above the first, less one
 pub whole_at : (hs : List ℕ) (i h : ℕ) → (i ≡ 0 → ⊥) → i - 1 < length hs → h ≡ get_or hs (i - 1) h → Some (Whole h) ≡ slice_get (Measures ∷ map Whole hs) i

@@ -16,10 +16,10 @@ use Rattle.olap_meaning.specs.Catalog.{paths, paths_below, values, all_member, m
 use Rattle.olap_meaning.proofs.Appearances.{find-appearances}
 use Rattle.olap_catalog.specs.declared.members.Below.{Below}
 use Rattle.olap_catalog.specs.declared.members.Below.TheVariants as below
-use Rattle.olap_catalog.specs.Names.{is_but_case}
+use Rattle.catalog_tables.specs.Names.{is_but_case}
 use Rattle.olap_catalog.specs.Members.{next_of, values_below, child_values, child_text, all_text, all_by, below_by, members_below, spot, onward}
-use Rattle.olap_catalog.proofs.SeenFacts.{position-map}
-use Rattle.olap_catalog.proofs.FieldFacts.{position_within}
+use Rattle.catalog_tables.proofs.SeenFacts.{position-map}
+use Rattle.catalog_tables.proofs.FieldFacts.{position_within}
 use Rattle.olap_catalog.proofs.PartFacts.{item_behind, length_snoc}
 
 -- the member that stands below a path

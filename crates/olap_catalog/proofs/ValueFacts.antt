@@ -2,7 +2,7 @@
 use Rattle.std.proofs.Common.{inl, inr, if◌then◌else◌, ◌≡◌, ◌∙◌, ◌<◌, ◌≤◌, ◌&&◌, ℕ, zero, suc, Bool, true, false, List, [], ◌∷◌, Option, Some, None, refl, sym, ap, map, option_map, option_and_then, slice_get, get_or, length, nat_lt, nat_eq, arith, position, bytes_eq}
 use Rattle.std.specs.List.{list_all, zip, cons_option}
 use Rattle.std.specs.Option.{option_map_or, IfSome}
-use Rattle.olap_catalog.proofs.FieldFacts.{position_within}
+use Rattle.catalog_tables.proofs.FieldFacts.{position_within}
 use Rattle.std.proofs.lemmas.List.{length-map}
 use Rattle.std.proofs.lemmas.List.Sums.{AllPass-from_list_all}
 use Rattle.std.proofs.lemmas.Option.{slice_get-map, slice_get-get_or, slice_get_within, slice_get_cases, get_or_from_slice_get}
@@ -17,7 +17,7 @@ use Rattle.olap_meaning.specs.declared.schema.SchemaDimension.{SchemaDimension}
 use Rattle.olap_meaning.specs.Schema.{dimension_with}
 use Rattle.olap_meaning.specs.Catalog.{first_appearances, values, leaf_text, leaf_value, records, field_texts, find_leaf}
 use Rattle.olap_meaning.proofs.Loads.{some_and}
-use Rattle.olap_catalog.specs.Tables.{TableOf, have_fields, number_of, column_of}
+use Rattle.catalog_tables.specs.Tables.{TableOf, have_fields, number_of, column_of}
 use Rattle.olap_catalog.specs.Columns.{column_texts, column_leaves}
 use Rattle.olap_catalog.specs.Parts.{plain, records_in, is_column}
 

@@ -13,16 +13,22 @@ measure_count catalog cube = option_map_or (λ c. length c.measures) (slice_get 
 
 -- the columns of a hierarchy's levels, from the top
 abbrev pub levels_of : Catalog → ℕ → List ℕ
-levels_of catalog h = option_map_or (λ hierarchy. hierarchy.levels) (slice_get catalog.hierarchies h) []
+levels_of catalog h =
+    option_map_or (λ hierarchy. hierarchy.levels) (slice_get catalog.hierarchies h) []
 
 -- a path has no more values than there are levels, each a value of its level's column
 abbrev pub is_path : Catalog → List ℕ → List ℕ → Bool
 is_path catalog columns [] = true
 is_path catalog [] (value ∷ path) = false
-is_path catalog (column ∷ columns) (value ∷ path) = nat_lt value (length (values catalog column)) && is_path catalog columns path
+is_path catalog (column ∷ columns) (value ∷ path) =
+    nat_lt value (length (values catalog column)) && is_path catalog columns path
 
--- a member is a catalog's: a measure of the cube, the all member of a hierarchy that has one, or a member of a hierarchy by a path
+-- a member is a catalog's: a measure of the cube, the all member of a hierarchy that has one, or a member of a
+-- hierarchy by a path
 abbrev pub IsMemberOf : Catalog → ℕ → Member → Type 0
-IsMemberOf catalog cube (member.Measure m) = (cube < length catalog.cubes) × (m < measure_count catalog cube)
-IsMemberOf catalog cube (member.All h) = (h < length catalog.hierarchies) × IsSome (all_text catalog h)
-IsMemberOf catalog cube (member.At h path) = (h < length catalog.hierarchies) × (is_path catalog (levels_of catalog h) path ≡ true)
+IsMemberOf catalog cube (member.Measure m) =
+    (cube < length catalog.cubes) × (m < measure_count catalog cube)
+IsMemberOf catalog cube (member.All h) =
+    (h < length catalog.hierarchies) × IsSome (all_text catalog h)
+IsMemberOf catalog cube (member.At h path) =
+    (h < length catalog.hierarchies) × (is_path catalog (levels_of catalog h) path ≡ true)

@@ -13,7 +13,8 @@ use Rattle.olap_catalog.specs.declared.members.Below.{Below}
 use Rattle.olap_catalog.specs.declared.fault.NameFault.{NameFault}
 use Rattle.olap_catalog.specs.declared.fault.NameFault.TheVariants.{UnknownMember}
 use Rattle.olap_catalog.specs.Columns.{column_leaves}
-use Rattle.olap_catalog.specs.Names.{is_but_case}
+use Rattle.catalog_tables.specs.Names.{is_alike}
+use Rattle.catalog_tables.specs.declared.matching.Likeness.{Likeness}
 
 -- a number is that of a column of a catalog
 abbrev pub is_known : Catalog → ℕ → Bool
@@ -21,11 +22,13 @@ is_known catalog column = nat_lt column (length catalog.columns)
 
 -- a column of a catalog has a value for a leaf
 abbrev pub is_there : Catalog → ℕ → ℕ → Bool
-is_there catalog leaf column = nat_lt column (length catalog.columns) && nat_lt leaf (column_leaves catalog column)
+is_there catalog leaf column =
+    nat_lt column (length catalog.columns) && nat_lt leaf (column_leaves catalog column)
 
 -- where a leaf's path goes on from a path, its value there
 abbrev pub next_of : List ℕ → List ℕ → Option ℕ
-next_of path leaf = if bytes_eq path (take (length path) leaf) then slice_get leaf (length path) else None
+next_of path leaf =
+    if bytes_eq path (take (length path) leaf) then slice_get leaf (length path) else None
 
 -- the values of the leaves below a path, in the level below it
 abbrev pub values_below : Catalog → Hierarchy → List ℕ → List ℕ
@@ -35,43 +38,53 @@ values_below catalog hierarchy path = filter_map (next_of path) (paths catalog h
 abbrev pub text_of : Catalog → ℕ → ℕ → List ℕ
 text_of catalog column value = unwrap_or (slice_get (values catalog column) value) []
 
--- a value has this text
-abbrev pub has_text : Catalog → ℕ → List ℕ → ℕ → Bool
-has_text catalog column name value = bytes_eq name (text_of catalog column value)
-
--- a value has this text but for the case of ASCII letters
-abbrev pub is_like : Catalog → ℕ → List ℕ → ℕ → Bool
-is_like catalog column name value = is_but_case name (text_of catalog column value)
+-- a value's text is so much like this name
+abbrev pub has_text : Catalog → ℕ → Likeness → List ℕ → ℕ → Bool
+has_text catalog column likeness name value = is_alike likeness name (text_of catalog column value)
 
 -- each level of a hierarchy has a value for each leaf of its dimension
 abbrev pub HasLevels : Catalog → Hierarchy → Type 0
-HasLevels catalog hierarchy = (leaf : ℕ) → leaf < length (records catalog hierarchy.dimension) → list_all (is_there catalog leaf) hierarchy.levels ≡ true
+HasLevels catalog hierarchy =
+    (leaf : ℕ) → leaf < length (records catalog hierarchy.dimension)
+    → list_all (is_there catalog leaf) hierarchy.levels ≡ true
 
 -- the values of a path's children in a hierarchy, by its place
 abbrev pub child_values : Catalog → ℕ → List ℕ → List ℕ
-child_values catalog h path = option_map_or (λ hierarchy. values_below catalog hierarchy path) (slice_get catalog.hierarchies h) []
+child_values catalog h path =
+    option_map_or
+    (λ hierarchy. values_below catalog hierarchy path) (slice_get catalog.hierarchies h) []
 
 -- the name of a path's child
 abbrev pub child_text : Catalog → ℕ → List ℕ → ℕ → List ℕ
 child_text catalog h path value =
-    unwrap_or (option_and_then (λ hierarchy. option_and_then (λ column. slice_get (values catalog column) value) (slice_get hierarchy.levels (length path))) (slice_get catalog.hierarchies h)) []
+    unwrap_or
+    (option_and_then
+    (λ hierarchy. option_and_then
+    (λ column. slice_get (values catalog column) value)
+    (slice_get hierarchy.levels (length path))) (slice_get catalog.hierarchies h)) []
 
 -- the name of a hierarchy's all member, where it has one
 abbrev pub all_text : Catalog → ℕ → Option (List ℕ)
-all_text catalog h = option_and_then (λ hierarchy. hierarchy.all_member) (slice_get catalog.hierarchies h)
+all_text catalog h =
+    option_and_then (λ hierarchy. hierarchy.all_member) (slice_get catalog.hierarchies h)
 
 -- the all member, where it is asked for and its name passes a test
 abbrev pub all_by : (List ℕ → Bool) → Catalog → ℕ → Bool → Option Below
-all_by test catalog h with_all = if with_all && is_some_and test (all_text catalog h) then Some Below.All else None
+all_by test catalog h with_all =
+    if with_all && is_some_and test (all_text catalog h) then Some Below.All else None
 
 -- the first of the all member, where it is asked for, and a path's children, whose name passes a test
 abbrev pub below_by : (List ℕ → Bool) → Catalog → ℕ → Bool → List ℕ → Option Below
 below_by test catalog h with_all path =
-    option_or (all_by test catalog h with_all) (option_map Below.Child (find (λ value. test (child_text catalog h path value)) (child_values catalog h path)))
+    option_or (all_by test catalog h with_all)
+    (option_map Below.Child
+    (find (λ value. test (child_text catalog h path value)) (child_values catalog h path)))
 
 -- and the members that these are
 abbrev pub members_below : Catalog → ℕ → Bool → List ℕ → List Member
-members_below catalog h with_all path = (if with_all then all_member catalog h else []) ++ members_with catalog h (λ hierarchy. paths_below catalog hierarchy path)
+members_below catalog h with_all path =
+    (if with_all then all_member catalog h else [])
+    ++ members_with catalog h (λ hierarchy. paths_below catalog hierarchy path)
 
 -- the member of a path: the all member where it is empty
 abbrev pub spot : ℕ → List ℕ → Member
@@ -96,4 +109,5 @@ member_or_fault catalog cube (name ∷ names) = or_fault (find_member catalog cu
 -- the member that a path means whose first name is a root, or the fault of the first name without a match
 abbrev pub from_root_or_fault : Catalog → ℕ → LevelRef → List (List ℕ) → Result Member NameFault
 from_root_or_fault catalog cube root [] = Err (UnknownMember [])
-from_root_or_fault catalog cube root (name ∷ names) = or_fault (member_from catalog cube name names (Some root))
+from_root_or_fault catalog cube root (name ∷ names) =
+    or_fault (member_from catalog cube name names (Some root))

@@ -11,7 +11,7 @@ use Rattle.olap_meaning.specs.declared.tables.Catalog.{Catalog}
 use Rattle.olap_meaning.specs.History.{is_some_and}
 use Rattle.olap_meaning.specs.Legal.{rise}
 use Rattle.olap_meaning.specs.Schema.{dimension_with}
-use Rattle.olap_catalog.specs.Tables.{TableOf, have_fields}
+use Rattle.catalog_tables.specs.Tables.{TableOf, have_fields}
 use Rattle.olap_catalog.specs.Roots.{hierarchies_among, full_name_in, measure_names, root_names_in}
 
 -- the records of some tables
@@ -21,15 +21,23 @@ records_in tables = map (λ t. t.records) tables
 -- the plain catalog that the parts are
 abbrev pub plain : Schema → List TableOf → List Column → List Hierarchy → List Cube → Catalog
 plain schema tables columns hierarchies cubes =
-    record { schema = schema; dimensions = map dimension_with (zip schema.dimensions (records_in tables)); columns = columns; hierarchies = hierarchies; cubes = cubes }
+    record {
+      schema = schema;
+      dimensions = map dimension_with (zip schema.dimensions (records_in tables));
+      columns = columns;
+      hierarchies = hierarchies;
+      cubes = cubes;
+    }
 
 -- a column is a field of its dimension's table
 abbrev pub is_column : List TableOf → Column → Bool
-is_column tables column = is_some_and (λ t. nat_lt column.field t.levels) (slice_get tables column.dimension)
+is_column tables column =
+    is_some_and (λ t. nat_lt column.field t.levels) (slice_get tables column.dimension)
 
 -- a number is that of a column of a dimension
 abbrev pub is_level : List Column → ℕ → ℕ → Bool
-is_level columns dimension c = is_some_and (λ column. column.dimension == dimension) (slice_get columns c)
+is_level columns dimension c =
+    is_some_and (λ column. column.dimension == dimension) (slice_get columns c)
 
 -- the levels of a hierarchy are columns of its dimension
 abbrev pub has_levels : List Column → Hierarchy → Bool
@@ -39,14 +47,17 @@ has_levels columns hierarchy = list_all (is_level columns hierarchy.dimension) h
 abbrev pub has_few_measures : Cube → Bool
 has_few_measures cube = nat_le (length cube.measures) MEASURE_LIMIT
 
--- the names that a catalog looks among: of its cubes, and in each cube of its measures and of what a path may begin with
+-- the names that a catalog looks among: of its cubes, and in each cube of its measures and of what a path may begin
+-- with
 pub record Names : Type 0 where
   pub cubes : List (List ℕ)
   pub measures : List (List (List ℕ))
   pub roots : List (List (List ℕ))
 
 -- what ties the parts of a catalog together
-pub record AreParts (schema : Schema) (tables : List TableOf) (columns : List Column) (hierarchies : List Hierarchy) (cubes : List Cube) (full_names : List (List ℕ)) (roots : List (List ℕ)) (names : Names) : Type 0 where
+pub record AreParts (schema : Schema) (tables : List TableOf) (columns : List Column)
+    (hierarchies : List Hierarchy) (cubes : List Cube) (full_names : List (List ℕ))
+    (roots : List (List ℕ)) (names : Names) : Type 0 where
   pub paired : length tables ≡ length schema.dimensions
   pub even : list_all (λ t. have_fields t.levels t.records) tables ≡ true
   pub columned : list_all (is_column tables) columns ≡ true

@@ -2,21 +2,21 @@
 use Rattle.std.specs.Prelude.{ℕ, List, [], ◌∷◌, ◌++◌, ◌==◌, map, filter, slice_get, bytes_eq, codes, if◌then◌else◌}
 use Rattle.std.specs.List.{enumerate_from}
 use Rattle.std.specs.Option.{option_map_or}
+use Rattle.olap_meaning.specs.FullNames.{joined_name}
 use Rattle.olap_meaning.specs.declared.schema.SchemaDimension.{SchemaDimension}
 use Rattle.olap_meaning.specs.declared.tables.Hierarchy.{Hierarchy}
 use Rattle.olap_meaning.specs.declared.tables.Cube.{Cube}
 
 -- the hierarchies of a dimension among some, by their places
 abbrev pub hierarchies_among : List Hierarchy → ℕ → List ℕ
-hierarchies_among hierarchies dimension = map (λ h. h.0) (filter (λ h. h.1.dimension == dimension) (enumerate_from 0 hierarchies))
-
--- a hierarchy's name where it is its dimension's, else the dimension's name, a dot, and its own
-abbrev pub joined_name : List ℕ → List ℕ → List ℕ
-joined_name dimension hierarchy = if bytes_eq hierarchy dimension then hierarchy else dimension ++ codes "." ++ hierarchy
+hierarchies_among hierarchies dimension =
+    map (λ h. h.0) (filter (λ h. h.1.dimension == dimension) (enumerate_from 0 hierarchies))
 
 -- the full name of a hierarchy over some dimensions
 abbrev pub full_name_in : List SchemaDimension → Hierarchy → List ℕ
-full_name_in dimensions hierarchy = joined_name (option_map_or (λ d. d.name) (slice_get dimensions hierarchy.dimension) []) hierarchy.name
+full_name_in dimensions hierarchy =
+    joined_name
+    (option_map_or (λ d. d.name) (slice_get dimensions hierarchy.dimension) []) hierarchy.name
 
 -- the names of a cube's measures
 abbrev pub measure_names : Cube → List (List ℕ)

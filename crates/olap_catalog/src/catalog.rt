@@ -1,16 +1,15 @@
 //! Catalogs: a schema with its dimensions' tables.
 ghost use Rattle.std.specs.Prelude.{◌≡◌, length, map, IfOk, OnOk, true};
 ghost use Rattle.std.specs.List.{list_all};
-ghost use Rattle.olap_catalog.specs.Tables.{have_fields};
+ghost use Rattle.catalog_tables.specs.Tables.{have_fields};
 ghost use Rattle.olap_meaning.specs.Schema.{catalog_of, levels_of, IsWithinLimits};
 ghost use Rattle.olap_catalog.specs.Parts.{records_in};
 
 use crate::cubes::{
     cube_names_of, cubes_of, full_names_of, measure_names_of, root_names_of, roots_of,
 };
-use crate::dimension::DimensionTable;
 use crate::layout::{columns_of, hierarchies_of};
-use crate::table::Table;
+use catalog_tables::{DimensionTable, Table};
 use olap_meaning::schema::Schema;
 use olap_meaning::tables::{Column, Cube, Hierarchy};
 use olap_meaning::{HierarchyId, List, OutOfMemory, Text};
@@ -51,7 +50,8 @@ pub fn build_catalog(
     tables: List<Table>,
 ) -> Result<Catalog, OutOfMemory>
     requires limits { IsWithinLimits schema }
-    requires whole { map (λ t. t.levels) tables ≡ map (λ d. length (levels_of d)) schema.dimensions }
+    requires whole { map (λ t. t.levels) tables
+        ≡ map (λ d. length (levels_of d)) schema.dimensions }
     ensures { IfOk result (λ catalog. catalog ≡ catalog_of schema (records_in tables)) }
 {
     let dimensions = schema.dimensions.as_slice();

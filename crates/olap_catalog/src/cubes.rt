@@ -1,7 +1,8 @@
 //! The cubes of a schema over its dimensions, and which hierarchies each of them has.
 ghost use Rattle.std.specs.Prelude.{◌≡◌, ◌≤◌, ◌++◌, length, map, flat_map, filter_map, IfOk, OnOk};
+ghost use Rattle.olap_meaning.specs.FullNames.{joined_name};
 ghost use Rattle.olap_meaning.specs.Schema.{cube_over, dimension_place};
-ghost use Rattle.olap_catalog.specs.Roots.{hierarchies_among, joined_name, full_name_in, measure_names, root_names_in, name_at};
+ghost use Rattle.olap_catalog.specs.Roots.{hierarchies_among, full_name_in, measure_names, root_names_in, name_at};
 
 use olap_meaning::schema::{DIMENSION_LIMIT, LEVEL_LIMIT, SchemaCube, SchemaDimension, SchemaUse};
 use olap_meaning::tables::{Cube, Hierarchy, Measure};
@@ -35,7 +36,9 @@ fn places_of(
     uses: &[SchemaUse],
 ) -> Result<List<u32>, OutOfMemory>
     requires { length dimensions.now ≤ DIMENSION_LIMIT }
-    ensures { IfOk result (λ places. places ≡ filter_map (λ used. dimension_place dimensions.now used.source) uses.now) }
+    ensures { IfOk result
+        (λ places. places
+        ≡ filter_map (λ used. dimension_place dimensions.now used.source) uses.now) }
 {
     let mut places = List::new(alloc);
     for used in uses {
@@ -85,7 +88,9 @@ pub(crate) fn roots_of(
     cubes: &[Cube],
 ) -> Result<List<List<HierarchyId>>, OutOfMemory>
     requires { length hierarchies.now ≤ LEVEL_LIMIT }
-    ensures { IfOk result (λ roots. roots ≡ map (λ cube. flat_map (hierarchies_among hierarchies.now) cube.dimensions) cubes.now) }
+    ensures { IfOk result
+        (λ roots. roots
+        ≡ map (λ cube. flat_map (hierarchies_among hierarchies.now) cube.dimensions) cubes.now) }
 {
     let mut roots = List::new(alloc);
     for cube in cubes {
@@ -101,7 +106,8 @@ fn hierarchies_over(
     dimensions: &[u32],
 ) -> Result<List<HierarchyId>, OutOfMemory>
     requires { length hierarchies.now ≤ LEVEL_LIMIT }
-    ensures { IfOk result (λ found. found ≡ flat_map (hierarchies_among hierarchies.now) dimensions.now) }
+    ensures { IfOk result
+        (λ found. found ≡ flat_map (hierarchies_among hierarchies.now) dimensions.now) }
 {
     let mut found = List::new(alloc);
     for dimension in dimensions {

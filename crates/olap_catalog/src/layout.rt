@@ -32,7 +32,9 @@ fn add_dimension(
     hierarchies: &[SchemaHierarchy],
 ) -> Result<(), OutOfMemory>
     requires { length (flat_map (λ h. h.levels) hierarchies.now) ≤ LEVEL_LIMIT }
-    ensures { OnOk result (columns.new ≡ columns.old ++ columns_from dimension 0 (flat_map (λ h. h.levels) hierarchies.now)) }
+    ensures { OnOk result
+        (columns.new
+        ≡ columns.old ++ columns_from dimension 0 (flat_map (λ h. h.levels) hierarchies.now)) }
 {
     let mut field = 0u32;
     for hierarchy in hierarchies {
@@ -97,8 +99,10 @@ fn add_hierarchies(
     hierarchies: &[SchemaHierarchy],
 ) -> Result<u32, OutOfMemory>
     requires { first + length (flat_map (λ h. h.levels) hierarchies.now) ≤ LEVEL_LIMIT }
-    ensures ok { OnOk result (built.new ≡ built.old ++ hierarchies_from dimension first hierarchies.now) }
-    ensures next { IfOk result (λ next. next ≡ first + length (flat_map (λ h. h.levels) hierarchies.now)) }
+    ensures ok { OnOk result
+        (built.new ≡ built.old ++ hierarchies_from dimension first hierarchies.now) }
+    ensures next { IfOk result
+        (λ next. next ≡ first + length (flat_map (λ h. h.levels) hierarchies.now)) }
 {
     let mut column = first;
     for hierarchy in hierarchies {

@@ -5,18 +5,13 @@
 
 mod catalog;
 mod cubes;
-mod dimension;
 mod fault;
-mod field;
 mod layout;
 mod lookups;
 mod members;
-mod names;
 mod paths;
 mod shared;
-mod table;
 mod values;
 
 pub use catalog::{Catalog, build_catalog};
 pub use fault::NameFault;
-pub use table::Table;

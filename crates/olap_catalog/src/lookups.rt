@@ -1,10 +1,9 @@
 //! Names of cubes, and what the first name of a path means.
-ghost use Rattle.std.specs.Prelude.{◌≡◌, ◌<◌, ◌+◌, ◌∷◌, slice_get, option_and_then, length, map, position, bytes_eq, IfSome};
+ghost use Rattle.std.specs.Prelude.{◌≡◌, ◌<◌, ◌+◌, ◌∷◌, slice_get, option_and_then, length, map, IfSome};
 ghost use Rattle.olap_meaning.specs.Catalog as meaning;
-ghost use Rattle.olap_catalog.specs.Names.{is_but_case};
 
 use crate::catalog::Catalog;
-use crate::members::is_but_case;
+use catalog_tables::match_of;
 use olap_meaning::{CubeId, HierarchyId, LevelRef, Text};
 
 impl Catalog {
@@ -34,36 +33,13 @@ impl Catalog {
 // The measures or the hierarchy that a name means, by the names of these.
 fn root_at(names: &[Text], hierarchies: &[HierarchyId], name: &str) -> Option<LevelRef>
     requires { length names.now ≡ length hierarchies.now + 1 }
-    ensures { result ≡ option_and_then (slice_get (LevelRef.Measures ∷ map LevelRef.Whole hierarchies.now)) (meaning.match_of name.now names.now) }
+    ensures { result
+        ≡ option_and_then (slice_get (LevelRef.Measures ∷ map LevelRef.Whole hierarchies.now))
+        (meaning.match_of name.now names.now) }
 {
     match match_of(name, names) {
         None => None,
         Some(0) => Some(LevelRef::Measures),
         Some(i) => Some(LevelRef::Whole(hierarchies[i - 1])),
     }
-}
-
-// The place of the name that a name means: of its first exact match, or else of its first match but for case.
-pub(crate) fn match_of(name: &str, names: &[Text]) -> Option<usize>
-    ensures matched { result ≡ meaning.match_of name.now names.now }
-    ensures within { IfSome result (λ i. i < length names.now) }
-{
-    match exact_match(name, names) {
-        Some(place) => Some(place),
-        None => match_but_case(name, names),
-    }
-}
-
-fn exact_match(name: &str, names: &[Text]) -> Option<usize>
-    ensures { result ≡ position (bytes_eq name.now) names.now }
-{
-    names.iter().position(|other| name == other.as_str())
-}
-
-fn match_but_case(name: &str, names: &[Text]) -> Option<usize>
-    ensures { result ≡ position (is_but_case name.now) names.now }
-{
-    names
-        .iter()
-        .position(|other| is_but_case(name, other.as_str()))
 }

@@ -1,11 +1,12 @@
 //! Members of hierarchies: their names, and the columns and values that they stand for.
-ghost use Rattle.std.specs.Prelude.{◌≡◌, ◌<◌, ◌≤◌, ℕ, ◌⊎◌, ◌∷◌, ◌++◌, [], true, None, Some, Ok, Err, length, position, slice_get, bytes_eq, nat_eq, filter_map, IfOk, IfErr, IfSome, unwrap_or, option_copied};
+ghost use Rattle.std.specs.Prelude.{◌≡◌, ◌<◌, ◌≤◌, ℕ, ◌⊎◌, ◌∷◌, ◌++◌, [], true, None, Some, Ok, Err, length, position, slice_get, nat_eq, filter_map, IfOk, IfErr, IfSome, unwrap_or, option_copied};
 ghost use Rattle.std.specs.List.{list_all, find, cons_option};
 ghost use Rattle.olap_meaning.specs.Catalog as meaning;
-ghost use Rattle.olap_catalog.specs.Names.{is_but_case};
-ghost use Rattle.olap_catalog.specs.Members.{is_there, next_of, text_of, has_text, is_like, values_below, HasLevels, child_text, child_values, is_known};
+ghost use Rattle.catalog_tables.specs.Names.{is_alike};
+ghost use Rattle.olap_catalog.specs.Members.{is_there, next_of, has_text, values_below, HasLevels, child_text, child_values, is_known};
 
 use crate::catalog::Catalog;
+use catalog_tables::Likeness;
 use olap_meaning::tables::Hierarchy;
 use olap_meaning::{ColumnId, HierarchyId, LeafId, ValueId};
 
@@ -24,7 +25,9 @@ impl Catalog {
         requires deep { length path.now < length hierarchy.now.levels }
         requires levels { list_all (is_there self.now leaf) hierarchy.now.levels ≡ true }
         ensures next { result ≡ next_of path.now (meaning.path_of self.now hierarchy.now leaf) }
-        ensures value { (column : ℕ) → slice_get hierarchy.now.levels (length path.now) ≡ Some column → IfSome result (λ v. v < length (meaning.values self.now column)) }
+        ensures value { (column : ℕ)
+            → slice_get hierarchy.now.levels (length path.now) ≡ Some column
+            → IfSome result (λ v. v < length (meaning.values self.now column)) }
     {
         let levels = hierarchy.levels.as_slice();
         for i in 0..path.len() {
@@ -35,91 +38,52 @@ impl Catalog {
         Some(self.leaf_value(levels[path.len()], leaf))
     }
 
-    // The first child of a path with exactly this name, by its value.
-    fn first_named(
+    // The first child of a path whose name is so much like this one, by its value.
+    fn first_alike(
         &self,
         hierarchy: &Hierarchy,
         path: &[ValueId],
         column: ColumnId,
+        likeness: Likeness,
         name: &str,
     ) -> Option<ValueId>
         requires level { slice_get hierarchy.now.levels (length path.now) ≡ Some column }
         requires known { column < length self.now.columns }
         requires levels { HasLevels self.now hierarchy.now }
-        ensures { result ≡ find (has_text self.now column name.now) (values_below self.now hierarchy.now path.now) }
+        ensures { result
+            ≡ find (has_text self.now column likeness name.now)
+            (values_below self.now hierarchy.now path.now) }
     {
         for leaf in 0..self.leaf_count(hierarchy.dimension) {
-            if let Some(value) = self.named_at(hierarchy, path, column, name, LeafId(leaf)) {
+            let found = self.alike_at(hierarchy, path, column, likeness, name, LeafId(leaf));
+            if let Some(value) = found {
                 return Some(value);
             }
         }
         None
     }
 
-    // The value of a leaf in the level below a path, where it is below the path and the value is one with exactly this name.
-    fn named_at(
+    // The value of a leaf in the level below a path, where it is below the path and the value's name is so much like this one.
+    fn alike_at(
         &self,
         hierarchy: &Hierarchy,
         path: &[ValueId],
         column: ColumnId,
+        likeness: Likeness,
         name: &str,
         leaf: LeafId,
     ) -> Option<ValueId>
         requires level { slice_get hierarchy.now.levels (length path.now) ≡ Some column }
         requires known { column < length self.now.columns }
         requires levels { list_all (is_there self.now leaf) hierarchy.now.levels ≡ true }
-        ensures { result ≡ find (has_text self.now column name.now) (cons_option (next_of path.now (meaning.path_of self.now hierarchy.now leaf)) []) }
+        ensures { result
+            ≡ find (has_text self.now column likeness name.now)
+            (cons_option (next_of path.now (meaning.path_of self.now hierarchy.now leaf)) []) }
     {
         match self.next_below(hierarchy, path, leaf) {
             None => None,
             Some(value) => {
-                if self.has_text(column, value, name) {
-                    return Some(value);
-                }
-                None
-            }
-        }
-    }
-
-    // The first child of a path with this name but for the case of ASCII letters, by its value.
-    fn first_like(
-        &self,
-        hierarchy: &Hierarchy,
-        path: &[ValueId],
-        column: ColumnId,
-        name: &str,
-    ) -> Option<ValueId>
-        requires level { slice_get hierarchy.now.levels (length path.now) ≡ Some column }
-        requires known { column < length self.now.columns }
-        requires levels { HasLevels self.now hierarchy.now }
-        ensures { result ≡ find (is_like self.now column name.now) (values_below self.now hierarchy.now path.now) }
-    {
-        for leaf in 0..self.leaf_count(hierarchy.dimension) {
-            if let Some(value) = self.like_at(hierarchy, path, column, name, LeafId(leaf)) {
-                return Some(value);
-            }
-        }
-        None
-    }
-
-    // The value of a leaf in the level below a path, where it is below the path and the value is one with this name but for the case of ASCII letters.
-    fn like_at(
-        &self,
-        hierarchy: &Hierarchy,
-        path: &[ValueId],
-        column: ColumnId,
-        name: &str,
-        leaf: LeafId,
-    ) -> Option<ValueId>
-        requires level { slice_get hierarchy.now.levels (length path.now) ≡ Some column }
-        requires known { column < length self.now.columns }
-        requires levels { list_all (is_there self.now leaf) hierarchy.now.levels ≡ true }
-        ensures { result ≡ find (is_like self.now column name.now) (cons_option (next_of path.now (meaning.path_of self.now hierarchy.now leaf)) []) }
-    {
-        match self.next_below(hierarchy, path, leaf) {
-            None => None,
-            Some(value) => {
-                if self.is_like(column, value, name) {
+                if self.has_text(column, value, likeness, name) {
                     return Some(value);
                 }
                 None
@@ -130,39 +94,31 @@ impl Catalog {
     // A hierarchy, None where the schema has none of this place.
     pub(crate) fn hierarchy_at(&self, h: HierarchyId) -> Option<&Hierarchy>
         ensures shown { option_copied result ≡ slice_get self.now.hierarchies h }
-        ensures known { IfSome result (λ hierarchy. list_all (is_known self.now) hierarchy.now.levels ≡ true) }
+        ensures known { IfSome result
+            (λ hierarchy. list_all (is_known self.now) hierarchy.now.levels ≡ true) }
         ensures levels { IfSome result (λ hierarchy. HasLevels self.now hierarchy.now) }
     {
         self.hierarchies.get(h.0 as usize)
     }
 
-    // The first child of a path with exactly this name, by its value.
-    pub(crate) fn child_named(
+    // The first child of a path whose name is so much like this one, by its value.
+    pub(crate) fn child_alike(
         &self,
         h: HierarchyId,
         path: &[ValueId],
+        likeness: Likeness,
         name: &str,
     ) -> Option<ValueId>
-        ensures { result ≡ find (λ value. bytes_eq name.now (child_text self.now h path.now value)) (child_values self.now h path.now) }
+        ensures { result
+            ≡ find
+            (λ value. is_alike likeness name.now (child_text self.now h path.now value))
+            (child_values self.now h path.now) }
     {
         match self.hierarchy_at(h) {
             None => None,
             Some(hierarchy) => match hierarchy.levels.get(path.len()) {
                 None => None,
-                Some(column) => self.first_named(hierarchy, path, *column, name),
-            },
-        }
-    }
-
-    // The first child of a path with this name but for the case of ASCII letters, by its value.
-    pub(crate) fn child_like(&self, h: HierarchyId, path: &[ValueId], name: &str) -> Option<ValueId>
-        ensures { result ≡ find (λ value. is_but_case name.now (child_text self.now h path.now value)) (child_values self.now h path.now) }
-    {
-        match self.hierarchy_at(h) {
-            None => None,
-            Some(hierarchy) => match hierarchy.levels.get(path.len()) {
-                None => None,
-                Some(column) => self.first_like(hierarchy, path, *column, name),
+                Some(column) => self.first_alike(hierarchy, path, *column, likeness, name),
             },
         }
     }
@@ -196,28 +152,12 @@ impl Catalog {
         None
     }
 
-    // Whether a value has this text.
-    fn has_text(&self, column: ColumnId, value: ValueId, name: &str) -> bool
+    // Whether a value's text is so much like this name.
+    fn has_text(&self, column: ColumnId, value: ValueId, likeness: Likeness, name: &str) -> bool
         requires known { column < length self.now.columns }
         requires there { value < length (meaning.values self.now column) }
-        ensures { result ≡ has_text self.now column name.now value }
+        ensures { result ≡ has_text self.now column likeness name.now value }
     {
-        name == self.value_name(column, value)
+        likeness.holds(name, self.value_name(column, value))
     }
-
-    // Whether a value has this text but for the case of ASCII letters.
-    fn is_like(&self, column: ColumnId, value: ValueId, name: &str) -> bool
-        requires known { column < length self.now.columns }
-        requires there { value < length (meaning.values self.now column) }
-        ensures { result ≡ is_like self.now column name.now value }
-    {
-        is_but_case(name, self.value_name(column, value))
-    }
-}
-
-/// Whether two names are the same but for the case of ASCII letters.
-pub(crate) fn is_but_case(name: &str, other: &str) -> bool
-    ensures { result ≡ is_but_case name.now other.now }
-{
-    name.eq_ignore_ascii_case(other)
 }

@@ -4,43 +4,50 @@ ghost use Rattle.std.specs.Option.{option_or};
 ghost use Rattle.std.specs.List.{zip};
 ghost use Rattle.olap_meaning.specs.History.{is_some_and};
 ghost use Rattle.olap_meaning.specs.Catalog as meaning;
-ghost use Rattle.olap_catalog.specs.Names.{is_but_case};
+ghost use Rattle.catalog_tables.specs.Names.{is_alike, is_but_case};
 ghost use Rattle.olap_catalog.specs.MemberOf.{IsMemberOf};
 ghost use Rattle.olap_catalog.specs.Members.{all_text, below_by, onward, members_below, spot, member_or_fault, from_root_or_fault};
 
 use crate::catalog::Catalog;
 use crate::fault::NameFault;
-use crate::lookups::match_of;
-use crate::members::{Below, is_but_case};
+use crate::members::Below;
+use catalog_tables::{Likeness, match_of};
 use olap_meaning::{
     ColumnId, CubeId, HierarchyId, LevelRef, List, MeasureId, Member, OutOfMemory, Text, ValueId,
 };
 use std::alloc::Global;
 
 impl Catalog {
-    // Whether a hierarchy has an all member of exactly this name.
-    fn all_is(&self, h: HierarchyId, name: &str) -> bool
-        ensures { result ≡ is_some_and (bytes_eq name.now) (all_text self.now h) }
+    // Whether a hierarchy has an all member whose name is so much like this one.
+    fn all_is(&self, h: HierarchyId, likeness: Likeness, name: &str) -> bool
+        ensures { result ≡ is_some_and (is_alike likeness name.now) (all_text self.now h) }
     {
         match self.hierarchies.get(h.0 as usize) {
             None => false,
             Some(hierarchy) => match &hierarchy.all_member {
                 None => false,
-                Some(all) => name == all.as_str(),
+                Some(all) => likeness.holds(name, all.as_str()),
             },
         }
     }
 
-    // Whether a hierarchy has an all member of this name but for the case of ASCII letters.
-    fn all_is_like(&self, h: HierarchyId, name: &str) -> bool
-        ensures { result ≡ is_some_and (is_but_case name.now) (all_text self.now h) }
+    // The first below a path whose name is so much like this one, with the all member before them where it is asked for.
+    fn find_alike(
+        &self,
+        h: HierarchyId,
+        with_all: bool,
+        path: &[ValueId],
+        likeness: Likeness,
+        name: &str,
+    ) -> Option<Below>
+        ensures { result ≡ below_by (is_alike likeness name.now) self.now h with_all path.now }
     {
-        match self.hierarchies.get(h.0 as usize) {
-            None => false,
-            Some(hierarchy) => match &hierarchy.all_member {
-                None => false,
-                Some(all) => is_but_case(name, all.as_str()),
-            },
+        if with_all && self.all_is(h, likeness, name) {
+            return Some(Below::All);
+        }
+        match self.child_alike(h, path, likeness, name) {
+            None => None,
+            Some(value) => Some(Below::Child(value)),
         }
     }
 
@@ -52,20 +59,13 @@ impl Catalog {
         path: &[ValueId],
         name: &str,
     ) -> Option<Below>
-        ensures { result ≡ option_or (below_by (bytes_eq name.now) self.now h with_all path.now) (below_by (is_but_case name.now) self.now h with_all path.now) }
+        ensures { result
+            ≡ option_or (below_by (bytes_eq name.now) self.now h with_all path.now)
+            (below_by (is_but_case name.now) self.now h with_all path.now) }
     {
-        if with_all && self.all_is(h, name) {
-            return Some(Below::All);
-        }
-        if let Some(value) = self.child_named(h, path, name) {
-            return Some(Below::Child(value));
-        }
-        if with_all && self.all_is_like(h, name) {
-            return Some(Below::All);
-        }
-        match self.child_like(h, path, name) {
-            None => None,
-            Some(value) => Some(Below::Child(value)),
+        match self.find_alike(h, with_all, path, Likeness::Exact, name) {
+            Some(below) => Some(below),
+            None => self.find_alike(h, with_all, path, Likeness::ButCase, name),
         }
     }
 
@@ -101,8 +101,16 @@ impl Catalog {
         name: &Text,
     ) -> Result<List<ValueId>, NameFault>
         requires { with_all ≡ true → path ≡ [] }
-        ensures ok { IfOk result (λ longer. (cube : ℕ) → meaning.named self.now cube (members_below self.now h with_all path) name.now ≡ Ok (spot h longer)) }
-        ensures err { IfErr result (λ e. (e ≡ NameFault.OutOfMemory) ⊎ ((e ≡ NameFault.UnknownMember name.now) × ((cube : ℕ) → meaning.named self.now cube (members_below self.now h with_all path) name.now ≡ Err name.now))) }
+        ensures ok { IfOk result
+            (λ longer. (cube : ℕ)
+            → meaning.named self.now cube (members_below self.now h with_all path) name.now
+            ≡ Ok (spot h longer)) }
+        ensures err { IfErr result
+            (λ e. (e ≡ NameFault.OutOfMemory)
+            ⊎ ((e ≡ NameFault.UnknownMember name.now)
+            × ((cube : ℕ)
+            → meaning.named self.now cube (members_below self.now h with_all path) name.now
+            ≡ Err name.now))) }
     {
         let below = match self.find_below(h, with_all, path.as_slice(), name.as_str()) {
             None => return Err(unknown(name)),
@@ -123,8 +131,11 @@ impl Catalog {
         path: &[Text],
     ) -> Result<Member, NameFault>
         requires { 0 < length path.now }
-        ensures ok { IfOk result (λ member. from_root_or_fault self.now cube (LevelRef.Whole h) path.now ≡ Ok member) }
-        ensures err { IfErr result (λ e. (e ≡ NameFault.OutOfMemory) ⊎ (from_root_or_fault self.now cube (LevelRef.Whole h) path.now ≡ Err e)) }
+        ensures ok { IfOk result
+            (λ member. from_root_or_fault self.now cube (LevelRef.Whole h) path.now ≡ Ok member) }
+        ensures err { IfErr result
+            (λ e. (e ≡ NameFault.OutOfMemory)
+            ⊎ (from_root_or_fault self.now cube (LevelRef.Whole h) path.now ≡ Err e)) }
     {
         let first = match self.default_below(h) {
             None => return Err(unknown(&path[0])),
@@ -154,8 +165,11 @@ impl Catalog {
     fn measure_named(&self, cube: CubeId, path: &[Text]) -> Result<Member, NameFault>
         requires known { cube < length self.now.cubes }
         requires named { 0 < length path.now }
-        ensures ok { IfOk result (λ member. from_root_or_fault self.now cube LevelRef.Measures path.now ≡ Ok member) }
-        ensures err { IfErr result (λ e. (e ≡ NameFault.OutOfMemory) ⊎ (from_root_or_fault self.now cube LevelRef.Measures path.now ≡ Err e)) }
+        ensures ok { IfOk result
+            (λ member. from_root_or_fault self.now cube LevelRef.Measures path.now ≡ Ok member) }
+        ensures err { IfErr result
+            (λ e. (e ≡ NameFault.OutOfMemory)
+            ⊎ (from_root_or_fault self.now cube LevelRef.Measures path.now ≡ Err e)) }
     {
         let names = &self.measure_names.as_slice()[cube.0 as usize];
         if names.is_empty() {
@@ -190,7 +204,8 @@ impl Catalog {
         requires named { 0 < length path.now }
         ensures ok { IfOk result (λ member. member_or_fault self.now cube path.now ≡ Ok member) }
         ensures own { IfOk result (λ member. IsMemberOf self.now cube member) }
-        ensures err { IfErr result (λ e. (e ≡ NameFault.OutOfMemory) ⊎ (member_or_fault self.now cube path.now ≡ Err e)) }
+        ensures err { IfErr result
+            (λ e. (e ≡ NameFault.OutOfMemory) ⊎ (member_or_fault self.now cube path.now ≡ Err e)) }
     {
         let _ = &self.hierarchies;
         let root = match self.find_root(cube, path[0].as_str()) {
@@ -211,8 +226,11 @@ impl Catalog {
         alloc: Global,
         h: HierarchyId,
     ) -> Result<Option<Member>, OutOfMemory>
-        ensures found { IfOk result (λ found. (cube : ℕ) → meaning.default_member self.now cube (LevelRef.Whole h) ≡ found) }
-        ensures own { IfOk result (λ found. IfSome found (λ member. (cube : ℕ) → IsMemberOf self.now cube member)) }
+        ensures found { IfOk result
+            (λ found. (cube : ℕ)
+            → meaning.default_member self.now cube (LevelRef.Whole h) ≡ found) }
+        ensures own { IfOk result
+            (λ found. IfSome found (λ member. (cube : ℕ) → IsMemberOf self.now cube member)) }
     {
         let _ = &self.hierarchies;
         let Some(first) = self.default_below(h) else {

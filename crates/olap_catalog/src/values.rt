@@ -7,7 +7,7 @@ ghost use Rattle.olap_catalog.specs.Columns.{column_texts, column_leaves};
 ghost use Rattle.olap_catalog.specs.Parts.{has_levels};
 
 use crate::catalog::Catalog;
-use crate::field::FieldColumn;
+use catalog_tables::FieldColumn;
 use olap_meaning::schema::{CUBE_LIMIT, LEVEL_LIMIT, Schema};
 use olap_meaning::tables::{Column, Cube, Hierarchy};
 use olap_meaning::{ColumnId, CubeId, HierarchyId, LeafId, LevelRef, ValueId};
@@ -46,9 +46,10 @@ impl Catalog {
 
     /// How the columns of its levels stand: those of a hierarchy are of its dimension, and they rise, one hierarchy after
     /// another. This costs nothing.
-    pub fn is_laid_out(&self)
+    pub fn layout_holds(&self)
         ensures levels { list_all (has_levels self.now.columns) self.now.hierarchies ≡ true }
-        ensures rising { rise (flat_map (λ hierarchy. hierarchy.levels) self.now.hierarchies) ≡ true }
+        ensures rising { rise (flat_map (λ hierarchy. hierarchy.levels) self.now.hierarchies)
+            ≡ true }
     {
         let _ = &self.hierarchies;
     }

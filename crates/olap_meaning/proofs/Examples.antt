@@ -177,6 +177,10 @@ cell_of_catalog = refl
 cell_not_rising : is_cell catalog (cell ((1, 1) ∷ (0, 0) ∷ [])) ≡ false
 cell_not_rising = refl
 
+-- a column of the catalog that is of no dimension of the cell's cube
+cell_of_other_dimension : is_cell catalog (cell ((2, 0) ∷ [])) ≡ false
+cell_of_other_dimension = refl
+
 flushable : is_flushable catalog first_quarter ≡ true
 flushable = refl
 

@@ -3,6 +3,7 @@ use Rattle.std.specs.Prelude.{Result, Ok, Err, ok_or, ℕ, zero, suc, List, [], 
 use Rattle.std.specs.List.{starts_with, enumerate_from, zip}
 use Rattle.std.specs.Str.{str_to_ascii_lowercase}
 use Rattle.std.specs.Option.{option_or, option_map_or}
+use Rattle.olap_meaning.specs.FullNames.{joined_name}
 use Rattle.olap_meaning.specs.declared.tables.Record.{Record}
 use Rattle.olap_meaning.specs.declared.tables.Hierarchy.{Hierarchy}
 use Rattle.olap_meaning.specs.declared.tables.Cube.{Cube}
@@ -15,11 +16,13 @@ use Rattle.olap_meaning.specs.declared.cells.LevelRef.TheVariants.{Measures, Who
 -- each text once, by first appearance
 abbrev pub first_appearances : List (List ℕ) → List (List ℕ)
 first_appearances [] = []
-first_appearances (text ∷ texts) = text ∷ filter (λ other. not (bytes_eq text other)) (first_appearances texts)
+first_appearances (text ∷ texts) =
+    text ∷ filter (λ other. not (bytes_eq text other)) (first_appearances texts)
 
 -- the records of a dimension's table
 abbrev pub records : Catalog → ℕ → List Record
-records catalog dimension = option_map_or (λ d. d.records) (slice_get catalog.dimensions dimension) []
+records catalog dimension =
+    option_map_or (λ d. d.records) (slice_get catalog.dimensions dimension) []
 
 -- the texts of one field, record by record
 abbrev pub field_texts : ℕ → List Record → List (List ℕ)
@@ -27,7 +30,10 @@ field_texts field rs = filter_map (λ r. slice_get r.fields field) rs
 
 -- the values of a column, numbered from 0 by first appearance
 abbrev pub values : Catalog → ℕ → List (List ℕ)
-values catalog column = option_map_or (λ c. first_appearances (field_texts c.field (records catalog c.dimension))) (slice_get catalog.columns column) []
+values catalog column =
+    option_map_or
+    (λ c. first_appearances (field_texts c.field (records catalog c.dimension)))
+    (slice_get catalog.columns column) []
 
 -- the number of a value, by its text
 abbrev pub value_number : Catalog → ℕ → List ℕ → Option ℕ
@@ -35,11 +41,16 @@ value_number catalog column text = position (bytes_eq text) (values catalog colu
 
 -- the text of a leaf in a column: the field of its record; a leaf is the number of one record
 abbrev pub leaf_text : Catalog → ℕ → ℕ → Option (List ℕ)
-leaf_text catalog column leaf = option_and_then (λ c. option_and_then (λ r. slice_get r.fields c.field) (slice_get (records catalog c.dimension) leaf)) (slice_get catalog.columns column)
+leaf_text catalog column leaf =
+    option_and_then
+    (λ c. option_and_then
+    (λ r. slice_get r.fields c.field) (slice_get (records catalog c.dimension) leaf))
+    (slice_get catalog.columns column)
 
 -- the value of a leaf in a column
 abbrev pub leaf_value : Catalog → ℕ → ℕ → Option ℕ
-leaf_value catalog column leaf = option_and_then (value_number catalog column) (leaf_text catalog column leaf)
+leaf_value catalog column leaf =
+    option_and_then (value_number catalog column) (leaf_text catalog column leaf)
 
 -- the fact columns of a cube: those that its measures name, each once, in the order of the measures
 abbrev pub fact_columns : Cube → List (List ℕ)
@@ -47,72 +58,112 @@ fact_columns cube = first_appearances (map (λ measure. measure.column) cube.mea
 
 -- the path of a leaf in a hierarchy: its values in the levels, from the top
 abbrev pub path_of : Catalog → Hierarchy → ℕ → List ℕ
-path_of catalog hierarchy leaf = filter_map (λ column. leaf_value catalog column leaf) hierarchy.levels
+path_of catalog hierarchy leaf =
+    filter_map (λ column. leaf_value catalog column leaf) hierarchy.levels
 
 -- the paths of all leaves, in the order of the table
 abbrev pub paths : Catalog → Hierarchy → List (List ℕ)
-paths catalog hierarchy = map (λ leaf. path_of catalog hierarchy leaf.0) (enumerate_from 0 (records catalog hierarchy.dimension))
+paths catalog hierarchy =
+    map
+    (λ leaf. path_of catalog hierarchy leaf.0)
+    (enumerate_from 0 (records catalog hierarchy.dimension))
 
 -- the paths one level below a path: the leaves' paths that go on from it, cut there, each once by first appearance
 abbrev pub paths_below : Catalog → Hierarchy → List ℕ → List (List ℕ)
 paths_below catalog hierarchy path =
     let depth = suc (length path) in
-    first_appearances (filter (λ below. length below == depth) (map (take depth) (filter (λ leaf. starts_with nat_eq leaf path) (paths catalog hierarchy))))
+    first_appearances
+    (filter
+    (λ below. length below == depth)
+    (map (take depth)
+    (filter (λ leaf. starts_with nat_eq leaf path) (paths catalog hierarchy))))
 
 -- the paths of a depth in hierarchical order: those below each path of the depth above, in turn
 abbrev pub paths_at : Catalog → Hierarchy → ℕ → List (List ℕ)
 paths_at catalog hierarchy zero = [] ∷ []
-paths_at catalog hierarchy (suc depth) = flat_map (paths_below catalog hierarchy) (paths_at catalog hierarchy depth)
+paths_at catalog hierarchy (suc depth) =
+    flat_map (paths_below catalog hierarchy) (paths_at catalog hierarchy depth)
 
--- the paths of some levels below a path in hierarchical order: each before those below it, and those before its next sibling
+-- the paths of some levels below a path in hierarchical order: each before those below it, and those before its next
+-- sibling
 abbrev pub paths_under : Catalog → Hierarchy → ℕ → List ℕ → List (List ℕ)
 paths_under catalog hierarchy zero path = []
-paths_under catalog hierarchy (suc levels) path = flat_map (λ below. below ∷ paths_under catalog hierarchy levels below) (paths_below catalog hierarchy path)
+paths_under catalog hierarchy (suc levels) path =
+    flat_map
+    (λ below. below ∷ paths_under catalog hierarchy levels below)
+    (paths_below catalog hierarchy path)
 
 -- the all member of a hierarchy, where it has one (Schema Guide, "The 'all' member")
 abbrev pub all_member : Catalog → ℕ → List Member
-all_member catalog h = option_map_or (λ name. member.All h ∷ []) (option_and_then (λ hierarchy. hierarchy.all_member) (slice_get catalog.hierarchies h)) []
+all_member catalog h =
+    option_map_or
+    (λ name. member.All h ∷ [])
+    (option_and_then (λ hierarchy. hierarchy.all_member) (slice_get catalog.hierarchies h)) []
 
 -- the members of a hierarchy with some paths
 abbrev pub members_with : Catalog → ℕ → (Hierarchy → List (List ℕ)) → List Member
-members_with catalog h paths_in = map (member.At h) (option_map_or paths_in (slice_get catalog.hierarchies h) [])
+members_with catalog h paths_in =
+    map (member.At h) (option_map_or paths_in (slice_get catalog.hierarchies h) [])
 
--- the children of a member: none of a measure; of the all member those of the first level; else those one level below; by first appearance
+-- the children of a member: none of a measure; of the all member those of the first level; else those one level
+-- below; by first appearance
 abbrev pub children : Catalog → Member → List Member
 children catalog (member.Measure m) = []
-children catalog (member.All h) = members_with catalog h (λ hierarchy. paths_below catalog hierarchy [])
-children catalog (member.At h path) = members_with catalog h (λ hierarchy. paths_below catalog hierarchy path)
+children catalog (member.All h) =
+    members_with catalog h (λ hierarchy. paths_below catalog hierarchy [])
+children catalog (member.At h path) =
+    members_with catalog h (λ hierarchy. paths_below catalog hierarchy path)
 
 -- the measures of a cube, as members
 abbrev pub measure_members : Catalog → ℕ → List Member
-measure_members catalog cube = map (λ m. member.Measure m.0) (enumerate_from 0 (option_map_or (λ c. c.measures) (slice_get catalog.cubes cube) []))
+measure_members catalog cube =
+    map
+    (λ m. member.Measure m.0)
+    (enumerate_from 0 (option_map_or (λ c. c.measures) (slice_get catalog.cubes cube) []))
 
--- the members of some levels of a cube in hierarchical order: the measures; or the all member and all others; or those of one level
+-- the members of some levels of a cube in hierarchical order: the measures; or the all member and all others; or
+-- those of one level
 abbrev pub level_members : Catalog → ℕ → LevelRef → List Member
 level_members catalog cube Measures = measure_members catalog cube
-level_members catalog cube (Whole h) = all_member catalog h ++ members_with catalog h (λ hierarchy. paths_under catalog hierarchy (length hierarchy.levels) [])
-level_members catalog cube (One h level) = members_with catalog h (λ hierarchy. paths_at catalog hierarchy (suc level))
+level_members catalog cube (Whole h) =
+    all_member catalog h
+    ++ members_with catalog h
+    (λ hierarchy. paths_under catalog hierarchy (length hierarchy.levels) [])
+level_members catalog cube (One h level) =
+    members_with catalog h (λ hierarchy. paths_at catalog hierarchy (suc level))
 
--- the box of a member: the hierarchy's first columns with the values of its path; empty for a measure and for the all member
+-- the box of a member: the hierarchy's first columns with the values of its path; empty for a measure and for the all
+-- member
 abbrev pub box : Catalog → Member → List (ℕ × ℕ)
 box catalog (member.Measure m) = []
 box catalog (member.All h) = []
-box catalog (member.At h path) = option_map_or (λ hierarchy. zip hierarchy.levels path) (slice_get catalog.hierarchies h) []
+box catalog (member.At h path) =
+    option_map_or (λ hierarchy. zip hierarchy.levels path) (slice_get catalog.hierarchies h) []
 
--- the place of a name in a list: of its first exact match, or else of the first that differs in the case of ASCII letters alone
+-- the place of a name in a list: of its first exact match, or else of the first that differs in the case of ASCII
+-- letters alone
 abbrev pub match_of : List ℕ → List (List ℕ) → Option ℕ
 match_of name names =
-    option_or (position (bytes_eq name) names) (position (λ other. bytes_eq (str_to_ascii_lowercase name) (str_to_ascii_lowercase other)) names)
+    option_or (position (bytes_eq name) names)
+    (position
+    (λ other. bytes_eq (str_to_ascii_lowercase name) (str_to_ascii_lowercase other)) names)
 
 -- the name of a member: a measure's, the all member's, or the text of the path's last value
 abbrev pub member_name : Catalog → ℕ → Member → List ℕ
-member_name catalog cube (member.Measure m) = option_map_or (λ measure. measure.name) (option_and_then (λ c. slice_get c.measures m) (slice_get catalog.cubes cube)) []
-member_name catalog cube (member.All h) = unwrap_or (option_and_then (λ hierarchy. hierarchy.all_member) (slice_get catalog.hierarchies h)) []
+member_name catalog cube (member.Measure m) =
+    option_map_or
+    (λ measure. measure.name)
+    (option_and_then (λ c. slice_get c.measures m) (slice_get catalog.cubes cube)) []
+member_name catalog cube (member.All h) =
+    unwrap_or
+    (option_and_then (λ hierarchy. hierarchy.all_member) (slice_get catalog.hierarchies h)) []
 member_name catalog cube (member.At h []) = []
 member_name catalog cube (member.At h (value ∷ rest)) =
     unwrap_or
     (option_and_then
-    (λ hierarchy. option_and_then (λ column. option_and_then (slice_get (values catalog column)) (slice_get (value ∷ rest) (length rest))) (slice_get hierarchy.levels (length rest)))
+    (λ hierarchy. option_and_then
+    (λ column. option_and_then (slice_get (values catalog column))
+    (slice_get (value ∷ rest) (length rest))) (slice_get hierarchy.levels (length rest)))
     (slice_get catalog.hierarchies h))
     []
 
@@ -122,21 +173,27 @@ find_cube catalog name = match_of name (map (λ cube. cube.name) catalog.cubes)
 
 -- the leaf with exactly this primary key
 abbrev pub find_leaf : Catalog → ℕ → List ℕ → Option ℕ
-find_leaf catalog dimension key = position (λ leaf. bytes_eq key leaf.key) (records catalog dimension)
+find_leaf catalog dimension key =
+    position (λ leaf. bytes_eq key leaf.key) (records catalog dimension)
 
 -- the full name of a hierarchy: its own where that is its dimension's, else the dimension's name, a dot, and its own
 abbrev pub full_name : Catalog → Hierarchy → List ℕ
 full_name catalog hierarchy =
-    let dimension = option_map_or (λ d. d.name) (slice_get catalog.dimensions hierarchy.dimension) [] in
-    if bytes_eq hierarchy.name dimension then hierarchy.name else dimension ++ codes "." ++ hierarchy.name
+    joined_name
+    (option_map_or
+    (λ d. d.name) (slice_get catalog.dimensions hierarchy.dimension) []) hierarchy.name
 
 -- the hierarchies of a dimension, in the schema's order
 abbrev pub hierarchies_in : Catalog → ℕ → List ℕ
-hierarchies_in catalog dimension = map (λ h. h.0) (filter (λ h. h.1.dimension == dimension) (enumerate_from 0 catalog.hierarchies))
+hierarchies_in catalog dimension =
+    map (λ h. h.0) (filter (λ h. h.1.dimension == dimension) (enumerate_from 0 catalog.hierarchies))
 
--- the hierarchies of a cube: those of its dimensions, in the order of its uses, and those of one dimension in the schema's order
+-- the hierarchies of a cube: those of its dimensions, in the order of its uses, and those of one dimension in the
+-- schema's order
 abbrev pub hierarchies_of : Catalog → ℕ → List ℕ
-hierarchies_of catalog cube = option_map_or (λ c. flat_map (hierarchies_in catalog) c.dimensions) (slice_get catalog.cubes cube) []
+hierarchies_of catalog cube =
+    option_map_or
+    (λ c. flat_map (hierarchies_in catalog) c.dimensions) (slice_get catalog.cubes cube) []
 
 -- what the first name of a path may mean: the measures, or a hierarchy of the cube
 abbrev pub roots : Catalog → ℕ → List LevelRef
@@ -146,7 +203,8 @@ roots catalog cube = Measures ∷ map Whole (hierarchies_of catalog cube)
 abbrev pub root_name : Catalog → LevelRef → List ℕ
 root_name catalog Measures = codes "Measures"
 root_name catalog (Whole h) = option_map_or (full_name catalog) (slice_get catalog.hierarchies h) []
-root_name catalog (One h level) = option_map_or (full_name catalog) (slice_get catalog.hierarchies h) []
+root_name catalog (One h level) =
+    option_map_or (full_name catalog) (slice_get catalog.hierarchies h) []
 
 -- the first members of a root: the measures; or the all member, where there is one, and then the first level's
 abbrev pub first_members : Catalog → ℕ → LevelRef → List Member
@@ -154,34 +212,49 @@ first_members catalog cube Measures = measure_members catalog cube
 first_members catalog cube (Whole h) = all_member catalog h ++ children catalog (member.All h)
 first_members catalog cube (One h level) = []
 
--- the default member of a root is the first of these: the first measure, the all member, or without one the first member of the first level
+-- the default member of a root is the first of these: the first measure, the all member, or without one the first
+-- member of the first level
 abbrev pub default_member : Catalog → ℕ → LevelRef → Option Member
 default_member catalog cube root = slice_get (first_members catalog cube root) 0
 
 -- goes on from a member that was found, or keeps the name without a match
-abbrev pub and_then : (Member → Result Member (List ℕ)) → Result Member (List ℕ) → Result Member (List ℕ)
+abbrev pub and_then : (Member → Result Member (List ℕ)) → Result Member (List ℕ)
+    → Result Member (List ℕ)
 and_then next (Ok found) = next found
 and_then next (Err unknown) = Err unknown
 
 -- the member of some that a name matches, or the name
 abbrev pub named : Catalog → ℕ → List Member → List ℕ → Result Member (List ℕ)
-named catalog cube members name = ok_or (option_and_then (slice_get members) (match_of name (map (member_name catalog cube) members))) name
+named catalog cube members name =
+    ok_or
+    (option_and_then (slice_get members)
+    (match_of name (map (member_name catalog cube) members))) name
 
--- the member that names lead to from one that was found and the members to look among next: each later name is looked for among the children of the member before
+-- the member that names lead to from one that was found and the members to look among next: each later name is looked
+-- for among the children of the member before
 abbrev pub named_below : Catalog → ℕ → List (List ℕ) → List Member → Member → Result Member (List ℕ)
 named_below catalog cube [] members found = Ok found
-named_below catalog cube (name ∷ names) members found = and_then (λ next. named_below catalog cube names (children catalog next) next) (named catalog cube members name)
+named_below catalog cube (name ∷ names) members found =
+    and_then
+    (λ next. named_below catalog cube names (children catalog next) next)
+    (named catalog cube members name)
 
 -- the root that a name means in a cube
 abbrev pub find_root : Catalog → ℕ → List ℕ → Option LevelRef
-find_root catalog cube name = option_and_then (slice_get (roots catalog cube)) (match_of name (map (root_name catalog) (roots catalog cube)))
+find_root catalog cube name =
+    option_and_then (slice_get (roots catalog cube))
+    (match_of name (map (root_name catalog) (roots catalog cube)))
 
 -- the member that the names after a root lead to: the root's default member where there are none
-abbrev pub member_from : Catalog → ℕ → List ℕ → List (List ℕ) → Option LevelRef → Result Member (List ℕ)
+abbrev pub member_from : Catalog → ℕ → List ℕ → List (List ℕ) → Option LevelRef
+    → Result Member (List ℕ)
 member_from catalog cube name names None = Err name
 member_from catalog cube name names (Some root) =
-    and_then (named_below catalog cube names (first_members catalog cube root)) (ok_or (default_member catalog cube root) name)
+    and_then (named_below catalog cube names (first_members catalog cube root))
+    (ok_or (default_member catalog cube root) name)
 
--- the member that a path of names means in a cube: the default member of a root alone; else as the names lead on; or the first name without a match
+-- the member that a path of names means in a cube: the default member of a root alone; else as the names lead on; or
+-- the first name without a match
 abbrev pub find_member : Catalog → ℕ → List ℕ → List (List ℕ) → Result Member (List ℕ)
-find_member catalog cube name names = member_from catalog cube name names (find_root catalog cube name)
+find_member catalog cube name names =
+    member_from catalog cube name names (find_root catalog cube name)

@@ -30,29 +30,49 @@ pairs_of (first ∷ second ∷ words) = option_map (λ pairs. (first, second) �
 
 -- the command that stands behind `cell`: FILE COLUMN AGGREGATOR { COLUMN VALUE }, each word by its place
 abbrev pub behind_cell : List ℕ → List ℕ → List ℕ → List (List ℕ) → Option CellCommand
-behind_cell file column name words = option_and_then (λ aggregator. option_map (λ pairs. record { file = file; query = record { column = column; aggregator = aggregator; pairs = pairs } }) (pairs_of words)) (aggregator_named name)
+behind_cell file column name words = option_and_then (λ aggregator. option_map (λ pairs.
+    record {
+      file = file;
+      query = record { column = column; aggregator = aggregator; pairs = pairs };
+    })
+    (pairs_of words)) (aggregator_named name)
 
--- the command of the words; None where they are no command line
-abbrev pub command_of : List (List ℕ) → Option CellCommand
-command_of [] = None
-command_of (first ∷ []) = None
-command_of (first ∷ file ∷ []) = None
-command_of (first ∷ file ∷ column ∷ []) = None
-command_of (first ∷ file ∷ column ∷ name ∷ words) = if bytes_eq first (codes "cell") then behind_cell file column name words else None
+-- the command of the words behind `cell`; None where one is wanting
+abbrev pub cell_command : List (List ℕ) → Option CellCommand
+cell_command [] = None
+cell_command (file ∷ []) = None
+cell_command (file ∷ column ∷ []) = None
+cell_command (file ∷ column ∷ name ∷ words) = behind_cell file column name words
 
 -- a word can stand as the file of an option: it is not empty, and does not begin with a hyphen
 abbrev pub is_file_word : List ℕ → Bool
 is_file_word [] = false
 is_file_word (c ∷ text) = not (c == 45)
 
--- the file of the option `--schema`, in two words, or in one with = between name and file, which is not empty
+-- the file of the option `--schema` in one word, with = between name and file, which is not empty
+abbrev pub joined_file : List ℕ → Option (List ℕ)
+joined_file option =
+    if starts_with nat_eq option (codes "--schema=") && not (bytes_eq option (codes "--schema="))
+    then Some (drop 9 option)
+    else None
+
+-- the file of the option `--schema`, in one word or in two; None where the words are no such option
 abbrev pub schema_file : List (List ℕ) → Option (List ℕ)
 schema_file [] = None
-schema_file (option ∷ []) = if starts_with nat_eq option (codes "--schema=") && not (bytes_eq option (codes "--schema=")) then Some (drop 9 option) else None
-schema_file (option ∷ file ∷ []) = if bytes_eq option (codes "--schema") && is_file_word file then Some file else None
+schema_file (option ∷ []) = joined_file option
+schema_file (option ∷ file ∷ []) =
+    if bytes_eq option (codes "--schema") && is_file_word file then Some file else None
 schema_file (option ∷ file ∷ others) = None
 
--- the file of the schema that the command `run` opens: run --schema FILE; None where the words are no such command
-abbrev pub run_file : List (List ℕ) → Option (List ℕ)
-run_file [] = None
-run_file (first ∷ words) = if bytes_eq first (codes "run") then schema_file words else None
+-- what a command line asks for: a cell of a file; or a session over the cache that the schema of a file opens
+pub data Command : Type 0 where
+  Cell : CellCommand → Command
+  Run : List ℕ → Command
+
+-- the command of the words, cell .. or run --schema FILE; None where they are no command line
+abbrev pub command_of : List (List ℕ) → Option Command
+command_of [] = None
+command_of (first ∷ words) =
+    if bytes_eq first (codes "cell") then option_map Cell (cell_command words)
+    else if bytes_eq first (codes "run") then option_map Run (schema_file words)
+    else None

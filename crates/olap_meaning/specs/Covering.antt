@@ -21,40 +21,53 @@ allows (Set values) value = among values value
 abbrev pub names_column : Cell → ℕ → Bool
 names_column cell column = list_any (λ pair. pair.0 == column) cell.at
 
--- a header covers a cell: cube and measure are the cell's, each column of the cell is one of its columns, and the cell's value is allowed there
+-- a header covers a cell: cube and measure are the cell's, each column of the cell is one of its columns, and the
+-- cell's value is allowed there
 abbrev pub header_covers : Header → Cell → Bool
 header_covers header cell =
     (header.cube == cell.cube) && (header.measure == cell.measure)
-    && list_all (λ pair. list_any (λ column. (column.0 == pair.0) && allows column.1 pair.1) header.columns) cell.at
+    && list_all
+    (λ pair. list_any
+    (λ column. (column.0 == pair.0) && allows column.1 pair.1) header.columns) cell.at
 
 -- a header covers a cell with just the cell's columns
 abbrev pub just_covers : Header → Cell → Bool
-just_covers header cell = header_covers header cell && list_all (λ column. names_column cell column.0) header.columns
+just_covers header cell =
+    header_covers header cell && list_all (λ column. names_column cell column.0) header.columns
 
 -- a box is of a measure: it has the measure, or names no measures
 abbrev pub of_measure : Option (List ℕ) → ℕ → Bool
 of_measure None measure = true
 of_measure (Some measures) measure = among measures measure
 
--- a box covers a cell: it is of the cell's measure, and on each column that both name it has the cell's value (Cache Control; that it covers cells above it too is this project's rule)
+-- a box covers a cell: it is of the cell's measure, and on each column that both name it has the cell's value (Cache
+-- Control; that it covers cells above it too is this project's rule)
 abbrev pub box_covers : RegionBox → Cell → Bool
 box_covers box cell =
     of_measure box.measures cell.measure
-    && list_all (λ pair. list_all (λ column. not (column.0 == pair.0) || among column.1 pair.1) box.columns) cell.at
+    && list_all
+    (λ pair. list_all
+    (λ column. not (column.0 == pair.0) || among column.1 pair.1) box.columns) cell.at
 
 -- a region covers a cell: the cube is the cell's, and one of its boxes covers the cell (Cache Control)
 abbrev pub region_covers : Region → Cell → Bool
-region_covers region cell = (region.cube == cell.cube) && list_any (λ box. box_covers box cell) region.boxes
+region_covers region cell =
+    (region.cube == cell.cube) && list_any (λ box. box_covers box cell) region.boxes
 
--- a box touches a header: it is of the header's measure, and on each column that both name it has a value that the header allows
+-- a box touches a header: it is of the header's measure, and on each column that both name it has a value that the
+-- header allows
 abbrev pub box_touches : RegionBox → Header → Bool
 box_touches box header =
     of_measure box.measures header.measure
-    && list_all (λ own. list_all (λ column. not (column.0 == own.0) || list_any (allows own.1) column.1) box.columns) header.columns
+    && list_all
+    (λ own. list_all
+    (λ column. not (column.0 == own.0)
+    || list_any (allows own.1) column.1) box.columns) header.columns
 
 -- a region touches a header: the cube is the header's, and one of its boxes touches the header
 abbrev pub region_touches : Region → Header → Bool
-region_touches region header = (region.cube == header.cube) && list_any (λ box. box_touches box header) region.boxes
+region_touches region header =
+    (region.cube == header.cube) && list_any (λ box. box_touches box header) region.boxes
 
 -- one cell has fewer columns than another: each of its pairs of column and value is a pair of the other
 pub record HasFewerColumns (fewer more : Cell) : Type 0 where

@@ -8,19 +8,29 @@ use Rattle.olap_meaning.specs.History.{Entry, Done, version, floor, flushes, flu
 
 -- a legal history goes on by a legal step
 abbrev pub LegalGrows : Type 0
-LegalGrows = (setting : Setting) (history : List Entry) (entry : Entry) → Legal setting history → LegalStep setting history entry → Legal setting (history ++ entry ∷ [])
+LegalGrows =
+    (setting : Setting) (history : List Entry) (entry : Entry) → Legal setting history
+    → LegalStep setting history entry → Legal setting (history ++ entry ∷ [])
 
 -- an append makes the next version of its cube, and no other entry changes a version
 abbrev pub VersionGrows : Type 0
-VersionGrows = (history : List Entry) (entry : Entry) (cube : ℕ) → version (history ++ entry ∷ []) cube ≡ version history cube + (if is_some (appended cube entry) then 1 else 0)
+VersionGrows =
+    (history : List Entry) (entry : Entry) (cube : ℕ)
+    → version (history ++ entry ∷ []) cube
+    ≡ version history cube + (if is_some (appended cube entry) then 1 else 0)
 
 -- a flush that covers a cell lifts its floor to the present version, and no other entry changes the floor
 abbrev pub FloorGrows : Type 0
-FloorGrows = (history : List Entry) (entry : Entry) (cell : Cell) → floor (history ++ entry ∷ []) cell ≡ (if flushes cell entry then version history cell.cube else floor history cell)
+FloorGrows =
+    (history : List Entry) (entry : Entry) (cell : Cell)
+    → floor (history ++ entry ∷ []) cell
+    ≡ (if flushes cell entry then version history cell.cube else floor history cell)
 
--- the load that an entry adds to those that may be the exact source of a cell: one that it delivers, that covers the cell with just its columns, and that was not shut off for it while it flew
+-- the load that an entry adds to those that may be the exact source of a cell: one that it delivers, that covers the
+-- cell with just its columns, and that was not shut off for it while it flew
 abbrev pub delivered_for : List Entry → Cell → Entry → Option ℕ
-delivered_for history cell (Done who j) = if load_just_covers history j cell && not (flushed_after history j cell) then Some j else None
+delivered_for history cell (Done who j) =
+    if load_just_covers history j cell && not (flushed_after history j cell) then Some j else None
 delivered_for history cell _ = None
 
 -- the greater of two loads, where there are two
@@ -29,19 +39,25 @@ greater None other = other
 greater (Some j) None = Some j
 greater (Some j) (Some k) = if nat_lt j k then Some k else Some j
 
--- a flush that covers a cell leaves it no exact source; a delivery gives it the load, where that is the greater; no other entry changes its exact source
+-- a flush that covers a cell leaves it no exact source; a delivery gives it the load, where that is the greater; no
+-- other entry changes its exact source
 abbrev pub ExactSourceGrows : Type 0
 ExactSourceGrows =
     (setting : Setting) (history : List Entry) (entry : Entry) (cell : Cell) → Legal setting history
-    → exact_source (history ++ entry ∷ []) cell ≡ (if flushes cell entry then None else greater (delivered_for history cell entry) (exact_source history cell))
+    → exact_source (history ++ entry ∷ []) cell
+    ≡ (if flushes cell entry then None
+    else greater (delivered_for history cell entry) (exact_source history cell))
 
 -- an entry starts a load that covers a cell with just its columns
 abbrev pub starts_for : Cell → Entry → Bool
 starts_for cell entry = is_some_and (λ load. just_covers load.header cell) (started entry)
 
--- after a flush that covers a cell no load is awaited for it; a Start for it is awaited; else the latest awaited load is the latest that was awaited and that the entry does not end
+-- after a flush that covers a cell no load is awaited for it; a Start for it is awaited; else the latest awaited load
+-- is the latest that was awaited and that the entry does not end
 abbrev pub AwaitedLoadGrows : Type 0
 AwaitedLoadGrows =
     (setting : Setting) (history : List Entry) (entry : Entry) (cell : Cell) → Legal setting history
     → awaited_load (history ++ entry ∷ []) cell
-    ≡ (if flushes cell entry then None else if starts_for cell entry then Some (suc (length history)) else latest (length history) (λ j. awaited history j cell && not (ends j entry)))
+    ≡ (if flushes cell entry then None else if starts_for cell entry
+    then Some (suc (length history))
+    else latest (length history) (λ j. awaited history j cell && not (ends j entry)))

@@ -65,7 +65,8 @@ flushed_after history position cell = list_any (flushes cell) (drop position his
 
 -- the position of the latest flush that covers a cell, and 0 where there is none
 abbrev pub latest_flush : List Entry → Cell → ℕ
-latest_flush history cell = unwrap_or (latest (length history) (λ p. is_some_and (flushes cell) (entry_at history p))) 0
+latest_flush history cell =
+    unwrap_or (latest (length history) (λ p. is_some_and (flushes cell) (entry_at history p))) 0
 
 -- the floor of a cell: its cube's version at the latest flush that covers it
 abbrev pub floor : List Entry → Cell → ℕ
@@ -109,15 +110,19 @@ kept history j = list_any (delivers j) history
 
 -- the header of load j covers a cell
 abbrev pub load_covers : List Entry → ℕ → Cell → Bool
-load_covers history j cell = is_some_and (λ load. header_covers load.header cell) (load_at history j)
+load_covers history j cell =
+    is_some_and (λ load. header_covers load.header cell) (load_at history j)
 
 -- the header of load j covers a cell with just the cell's columns
 abbrev pub load_just_covers : List Entry → ℕ → Cell → Bool
-load_just_covers history j cell = is_some_and (λ load. just_covers load.header cell) (load_at history j)
+load_just_covers history j cell =
+    is_some_and (λ load. just_covers load.header cell) (load_at history j)
 
--- load j is awaited for a cell: it is flying, covers the cell with just its columns, and no flush since its Start covers the cell
+-- load j is awaited for a cell: it is flying, covers the cell with just its columns, and no flush since its Start
+-- covers the cell
 abbrev pub awaited : List Entry → ℕ → Cell → Bool
-awaited history j cell = flying history j && load_just_covers history j cell && not (flushed_after history j cell)
+awaited history j cell =
+    flying history j && load_just_covers history j cell && not (flushed_after history j cell)
 
 -- the latest load that is awaited for a cell, if there is one
 abbrev pub awaited_load : List Entry → Cell → Option ℕ
@@ -125,8 +130,10 @@ awaited_load history cell = latest (length history) (λ j. awaited history j cel
 
 -- load j is live for a cell: it is kept, covers the cell, and no flush since its Start covers the cell
 abbrev pub live : List Entry → ℕ → Cell → Bool
-live history j cell = kept history j && load_covers history j cell && not (flushed_after history j cell)
+live history j cell =
+    kept history j && load_covers history j cell && not (flushed_after history j cell)
 
 -- the exact source of a cell: the greatest load that is live for it and has just its columns
 abbrev pub exact_source : List Entry → Cell → Option ℕ
-exact_source history cell = latest (length history) (λ j. live history j cell && load_just_covers history j cell)
+exact_source history cell =
+    latest (length history) (λ j. live history j cell && load_just_covers history j cell)

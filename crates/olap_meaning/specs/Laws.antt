@@ -12,13 +12,18 @@ use Rattle.olap_meaning.specs.Worth.{value, answered_version, worth}
 
 -- a prefix of a legal history is legal
 abbrev pub PrefixesAreLegal : Type 0
-PrefixesAreLegal = (setting : Setting) (history later : List Entry) → Legal setting (history ++ later) → Legal setting history
+PrefixesAreLegal =
+    (setting : Setting) (history later : List Entry) → Legal setting (history ++ later)
+    → Legal setting history
 
 -- the version of a cube only rises along a history
 abbrev pub VersionsRise : Type 0
-VersionsRise = (history : List Entry) (cube m n : ℕ) → m ≤ n → version (take m history) cube ≤ version (take n history) cube
+VersionsRise =
+    (history : List Entry) (cube m n : ℕ) → m ≤ n
+    → version (take m history) cube ≤ version (take n history) cube
 
--- fresh answers: each cell of an answer has a version, no older than the cell's floor and no newer than the cube's version at the answer
+-- fresh answers: each cell of an answer has a version, no older than the cell's floor and no newer than the cube's
+-- version at the answer
 abbrev pub AnswersAreFresh : Type 0
 AnswersAreFresh =
     (setting : Setting) (history : List Entry) → Legal setting history
@@ -27,21 +32,24 @@ AnswersAreFresh =
     → (v : ℕ) × (answered_version (take p history) answered ≡ Some v)
     × (floor (take p history) answered.cell ≤ v) × (v ≤ version (take p history) answered.cell.cube)
 
--- an answered cell is served in one version, which its cube had: each of its loads is live for it and of this version, and there is one at least
-pub record IsServed (history : List Entry) (answered : CellSource) (v : ℕ) : Type 0 where
+-- an answered cell is served in one version, which its cube had: each of its loads is live for it and of this
+-- version, and there is one at least
+pub record IsServedInVersion (history : List Entry) (answered : CellSource) (v : ℕ) : Type 0 where
   pub some : answered_version history answered ≡ Some v
   pub lives : (j : ℕ) → Contains answered.loads j → IsTrue (live history j answered.cell)
   pub of_one : (j : ℕ) → Contains answered.loads j → load_version history j ≡ Some v
   pub recorded : v ≤ version history answered.cell.cube
 
--- each cell of an answer is worth the aggregate over the rows of one recorded version, in which its live loads serve it
+-- each cell of an answer is worth the aggregate over the rows of one recorded version, in which its live loads serve
+-- it
 abbrev pub AnswersAreServed : Type 0
 AnswersAreServed =
     (setting : Setting) (history : List Entry) → Legal setting history
     → (p : ℕ) (who : Who) (cells : List CellSource) → entry_at history p ≡ Some (Answer who cells)
     → (answered : CellSource) → Contains cells answered
-    → (v : ℕ) × IsServed (take p history) answered v
-    × (worth setting.catalog (take p history) answered ≡ Some (value setting.catalog (take p history) answered.cell v))
+    → (v : ℕ) × IsServedInVersion (take p history) answered v
+    × (worth setting.catalog (take p history) answered
+    ≡ Some (value setting.catalog (take p history) answered.cell v))
 
 -- a flush that covers a cell leaves no load live for it
 abbrev pub FlushesShutOff : Type 0
@@ -53,36 +61,45 @@ FlushesShutOff =
 abbrev pub OthersServeOn : Type 0
 OthersServeOn =
     (history : List Entry) (who : Who) (region : Region) (cell : Cell) (j : ℕ)
-    → IsFalse (region_covers region cell) → IsTrue (live history j cell) → IsTrue (live (history ++ Flush who region ∷ []) j cell)
+    → IsFalse (region_covers region cell) → IsTrue (live history j cell)
+    → IsTrue (live (history ++ Flush who region ∷ []) j cell)
 
 -- a region that covers a cell covers each cell with fewer of its columns
 abbrev pub RegionsReachUp : Type 0
-RegionsReachUp = (region : Region) (fewer more : Cell) → HasFewerColumns fewer more → IsTrue (region_covers region more) → IsTrue (region_covers region fewer)
+RegionsReachUp =
+    (region : Region) (fewer more : Cell) → HasFewerColumns fewer more
+    → IsTrue (region_covers region more) → IsTrue (region_covers region fewer)
 
 -- of two loads with one reason, the first of which still flies, a flush between their Starts covers it
 abbrev pub LoadsAreNotDoubled : Type 0
 LoadsAreNotDoubled =
     (setting : Setting) (history : List Entry) → Legal setting history
-    → (i j : ℕ) (first second : Load) → i < j → load_at history i ≡ Some first → load_at history j ≡ Some second
+    → (i j : ℕ) (first second : Load) → i < j → load_at history i ≡ Some first
+    → load_at history j ≡ Some second
     → first.reason ≡ second.reason → IsTrue (flying history i)
-    → (q : ℕ) × (flush : Entry) × (i < q) × (q < j) × (entry_at history q ≡ Some flush) × IsTrue (flushes second.reason flush)
+    → (q : ℕ) × (flush : Entry) × (i < q) × (q < j) × (entry_at history q ≡ Some flush)
+    × IsTrue (flushes second.reason flush)
 
 -- a load ends once
 abbrev pub LoadsEndOnce : Type 0
 LoadsEndOnce =
     (setting : Setting) (history : List Entry) → Legal setting history
-    → (j p q : ℕ) (one other : Entry) → entry_at history p ≡ Some one → entry_at history q ≡ Some other
+    → (j p q : ℕ) (one other : Entry) → entry_at history p ≡ Some one
+    → entry_at history q ≡ Some other
     → IsTrue (ends j one) → IsTrue (ends j other) → p ≡ q
 
 -- the call numbers of a seat rise
 abbrev pub CallsRise : Type 0
 CallsRise =
     (setting : Setting) (history : List Entry) → Legal setting history
-    → (p q : ℕ) (earlier later : Entry) (first second : Who) → p < q → entry_at history p ≡ Some earlier → entry_at history q ≡ Some later
-    → caller earlier ≡ Some first → caller later ≡ Some second → first.seat ≡ second.seat → first.call < second.call
+    → (p q : ℕ) (earlier later : Entry) (first second : Who) → p < q
+    → entry_at history p ≡ Some earlier → entry_at history q ≡ Some later
+    → caller earlier ≡ Some first → caller later ≡ Some second → first.seat ≡ second.seat
+    → first.call < second.call
 
 -- some legal history ends with an answer, so that what is said of the answers of legal histories is said of something
 abbrev pub SomeAnswerIsLegal : Type 0
 SomeAnswerIsLegal =
     (setting : Setting) × (history : List Entry) × (who : Who) × (answered : CellSource)
-    × Legal setting history × (entry_at history (length history) ≡ Some (Answer who (answered ∷ [])))
+    × Legal setting history
+    × (entry_at history (length history) ≡ Some (Answer who (answered ∷ [])))

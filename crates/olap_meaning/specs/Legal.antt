@@ -12,7 +12,7 @@ use Rattle.olap_meaning.specs.declared.regions.Region.{Region}
 use Rattle.olap_meaning.specs.declared.regions.RegionBox.{RegionBox}
 use Rattle.olap_meaning.specs.declared.regions.RegionDim.{RegionDim}
 use Rattle.olap_meaning.specs.declared.regions.RegionDim.TheVariants.{Measures, Dimension}
-use Rattle.olap_meaning.specs.Covering.{just_covers}
+use Rattle.olap_meaning.specs.Covering.{among, just_covers}
 use Rattle.olap_meaning.specs.Catalog.{records, values, fact_columns}
 use Rattle.olap_meaning.specs.History.{Entry, Append, Flush, Start, Done, Drop, Answer, Saw, Load, entry_at, version, flying, awaited_load, starter, exact_source, is_some_and}
 use Rattle.olap_meaning.specs.Worth.{measure_of}
@@ -43,24 +43,27 @@ is_call_below call entry = is_some_and (λ who. nat_lt who.call call) (caller en
 abbrev pub is_next_call : List Entry → Who → Bool
 is_next_call history who = list_all (is_call_below who.call) (calls history who.seat)
 
--- the rows that an entry appends, to whatever cube
-abbrev pub rows_in : Entry → ℕ
-rows_in (Append who cube version rows) = length rows
-rows_in _ = 0
+-- how many rows an entry appends, to whatever cube
+abbrev pub rows_added : Entry → ℕ
+rows_added (Append who cube version rows) = length rows
+rows_added _ = 0
 
--- the rows of all cubes
+-- how many rows all cubes have
 abbrev pub rows_held : List Entry → ℕ
-rows_held history = sum_by rows_in history
+rows_held history = sum_by rows_added history
 
 -- a leaf is a record of its dimension's table
 abbrev pub is_leaf : Catalog → ℕ → ℕ → Bool
 is_leaf catalog dimension leaf = nat_lt leaf (length (records catalog dimension))
 
--- a row is one of a cube: it has one leaf of each of the cube's dimensions, and one number or NULL for each of its fact columns
+-- a row is one of a cube: it has one leaf of each of the cube's dimensions, and one number or NULL for each of its
+-- fact columns
 abbrev pub is_row : Catalog → ℕ → Row → Bool
 is_row catalog cube row =
     is_some_and
-    (λ c. (length row.leaves == length c.dimensions) && list_all (λ pair. is_leaf catalog pair.0 pair.1) (zip c.dimensions row.leaves) && (length row.values == length (fact_columns c)))
+    (λ c. (length row.leaves == length c.dimensions)
+    && list_all (λ pair. is_leaf catalog pair.0 pair.1) (zip c.dimensions row.leaves)
+    && (length row.values == length (fact_columns c)))
     (slice_get catalog.cubes cube)
 
 -- a value is one of a column of the catalog
@@ -72,12 +75,27 @@ abbrev pub rise : List ℕ → Bool
 rise [] = true
 rise (n ∷ ns) = list_all (nat_lt n) ns && rise ns
 
--- a cell is one of the catalog: its cube, measure, columns and values are the catalog's, and its columns rise
+-- a column is one of some dimensions
+abbrev pub is_column_of : Catalog → List ℕ → ℕ → Bool
+is_column_of catalog dimensions column =
+    is_some_and (λ c. among dimensions c.dimension) (slice_get catalog.columns column)
+
+-- each column of a cell is one of its cube's dimensions
+abbrev pub has_own_columns : Catalog → Cell → Bool
+has_own_columns catalog cell =
+    is_some_and
+    (λ cube. list_all (λ pair. is_column_of catalog cube.dimensions pair.0) cell.at)
+    (slice_get catalog.cubes cell.cube)
+
+-- a cell is one of the catalog: its cube, measure, columns and values are the catalog's, and its columns rise and are
+-- those of its cube's dimensions
 abbrev pub is_cell : Catalog → Cell → Bool
 is_cell catalog cell =
     is_some_and (λ measure. true) (measure_of catalog cell)
-    && list_all (λ pair. nat_lt pair.0 (length catalog.columns) && is_value catalog pair.0 pair.1) cell.at
+    && list_all
+    (λ pair. nat_lt pair.0 (length catalog.columns) && is_value catalog pair.0 pair.1) cell.at
     && rise (map (λ pair. pair.0) cell.at)
+    && has_own_columns catalog cell
 
 -- a dimension of a region is the measures
 abbrev pub is_measures : RegionDim → Bool
@@ -86,11 +104,17 @@ is_measures (Dimension d) = false
 
 -- a box names columns and values of the catalog; a column also where its list of values is empty
 abbrev pub is_box : Catalog → RegionBox → Bool
-is_box catalog box = list_all (λ column. nat_lt column.0 (length catalog.columns) && list_all (is_value catalog column.0) column.1) box.columns
+is_box catalog box =
+    list_all
+    (λ column. nat_lt column.0 (length catalog.columns)
+    && list_all (is_value catalog column.0) column.1) box.columns
 
--- a region can be flushed: its cube, columns and values are the catalog's, and the measures are among its dimensions (Cache Control)
+-- a region can be flushed: its cube, columns and values are the catalog's, and the measures are among its dimensions
+-- (Cache Control)
 abbrev pub is_flushable : Catalog → Region → Bool
-is_flushable catalog region = nat_lt region.cube (length catalog.cubes) && list_any is_measures region.dims && list_all (is_box catalog) region.boxes
+is_flushable catalog region =
+    nat_lt region.cube (length catalog.cubes) && list_any is_measures region.dims
+    && list_all (is_box catalog) region.boxes
 
 -- the loads are a rolled source of a cell (none are, before loads are rolled up)
 abbrev pub IsRolledSource : Catalog → List Entry → Cell → List ℕ → Type 0
@@ -98,7 +122,9 @@ IsRolledSource catalog history cell loads = ⊥
 
 -- the loads are a source of a cell: its exact source alone, or, where it has none, a rolled source
 abbrev pub IsSource : Catalog → List Entry → Cell → List ℕ → Type 0
-IsSource catalog history cell loads = MatchOption (exact_source history cell) (IsRolledSource catalog history cell loads) (λ j. loads ≡ j ∷ [])
+IsSource catalog history cell loads =
+    MatchOption (exact_source history cell) (IsRolledSource catalog history cell loads)
+    (λ j. loads ≡ j ∷ [])
 
 -- a cell has no source
 pub record HasNoSource (catalog : Catalog) (history : List Entry) (cell : Cell) : Type 0 where
@@ -106,7 +132,8 @@ pub record HasNoSource (catalog : Catalog) (history : List Entry) (cell : Cell) 
   pub rolled : (loads : List ℕ) → ¬ (IsRolledSource catalog history cell loads)
 
 -- an append is legal: it makes the next version of a cube of the catalog, of rows of this cube, within the limits
-pub record IsLegalAppend (setting : Setting) (history : List Entry) (who : Who) (cube v : ℕ) (rows : List Row) : Type 0 where
+pub record IsLegalAppend (setting : Setting) (history : List Entry) (who : Who) (cube v : ℕ)
+    (rows : List Row) : Type 0 where
   pub call : IsTrue (is_next_call history who)
   pub known : cube < length setting.catalog.cubes
   pub next : v ≡ version history cube + 1
@@ -114,7 +141,8 @@ pub record IsLegalAppend (setting : Setting) (history : List Entry) (who : Who) 
   pub fit : IsTrue (list_all (is_row setting.catalog cube) rows)
   pub room : rows_held history + length rows ≤ setting.row_limit
 
--- a Start is legal: its load is of the present version, covers its reason with just the reason's columns, and the reason is a cell of the catalog that has no source and that no load is awaited for
+-- a Start is legal: its load is of the present version, covers its reason with just the reason's columns, and the
+-- reason is a cell of the catalog that has no source and that no load is awaited for
 pub record IsLegalStart (setting : Setting) (history : List Entry) (load : Load) : Type 0 where
   pub known : IsTrue (is_cell setting.catalog load.reason)
   pub rising : IsTrue (rise (map (λ column. column.0) load.header.columns))
@@ -129,20 +157,25 @@ pub record IsLegalEnd (history : List Entry) (who : Who) (j : ℕ) : Type 0 wher
   pub own : starter history j ≡ Some who
 
 -- an answered cell is legal: it is a cell of the catalog, and its loads are a source of it
-pub record IsAnswered (setting : Setting) (history : List Entry) (answered : CellSource) : Type 0 where
+pub record IsAnswered (setting : Setting) (history : List Entry)
+    (answered : CellSource) : Type 0 where
   pub known : IsTrue (is_cell setting.catalog answered.cell)
   pub source : IsSource setting.catalog history answered.cell answered.loads
 
 -- an entry is a legal step after a history
 abbrev pub LegalStep : Setting → List Entry → Entry → Type 0
 LegalStep setting history (Append who cube v rows) = IsLegalAppend setting history who cube v rows
-LegalStep setting history (Flush who region) = IsTrue (is_next_call history who) × IsTrue (is_flushable setting.catalog region)
+LegalStep setting history (Flush who region) =
+    IsTrue (is_next_call history who) × IsTrue (is_flushable setting.catalog region)
 LegalStep setting history (Start load) = IsLegalStart setting history load
 LegalStep setting history (Done who j) = IsLegalEnd history who j
 LegalStep setting history (Drop who j) = IsLegalEnd history who j
-LegalStep setting history (Answer who cells) = IsTrue (is_next_call history who) × Each (IsAnswered setting history) cells
+LegalStep setting history (Answer who cells) =
+    IsTrue (is_next_call history who) × Each (IsAnswered setting history) cells
 LegalStep setting history (Saw who) = IsTrue (is_next_call history who)
 
 -- a legal history: each entry is a legal step after the entries before it
 abbrev pub Legal : Setting → List Entry → Type 0
-Legal setting history = (before : ℕ) (entry : Entry) → entry_at history (suc before) ≡ Some entry → LegalStep setting (take before history) entry
+Legal setting history =
+    (before : ℕ) (entry : Entry) → entry_at history (suc before) ≡ Some entry
+    → LegalStep setting (take before history) entry

@@ -1,5 +1,7 @@
+pub mod Results
 pub mod Values
 pub mod Texts
+pub mod FullNames
 pub mod Records
 pub mod FileQuery
 pub mod Commands

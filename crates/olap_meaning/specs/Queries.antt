@@ -14,7 +14,9 @@ path_tokens (name ∷ names) = Name name ∷ flat_map (λ next. Sign Dot ∷ Nam
 
 -- query = SELECT "{" path "}" ON COLUMNS FROM name
 abbrev pub query_tokens : CellQuery → List Token
-query_tokens query = Keyword Select ∷ Sign OpenBrace ∷ path_tokens query.path ++ Sign CloseBrace ∷ Keyword On ∷ Keyword Columns ∷ Keyword From ∷ Name query.cube ∷ []
+query_tokens query =
+    Keyword Select ∷ Sign OpenBrace ∷ path_tokens query.path
+    ++ Sign CloseBrace ∷ Keyword On ∷ Keyword Columns ∷ Keyword From ∷ Name query.cube ∷ []
 
 -- the text writes this query of one cell: its path has a name, and the text spells its tokens
 abbrev pub IsCellQuery : List ℕ → CellQuery → Type 0
@@ -26,4 +28,6 @@ WritesNoCellQuery text = (query : CellQuery) → ¬ IsCellQuery text query
 
 -- no text writes two queries of one cell
 abbrev pub CellQueriesAreOne : Type 0
-CellQueriesAreOne = (text : List ℕ) (first second : CellQuery) → IsCellQuery text first → IsCellQuery text second → first ≡ second
+CellQueriesAreOne =
+    (text : List ℕ) (first second : CellQuery) → IsCellQuery text first → IsCellQuery text second
+    → first ≡ second

@@ -1,17 +1,13 @@
 -- What a line of an input asks for, and the replies that need no answer. A line and a text are lists of their bytes.
-use Rattle.std.specs.Prelude.{ℕ, ◌≡◌, ◌==◌, ◌++◌, ◌&&◌, ◌||◌, List, [], ◌∷◌, Bool, true, false, not, Option, Some, None, bytes_eq, codes, drop, take, nat_le, if◌then◌else◌}
+use Rattle.std.specs.Prelude.{ℕ, ◌≡◌, ◌++◌, ◌&&◌, ◌||◌, List, [], ◌∷◌, Bool, true, false, not, Option, Some, None, bytes_eq, codes, drop, take, nat_le, if◌then◌else◌}
 use Rattle.std.specs.List.{list_all, position_or_len}
 use Rattle.std.specs.Option.{option_map_or}
 use Rattle.std.specs.Str.{is_utf8}
 use Rattle.olap_meaning.specs.declared.queries.CellQuery.{CellQuery}
 use Rattle.olap_meaning.specs.CellQueries.{NoMatch, NoCube, NoMember}
 use Rattle.olap_meaning.specs.Queries.{IsCellQuery}
-use Rattle.olap_meaning.specs.Texts.{line, name_text}
-use Rattle.olap_meaning.specs.Tokens.{in_capitals}
-
--- a space or a tab
-abbrev pub is_white : ℕ → Bool
-is_white c = (c == 32) || (c == 9)
+use Rattle.olap_meaning.specs.Texts.{line, named_line}
+use Rattle.olap_meaning.specs.Tokens.{in_capitals, is_white}
 
 -- an ASCII letter
 abbrev pub is_letter : ℕ → Bool
@@ -38,9 +34,12 @@ abbrev pub argument_behind : List ℕ → Option (List ℕ)
 argument_behind [] = Some []
 argument_behind (c ∷ text) = if is_white c then Some text else None
 
--- the argument of a command in a line, by the command's word in capital letters; None where the line has another word, or no white behind it
+-- the argument of a command in a line, by the command's word in capital letters; None where the line has another
+-- word, or no white behind it
 abbrev pub argument_of : List ℕ → List ℕ → Option (List ℕ)
-argument_of word line = if bytes_eq (in_capitals (first_word (after_white line))) word then argument_behind (behind_word (after_white line)) else None
+argument_of word line =
+    if bytes_eq (in_capitals (first_word (after_white line))) word
+    then argument_behind (behind_word (after_white line)) else None
 
 -- a line ends the session: QUIT, and white
 abbrev pub is_quit : List ℕ → Bool
@@ -60,13 +59,16 @@ pub data Request : Type 0 where
   OneCell : CellQuery → Request
   Unbuilt : Request
 
--- a line asks for this: it is no text, or it is blank, or it ends the session, or it asks for one cell; whatever else it asks for is not built
+-- a line asks for this: it is no text, or it is blank, or it ends the session, or it asks for one cell; whatever else
+-- it asks for is not built
 abbrev pub IsRequest : List ℕ → Request → Type 0
 IsRequest line NotText = is_utf8 line ≡ false
 IsRequest line Blank = (is_utf8 line ≡ true) × (is_blank line ≡ true)
 IsRequest line Quit = (is_utf8 line ≡ true) × (is_quit line ≡ true)
 IsRequest line (OneCell query) = (is_utf8 line ≡ true) × AsksFor line query
-IsRequest line Unbuilt = (is_utf8 line ≡ true) × (is_blank line ≡ false) × (is_quit line ≡ false) × ((query : CellQuery) → ¬ AsksFor line query)
+IsRequest line Unbuilt =
+    (is_utf8 line ≡ true) × (is_blank line ≡ false) × (is_quit line ≡ false)
+    × ((query : CellQuery) → ¬ AsksFor line query)
 
 -- the reply to a line that is longer than a line may be
 abbrev pub too_long_reply : List ℕ
@@ -82,8 +84,8 @@ quit_reply = line (codes "BYE")
 
 -- the reply to a name without a match
 abbrev pub no_match_reply : NoMatch → List ℕ
-no_match_reply (NoCube name) = line (codes "ERR 5 CUBE " ++ name_text name)
-no_match_reply (NoMember name) = line (codes "ERR 6 MEMBER " ++ name_text name)
+no_match_reply (NoCube name) = named_line (codes "ERR 5 CUBE") name
+no_match_reply (NoMember name) = named_line (codes "ERR 6 MEMBER") name
 
 -- the reply where there was no memory
 abbrev pub no_memory_reply : List ℕ

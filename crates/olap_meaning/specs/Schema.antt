@@ -21,12 +21,15 @@ levels_of dimension = flat_map (λ hierarchy. hierarchy.levels) dimension.hierar
 -- the columns of some levels of a dimension, from one field on
 abbrev pub columns_from : ℕ → ℕ → List SchemaLevel → List Column
 columns_from dimension field [] = []
-columns_from dimension field (level ∷ levels) = (record { name = level.name; dimension = dimension; field = field }) ∷ columns_from dimension (suc field) levels
+columns_from dimension field (level ∷ levels) =
+    (record { name = level.name; dimension = dimension; field = field }) ∷ columns_from dimension
+    (suc field) levels
 
 -- the columns of some dimensions, from one on: each level has a column of its own
 abbrev pub all_columns : ℕ → List SchemaDimension → List Column
 all_columns place [] = []
-all_columns place (dimension ∷ dimensions) = columns_from place 0 (levels_of dimension) ++ all_columns (suc place) dimensions
+all_columns place (dimension ∷ dimensions) =
+    columns_from place 0 (levels_of dimension) ++ all_columns (suc place) dimensions
 
 -- so many numbers, from one on
 abbrev pub numbers_from : ℕ → List SchemaLevel → List ℕ
@@ -41,23 +44,34 @@ all_name hierarchy = if hierarchy.has_all then Some hierarchy.all_member_name el
 abbrev pub hierarchies_from : ℕ → ℕ → List SchemaHierarchy → List Hierarchy
 hierarchies_from dimension column [] = []
 hierarchies_from dimension column (hierarchy ∷ hierarchies) =
-    (record { name = hierarchy.name; dimension = dimension; all_member = all_name hierarchy; levels = numbers_from column hierarchy.levels })
+    (record {
+      name = hierarchy.name;
+      dimension = dimension;
+      all_member = all_name hierarchy;
+      levels = numbers_from column hierarchy.levels;
+    })
     ∷ hierarchies_from dimension (column + length hierarchy.levels) hierarchies
 
 -- the hierarchies of some dimensions, from one dimension and one column on
 abbrev pub all_hierarchies : ℕ → ℕ → List SchemaDimension → List Hierarchy
 all_hierarchies place column [] = []
 all_hierarchies place column (dimension ∷ dimensions) =
-    hierarchies_from place column dimension.hierarchies ++ all_hierarchies (suc place) (column + length (levels_of dimension)) dimensions
+    hierarchies_from place column dimension.hierarchies
+    ++ all_hierarchies (suc place) (column + length (levels_of dimension)) dimensions
 
 -- the place of a dimension, by its name
 abbrev pub dimension_place : List SchemaDimension → List ℕ → Option ℕ
-dimension_place dimensions source = position (λ dimension. bytes_eq source dimension.name) dimensions
+dimension_place dimensions source =
+    position (λ dimension. bytes_eq source dimension.name) dimensions
 
 -- a cube over some dimensions
 abbrev pub cube_over : List SchemaDimension → SchemaCube → Cube
 cube_over dimensions cube =
-    record { name = cube.name; dimensions = filter_map (λ used. dimension_place dimensions used.source) cube.dimensions; measures = cube.measures }
+    record {
+      name = cube.name;
+      dimensions = filter_map (λ used. dimension_place dimensions used.source) cube.dimensions;
+      measures = cube.measures;
+    }
 
 -- a dimension with the records of its table
 abbrev pub dimension_with : SchemaDimension × List Record → Dimension

@@ -5,6 +5,8 @@ use Rattle.std.specs.Str.{chars}
 use Rattle.std.specs.Int.RustNames.{unsigned_abs}
 use Rattle.olap_meaning.specs.declared.CellValue.{CellValue}
 use Rattle.olap_meaning.specs.declared.CellValue.TheVariants.{Empty, Whole, Hundredths}
+use Rattle.olap_meaning.specs.declared.texts.Written.{Written}
+use Rattle.olap_meaning.specs.declared.texts.Written.TheVariants.{Fixed, Made}
 
 -- a minus sign, before a number below zero
 abbrev pub sign : ℤ → List ℕ
@@ -19,12 +21,15 @@ two_digits n = decimal (n / 10) ++ decimal (n % 10)
 abbrev pub plain_text : CellValue → List ℕ
 plain_text Empty = []
 plain_text (Whole n) = signed_decimal n
-plain_text (Hundredths n) = sign n ++ decimal (unsigned_abs n / 100) ++ codes "." ++ two_digits (unsigned_abs n % 100)
+plain_text (Hundredths n) =
+    sign n ++ decimal (unsigned_abs n / 100) ++ codes "." ++ two_digits (unsigned_abs n % 100)
 
 -- a character of a name, as its name text has it: a closing bracket twice; a backslash, a tab, a carriage return
 -- and a line feed behind a backslash
 abbrev pub name_character : ℕ → List ℕ
-name_character c = if c == 93 then codes "]]" else if c == 92 then 92 ∷ 92 ∷ [] else if c == 9 then 92 ∷ codes "t" else if c == 13 then 92 ∷ codes "r" else if c == 10 then 92 ∷ codes "n" else encode_utf8 c
+name_character c = if c == 93 then codes "]]" else if c == 92 then 92 ∷ 92 ∷ [] else if c == 9
+    then 92 ∷ codes "t" else if c == 13 then 92 ∷ codes "r" else if c == 10 then 92 ∷ codes "n"
+    else encode_utf8 c
 
 -- the name text of a name: in brackets, so that it has no end but its own and stands on one line
 abbrev pub name_text : List ℕ → List ℕ
@@ -33,3 +38,12 @@ name_text name = codes "[" ++ flat_map name_character (chars name) ++ codes "]"
 -- a line: a text and a line feed
 abbrev pub line : List ℕ → List ℕ
 line text = text ++ 10 ∷ []
+
+-- a line of a label and a name
+abbrev pub named_line : List ℕ → List ℕ → List ℕ
+named_line label name = line (label ++ codes " " ++ name_text name)
+
+-- the bytes of a text that is written
+abbrev pub text_of : Written → List ℕ
+text_of (Fixed text) = text.now
+text_of (Made text) = text

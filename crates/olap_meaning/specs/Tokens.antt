@@ -1,5 +1,5 @@
 -- The tokens of a text. A text is the list of its bytes.
-use Rattle.std.specs.Prelude.{◌≡◌, ◌≢◌, ◌⊎◌, ◌==◌, ◌++◌, ℕ, Bool, true, false, List, [], ◌∷◌, codes, map, flat_map, if◌then◌else◌}
+use Rattle.std.specs.Prelude.{◌≡◌, ◌≢◌, ◌==◌, ◌||◌, ◌++◌, ℕ, Bool, true, false, List, [], ◌∷◌, codes, map, flat_map, if◌then◌else◌}
 use Rattle.std.specs.Char.{to_ascii_uppercase}
 use Rattle.olap_meaning.specs.declared.queries.Keyword.{Keyword}
 use Rattle.olap_meaning.specs.declared.queries.Keyword.TheVariants.{Select, On, Columns, From}
@@ -9,8 +9,8 @@ use Rattle.olap_meaning.specs.declared.queries.Token.{Token}
 use Rattle.olap_meaning.specs.declared.queries.Token.TheVariants as token
 
 -- white: a space or a tab
-abbrev pub IsWhite : ℕ → Type 0
-IsWhite c = (c ≡ 32) ⊎ (c ≡ 9)
+abbrev pub is_white : ℕ → Bool
+is_white c = (c == 32) || (c == 9)
 
 -- a keyword in capital letters
 abbrev pub keyword_text : Keyword → List ℕ
@@ -43,14 +43,23 @@ pub data Spells : Bool → List Token → List ℕ → Type 0 where
   -- nothing is left
   ended : {touching : Bool} → Spells touching [] []
   -- white may stand before each token and at the end
-  white : {touching : Bool} {c : ℕ} {tokens : List Token} {text : List ℕ} → IsWhite c → Spells false tokens text → Spells touching tokens (c ∷ text)
+  white : {touching : Bool} {c : ℕ} {tokens : List Token} {text : List ℕ} → is_white c ≡ true
+      → Spells false tokens text → Spells touching tokens (c ∷ text)
   -- a keyword, whose letters are of either case; none begins where another ends
-  keyword : {k : Keyword} {tokens : List Token} {text : List ℕ} (letters rest : List ℕ) → in_capitals letters ≡ keyword_text k → text ≡ letters ++ rest → Spells true tokens rest → Spells false (token.Keyword k ∷ tokens) text
+  keyword : {k : Keyword} {tokens : List Token} {text : List ℕ} (letters rest : List ℕ)
+      → in_capitals letters ≡ keyword_text k → text ≡ letters ++ rest → Spells true tokens rest
+      → Spells false (token.Keyword k ∷ tokens) text
   -- a sign
-  sign : {touching : Bool} {s : Sign} {tokens : List Token} {text : List ℕ} (rest : List ℕ) → text ≡ sign_text s ++ rest → Spells false tokens rest → Spells touching (token.Sign s ∷ tokens) text
+  sign : {touching : Bool} {s : Sign} {tokens : List Token} {text : List ℕ} (rest : List ℕ)
+      → text ≡ sign_text s ++ rest → Spells false tokens rest
+      → Spells touching (token.Sign s ∷ tokens) text
   -- a name of one or more characters, in its brackets
-  name : {touching : Bool} {tokens : List Token} {text : List ℕ} (name rest : List ℕ) → name ≢ [] → text ≡ bracketed name ++ rest → Spells false tokens rest → Spells touching (token.Name name ∷ tokens) text
+  name : {touching : Bool} {tokens : List Token} {text : List ℕ} (name rest : List ℕ) → name ≢ []
+      → text ≡ bracketed name ++ rest → Spells false tokens rest
+      → Spells touching (token.Name name ∷ tokens) text
 
 -- no text spells two lists of tokens
 abbrev pub TokensAreOne : Type 0
-TokensAreOne = (text : List ℕ) (first second : List Token) → Spells false first text → Spells false second text → first ≡ second
+TokensAreOne =
+    (text : List ℕ) (first second : List Token) → Spells false first text → Spells false second text
+    → first ≡ second

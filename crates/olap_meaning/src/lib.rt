@@ -1,7 +1,7 @@
 //! What the contracts of the other crates speak of.
 //!
-//! The definitions stand in `specs/`, over plain lists and numbers. The types here are the plain data that they
-//! name; the crates above name them again through `olap_base`.
+//! The definitions stand in `specs/`, over plain lists and numbers. The types here are the plain data that they name,
+//! and the texts of values and names.
 #![tactic(auto)]
 
 mod cells;
@@ -13,6 +13,7 @@ mod regions;
 pub mod schema;
 pub mod tables;
 mod text;
+mod texts;
 
 pub use cells::{Allowed, Cell, CellSource, Header, LevelRef, Member, Who};
 pub use ids::{ColumnId, CubeId, HierarchyId, LeafId, MeasureId, ValueId, Version};
@@ -21,6 +22,7 @@ pub use regions::{Region, RegionBox, RegionDim};
 use std::alloc::{AllocError, AllocFailed};
 pub use tables::Row;
 pub use text::Text;
+pub use texts::{Written, name_text, named_line, plain_text};
 
 /// The greatest number of fact rows, over all cubes.
 pub const ROW_LIMIT: u32 = 8_000_000;
@@ -53,6 +55,26 @@ pub enum Aggregator {
     Max,
     Avg,
     DistinctCount,
+}
+
+impl Aggregator {
+    ghost use Rattle.std.specs.Prelude.{◌≡◌};
+    ghost use Rattle.olap_meaning.specs.Commands.{aggregator_named};
+
+    /// The aggregator of a name, as schemas and command lines spell it.
+    pub fn named(name: &str) -> Option<Aggregator>
+        ensures { result ≡ aggregator_named name.now }
+    {
+        match name {
+            "sum" => Some(Aggregator::Sum),
+            "count" => Some(Aggregator::Count),
+            "min" => Some(Aggregator::Min),
+            "max" => Some(Aggregator::Max),
+            "avg" => Some(Aggregator::Avg),
+            "distinct-count" => Some(Aggregator::DistinctCount),
+            _ => None,
+        }
+    }
 }
 
 /// What a cell is worth.

@@ -8,7 +8,8 @@ use Rattle.olap_meaning.specs.History.{Entry, Append, Flush, Start, Done, Drop, 
 abbrev pub entry_of : PlainEntry → Entry
 entry_of (plain.Append who cube version rows) = Append who cube version rows
 entry_of (plain.Flush who region) = Flush who region
-entry_of (plain.Start who header version reason) = Start (record { who = who; header = header; version = version; reason = reason })
+entry_of (plain.Start who header version reason) =
+    Start (record { who = who; header = header; version = version; reason = reason })
 entry_of (plain.Done who load) = Done who load
 entry_of (plain.Drop who load) = Drop who load
 entry_of (plain.Answer who cells) = Answer who cells

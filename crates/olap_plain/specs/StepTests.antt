@@ -14,11 +14,14 @@ use Rattle.olap_meaning.specs.Legal.{is_next_call, is_row, is_cell, rise, rows_h
 -- the six conditions of a legal append, in their order
 abbrev pub append_test : Setting → List Entry → Who → ℕ → ℕ → List Row → Bool
 append_test setting history who cube v rows =
-    is_next_call history who && nat_lt cube (length setting.catalog.cubes) && (v == version history cube + 1) && nat_le v VERSION_LIMIT && list_all (is_row setting.catalog cube) rows
+    is_next_call history who && nat_lt cube (length setting.catalog.cubes)
+    && (v == version history cube + 1) && nat_le v VERSION_LIMIT
+    && list_all (is_row setting.catalog cube) rows
     && nat_le (rows_held history + length rows) setting.row_limit
 
 -- the six conditions of a legal Start, in their order
 abbrev pub start_test : Setting → List Entry → Header → ℕ → Cell → Bool
 start_test setting history header v reason =
-    is_cell setting.catalog reason && rise (map (λ column. column.0) header.columns) && just_covers header reason && (v == version history header.cube)
+    is_cell setting.catalog reason && rise (map (λ column. column.0) header.columns)
+    && just_covers header reason && (v == version history header.cube)
     && is_none (exact_source history reason) && is_none (awaited_load history reason)

@@ -29,7 +29,8 @@ fn field_is(leaf: &Record, field: u32, text: &str) -> bool
 }
 
 fn some_field_is(records: &[Record], field: u32, text: &str) -> bool
-    ensures { result ≡ list_any (λ r. is_some_and (bytes_eq text.now) (slice_get r.fields field)) records.now }
+    ensures { result
+        ≡ list_any (λ r. is_some_and (bytes_eq text.now) (slice_get r.fields field)) records.now }
 {
     records.iter().any(|r| field_is(r, field, text))
 }
@@ -41,7 +42,10 @@ fn has_text(records: &[Record], field: u32, text: &str) -> bool
 }
 
 fn adds_value(earlier: &[Record], field: u32, leaf: &Record) -> bool
-    ensures { result ≡ is_some_and (λ text. not (list_any (bytes_eq text) (meaning.field_texts field earlier.now))) (slice_get leaf.now.fields field) }
+    ensures { result
+        ≡ is_some_and
+        (λ text. not (list_any (bytes_eq text) (meaning.field_texts field earlier.now)))
+        (slice_get leaf.now.fields field) }
 {
     match leaf.fields.get(field as usize) {
         None => false,
@@ -63,7 +67,9 @@ fn count_values(records: &[Record], field: u32) -> usize
 }
 
 fn number_in(records: &[Record], field: u32, text: &str) -> Option<usize>
-    ensures { result ≡ position (bytes_eq text.now) (meaning.first_appearances (meaning.field_texts field records.now)) }
+    ensures { result
+        ≡ position (bytes_eq text.now)
+        (meaning.first_appearances (meaning.field_texts field records.now)) }
 {
     let mut count = 0;
     for i in 0..records.len() {
@@ -100,7 +106,10 @@ pub fn value_number(catalog: &Catalog, column: ColumnId, text: &str) -> Option<u
 }
 
 fn leaf_text<'a>(catalog: &'a Catalog, column: &Column, leaf: LeafId) -> Option<&'a str>
-    ensures { option_copied result ≡ option_and_then (λ r. slice_get r.fields column.now.field) (slice_get (meaning.records catalog.now column.now.dimension) leaf) }
+    ensures { option_copied result
+        ≡ option_and_then
+        (λ r. slice_get r.fields column.now.field)
+        (slice_get (meaning.records catalog.now column.now.dimension) leaf) }
 {
     match records(catalog, column.dimension).get(leaf.0 as usize) {
         None => None,
@@ -131,7 +140,9 @@ fn place_of(dimensions: &[u32], dimension: u32) -> Option<usize>
 }
 
 fn leaf_at(cube: &Cube, row: &Row, dimension: u32) -> Option<LeafId>
-    ensures { result ≡ option_and_then (slice_get row.now.leaves) (position (λ d. d == dimension) cube.now.dimensions) }
+    ensures { result
+        ≡ option_and_then (slice_get row.now.leaves)
+        (position (λ d. d == dimension) cube.now.dimensions) }
 {
     match place_of(cube.dimensions.as_slice(), dimension) {
         None => None,
@@ -164,7 +175,8 @@ fn row_value(catalog: &Catalog, cube: CubeId, row: &Row, column: ColumnId) -> Op
 }
 
 fn row_has(catalog: &Catalog, cube: CubeId, row: &Row, column: ColumnId, value: ValueId) -> bool
-    ensures { result ≡ is_some_and (λ v. v == value) (worth.row_value catalog.now cube row.now column) }
+    ensures { result
+        ≡ is_some_and (λ v. v == value) (worth.row_value catalog.now cube row.now column) }
 {
     match row_value(catalog, cube, row, column) {
         None => false,
@@ -173,7 +185,10 @@ fn row_has(catalog: &Catalog, cube: CubeId, row: &Row, column: ColumnId, value: 
 }
 
 fn row_has_all(catalog: &Catalog, cube: CubeId, row: &Row, at: &[(ColumnId, ValueId)]) -> bool
-    ensures { result ≡ list_all (λ pair. is_some_and (λ v. v == pair.1) (worth.row_value catalog.now cube row.now pair.0)) at.now }
+    ensures { result
+        ≡ list_all
+        (λ pair. is_some_and
+        (λ v. v == pair.1) (worth.row_value catalog.now cube row.now pair.0)) at.now }
 {
     at.iter()
         .all(|pair| row_has(catalog, cube, row, pair.0, pair.1))
@@ -199,7 +214,8 @@ fn has_fact_column(measures: &[Measure], column: &str) -> bool
 }
 
 fn adds_fact_column(earlier: &[Measure], measure: &Measure) -> bool
-    ensures { result ≡ not (list_any (bytes_eq measure.now.column) (map (λ m. m.column) earlier.now)) }
+    ensures { result
+        ≡ not (list_any (bytes_eq measure.now.column) (map (λ m. m.column) earlier.now)) }
 {
     !has_fact_column(earlier, measure.column.as_str())
 }
@@ -231,13 +247,17 @@ fn exact_match(name: &str, names: &[Text]) -> Option<usize>
 }
 
 fn is_same_but_case(name: &str, other: &str) -> bool
-    ensures { result ≡ bytes_eq (str_to_ascii_lowercase name.now) (str_to_ascii_lowercase other.now) }
+    ensures { result
+        ≡ bytes_eq (str_to_ascii_lowercase name.now) (str_to_ascii_lowercase other.now) }
 {
     name.eq_ignore_ascii_case(other)
 }
 
 fn match_but_case(name: &str, names: &[Text]) -> Option<usize>
-    ensures { result ≡ position (λ other. bytes_eq (str_to_ascii_lowercase name.now) (str_to_ascii_lowercase other)) names.now }
+    ensures { result
+        ≡ position
+        (λ other. bytes_eq (str_to_ascii_lowercase name.now)
+        (str_to_ascii_lowercase other)) names.now }
 {
     names
         .iter()

@@ -35,7 +35,9 @@ fn column_allows(columns: &[(ColumnId, Allowed)], column: ColumnId, value: Value
 }
 
 fn columns_allow(columns: &[(ColumnId, Allowed)], at: &[(ColumnId, ValueId)]) -> bool
-    ensures { result ≡ list_all (λ pair. list_any (λ c. (c.0 == pair.0) && covering.allows c.1 pair.1) columns.now) at.now }
+    ensures { result
+        ≡ list_all
+        (λ pair. list_any (λ c. (c.0 == pair.0) && covering.allows c.1 pair.1) columns.now) at.now }
 {
     at.iter().all(|pair| column_allows(columns, pair.0, pair.1))
 }
@@ -84,7 +86,8 @@ fn of_measure(region_box: &RegionBox, measure: MeasureId) -> bool
 }
 
 fn box_holds(region_box: &RegionBox, column: ColumnId, value: ValueId) -> bool
-    ensures { result ≡ list_all (λ c. not (c.0 == column) || covering.among c.1 value) region_box.now.columns }
+    ensures { result
+        ≡ list_all (λ c. not (c.0 == column) || covering.among c.1 value) region_box.now.columns }
 {
     region_box
         .columns
@@ -94,7 +97,10 @@ fn box_holds(region_box: &RegionBox, column: ColumnId, value: ValueId) -> bool
 }
 
 fn box_holds_all(region_box: &RegionBox, at: &[(ColumnId, ValueId)]) -> bool
-    ensures { result ≡ list_all (λ pair. list_all (λ c. not (c.0 == pair.0) || covering.among c.1 pair.1) region_box.now.columns) at.now }
+    ensures { result
+        ≡ list_all
+        (λ pair. list_all
+        (λ c. not (c.0 == pair.0) || covering.among c.1 pair.1) region_box.now.columns) at.now }
 {
     at.iter().all(|pair| box_holds(region_box, pair.0, pair.1))
 }
@@ -168,7 +174,8 @@ pub fn version(entries: &[PlainEntry], cube: CubeId) -> usize
 }
 
 fn some_flushes(cell: &Cell, entries: &[PlainEntry]) -> bool
-    ensures { result ≡ list_any (λ e. meaning.flushes cell.now (plain_view.entry_of e)) entries.now }
+    ensures { result
+        ≡ list_any (λ e. meaning.flushes cell.now (plain_view.entry_of e)) entries.now }
 {
     entries.iter().any(|e| flushes(cell, e))
 }
@@ -206,7 +213,8 @@ fn ended(entries: &[PlainEntry], j: u64) -> bool
 
 #[tactic(auto, using(crate::proofs::EntryFacts::entry_here, crate::proofs::EntryFacts::entry_past, crate::proofs::EntryFacts::entry_zero))]
 fn entry_at(entries: &[PlainEntry], p: u64) -> Option<&PlainEntry>
-    ensures { option_map plain_view.entry_of (option_copied result) ≡ meaning.entry_at (plain_view.entries entries.now) p }
+    ensures { option_map plain_view.entry_of (option_copied result)
+        ≡ meaning.entry_at (plain_view.entries entries.now) p }
 {
     if p == 0 || p > entries.len() as u64 {
         return None;
@@ -215,7 +223,8 @@ fn entry_at(entries: &[PlainEntry], p: u64) -> Option<&PlainEntry>
 }
 
 fn header_of(entry: &PlainEntry) -> Option<&Header>
-    ensures { option_copied result ≡ option_map (λ l. l.header) (meaning.started (plain_view.entry_of entry.now)) }
+    ensures { option_copied result
+        ≡ option_map (λ l. l.header) (meaning.started (plain_view.entry_of entry.now)) }
 {
     match entry {
         PlainEntry::Start {
@@ -229,7 +238,8 @@ fn header_of(entry: &PlainEntry) -> Option<&Header>
 }
 
 fn load_header(entries: &[PlainEntry], j: u64) -> Option<&Header>
-    ensures { option_copied result ≡ option_map (λ l. l.header) (meaning.load_at (plain_view.entries entries.now) j) }
+    ensures { option_copied result
+        ≡ option_map (λ l. l.header) (meaning.load_at (plain_view.entries entries.now) j) }
 {
     match entry_at(entries, j) {
         None => None,
@@ -305,7 +315,9 @@ fn load_just_covers(entries: &[PlainEntry], j: u64, cell: &Cell) -> bool
 }
 
 fn serves(entries: &[PlainEntry], j: u64, cell: &Cell) -> bool
-    ensures { result ≡ (meaning.live (plain_view.entries entries.now) j cell.now && meaning.load_just_covers (plain_view.entries entries.now) j cell.now) }
+    ensures { result
+        ≡ (meaning.live (plain_view.entries entries.now) j cell.now
+        && meaning.load_just_covers (plain_view.entries entries.now) j cell.now) }
 {
     live(entries, j, cell) && load_just_covers(entries, j, cell)
 }
@@ -341,7 +353,9 @@ pub fn awaited_load(entries: &[PlainEntry], cell: &Cell) -> Option<u64>
 }
 
 fn flush_at(entries: &[PlainEntry], p: u64, cell: &Cell) -> bool
-    ensures { result ≡ meaning.is_some_and (meaning.flushes cell.now) (meaning.entry_at (plain_view.entries entries.now) p) }
+    ensures { result
+        ≡ meaning.is_some_and (meaning.flushes cell.now)
+        (meaning.entry_at (plain_view.entries entries.now) p) }
 {
     match entry_at(entries, p) {
         None => false,

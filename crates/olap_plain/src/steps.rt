@@ -55,7 +55,10 @@ fn is_call_below(call: u64, entry: &PlainEntry) -> bool
 }
 
 fn calls_below(history: &[PlainEntry], who: Who) -> bool
-    ensures { result ≡ list_all (λ e. legal.is_call_below who.call (entry_of e)) (filter (λ e. legal.is_call_of who.seat (entry_of e)) history.now) }
+    ensures { result
+        ≡ list_all
+        (λ e. legal.is_call_below who.call (entry_of e))
+        (filter (λ e. legal.is_call_of who.seat (entry_of e)) history.now) }
 {
     history
         .iter()
@@ -70,8 +73,8 @@ pub fn is_next_call(history: &[PlainEntry], who: Who) -> bool
     calls_below(history, who)
 }
 
-fn rows_in(entry: &PlainEntry) -> usize
-    ensures { result ≡ legal.rows_in (entry_of entry.now) }
+fn rows_added(entry: &PlainEntry) -> usize
+    ensures { result ≡ legal.rows_added (entry_of entry.now) }
 {
     match entry {
         PlainEntry::Append {
@@ -91,7 +94,7 @@ pub fn rows_held(history: &[PlainEntry]) -> u128
 {
     let mut held = 0u128;
     for i in 0..history.len() {
-        held += rows_in(&history[i]) as u128;
+        held += rows_added(&history[i]) as u128;
     }
     held
 }
@@ -103,7 +106,9 @@ fn is_leaf(catalog: &Catalog, dimension: u32, leaf: LeafId) -> bool
 }
 
 fn are_leaves(catalog: &Catalog, dimensions: &[u32], leaves: &[LeafId]) -> bool
-    ensures { result ≡ list_all (λ pair. legal.is_leaf catalog.now pair.0 pair.1) (zip dimensions.now leaves.now) }
+    ensures { result
+        ≡ list_all
+        (λ pair. legal.is_leaf catalog.now pair.0 pair.1) (zip dimensions.now leaves.now) }
 {
     dimensions
         .iter()
@@ -112,7 +117,11 @@ fn are_leaves(catalog: &Catalog, dimensions: &[u32], leaves: &[LeafId]) -> bool
 }
 
 fn is_row_of(catalog: &Catalog, cube: &Cube, row: &Row) -> bool
-    ensures { result ≡ ((length row.now.leaves == length cube.now.dimensions) && list_all (λ pair. legal.is_leaf catalog.now pair.0 pair.1) (zip cube.now.dimensions row.now.leaves) && (length row.now.values == length (fact_columns cube.now))) }
+    ensures { result
+        ≡ ((length row.now.leaves == length cube.now.dimensions)
+        && list_all
+        (λ pair. legal.is_leaf catalog.now pair.0 pair.1) (zip cube.now.dimensions row.now.leaves)
+        && (length row.now.values == length (fact_columns cube.now))) }
 {
     row.leaves.len() == cube.dimensions.len()
         && are_leaves(catalog, cube.dimensions.as_slice(), row.leaves.as_slice())
@@ -197,7 +206,8 @@ pub fn is_flushable(catalog: &Catalog, region: &Region) -> bool
 }
 
 fn has_measure(catalog: &Catalog, cell: &Cell) -> bool
-    ensures { result ≡ meaning.is_some_and (λ measure. true) (worth.measure_of catalog.now cell.now) }
+    ensures { result
+        ≡ meaning.is_some_and (λ measure. true) (worth.measure_of catalog.now cell.now) }
 {
     match catalog.cubes.get(cell.cube.0 as usize) {
         None => false,
@@ -206,7 +216,10 @@ fn has_measure(catalog: &Catalog, cell: &Cell) -> bool
 }
 
 fn are_values(catalog: &Catalog, at: &[(ColumnId, ValueId)]) -> bool
-    ensures { result ≡ list_all (λ pair. nat_lt pair.0 (length catalog.now.columns) && legal.is_value catalog.now pair.0 pair.1) at.now }
+    ensures { result
+        ≡ list_all
+        (λ pair. nat_lt pair.0 (length catalog.now.columns)
+        && legal.is_value catalog.now pair.0 pair.1) at.now }
 {
     at.iter().all(|pair| is_column(catalog, pair.0) && is_value(catalog, pair.0, pair.1))
 }
@@ -226,6 +239,38 @@ fn columns_rise<T>(pairs: &[(ColumnId, T)]) -> bool
     }
 }
 
+fn is_among(dimensions: &[u32], dimension: u32) -> bool
+    ensures { result ≡ covering.among dimensions.now dimension }
+{
+    dimensions.iter().any(|d| *d == dimension)
+}
+
+fn is_column_of(catalog: &Catalog, dimensions: &[u32], column: ColumnId) -> bool
+    ensures { result ≡ legal.is_column_of catalog.now dimensions.now column }
+{
+    match catalog.columns.get(column.0 as usize) {
+        None => false,
+        Some(c) => is_among(dimensions, c.dimension),
+    }
+}
+
+fn are_columns_of(catalog: &Catalog, dimensions: &[u32], at: &[(ColumnId, ValueId)]) -> bool
+    ensures { result
+        ≡ list_all (λ pair. legal.is_column_of catalog.now dimensions.now pair.0) at.now }
+{
+    at.iter()
+        .all(|pair| is_column_of(catalog, dimensions, pair.0))
+}
+
+fn has_own_columns(catalog: &Catalog, cell: &Cell) -> bool
+    ensures { result ≡ legal.has_own_columns catalog.now cell.now }
+{
+    match catalog.cubes.get(cell.cube.0 as usize) {
+        None => false,
+        Some(c) => are_columns_of(catalog, c.dimensions.as_slice(), cell.at.as_slice()),
+    }
+}
+
 /// Whether a cell is one of the catalog.
 pub fn is_cell(catalog: &Catalog, cell: &Cell) -> bool
     ensures { result ≡ legal.is_cell catalog.now cell.now }
@@ -233,6 +278,7 @@ pub fn is_cell(catalog: &Catalog, cell: &Cell) -> bool
     has_measure(catalog, cell)
         && are_values(catalog, cell.at.as_slice())
         && columns_rise(cell.at.as_slice())
+        && has_own_columns(catalog, cell)
 }
 
 fn is_next_version(history: &[PlainEntry], cube: CubeId, next: Version) -> bool
@@ -248,7 +294,8 @@ fn is_version_within(next: Version) -> bool
 }
 
 fn has_room(setting: &Setting, history: &[PlainEntry], rows: &[Row]) -> bool
-    ensures { result ≡ nat_le (legal.rows_held (entries history.now) + length rows.now) setting.now.row_limit }
+    ensures { result
+        ≡ nat_le (legal.rows_held (entries history.now) + length rows.now) setting.now.row_limit }
 {
     rows_held(history) + rows.len() as u128 <= setting.row_limit as u128
 }
@@ -279,7 +326,8 @@ fn is_legal_append(
     next: Version,
     rows: &List<Row>,
 ) -> bool
-    ensures { IsTrue result ↔ legal.IsLegalAppend setting.now (entries history.now) who cube next rows.now }
+    ensures { IsTrue result
+        ↔ legal.IsLegalAppend setting.now (entries history.now) who cube next rows.now }
 {
     append_passes(setting, history, who, cube, next, rows)
 }
@@ -315,7 +363,9 @@ fn is_legal_start(
     reason: &Cell,
     who: Who,
 ) -> bool
-    ensures { IsTrue result ↔ legal.IsLegalStart setting.now (entries history.now) (record { who = who; header = header.now; version = present; reason = reason.now }) }
+    ensures { IsTrue result
+        ↔ legal.IsLegalStart setting.now (entries history.now)
+        (record { who = who; header = header.now; version = present; reason = reason.now }) }
 {
     start_passes(setting, history, header, present, reason)
 }
@@ -371,7 +421,8 @@ fn are_answered(setting: &Setting, history: &[PlainEntry], cells: &[CellSource])
 
 /// Whether an entry is a legal step after a history.
 pub fn legal_step(setting: &Setting, history: &[PlainEntry], entry: &PlainEntry) -> bool
-    ensures { IsTrue result ↔ legal.LegalStep setting.now (entries history.now) (entry_of entry.now) }
+    ensures { IsTrue result
+        ↔ legal.LegalStep setting.now (entries history.now) (entry_of entry.now) }
 {
     match entry {
         PlainEntry::Append {

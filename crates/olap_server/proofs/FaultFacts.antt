@@ -2,8 +2,8 @@
 use Rattle.std.proofs.Common.{◌≡◌, ◌+◌, ◌∷◌, ◌⊎◌, inl, inr, ℕ, List, Option, Some, None}
 use Rattle.std.specs.Option.{IsSomeAnd, option_or}
 use Rattle.olap_meaning.specs.FileQuery.{FileFault, FileQuery, no_column, record_fault, first_fault}
-use Rattle.olap_server.specs.declared.cell.CellFault.{CellFault}
-use Rattle.olap_server.specs.declared.cell.CellFault.TheVariants.{OutOfMemory as NoMemory}
+use Rattle.olap_server.specs.declared.fault.CellFault.{CellFault}
+use Rattle.olap_server.specs.declared.fault.CellFault.TheVariants.{OutOfMemory as NoMemory}
 use Rattle.olap_server.specs.Faults.{told_fault, TellsFault, MissesColumn}
 
 -- the answer to a missing column tells it, where there was memory for its name

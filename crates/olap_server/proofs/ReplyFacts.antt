@@ -1,17 +1,17 @@
 -- What a reply tells of the answer to a query.
 use Rattle.std.proofs.Common.{◌≡◌, ◌≢◌, ◌⊎◌, ℕ, List, Result, Ok, Err, MatchResult, IfOk, IsErrAnd, refl, ap, sym, inl, inr, codes, ◌∙◌, ◌++◌}
 use Rattle.std.proofs.lemmas.Result.{err_from_is_err_and}
-use Rattle.olap_meaning.specs.FileQuery.{FileQuery, FileFault, not_csv, no_column, not_number, too_many_rows, answer_of}
+use Rattle.olap_meaning.specs.FileQuery.{FileQuery, FileFault, answer_of}
 use Rattle.olap_meaning.specs.Texts.{line, plain_text, name_text}
 use Rattle.olap_meaning.specs.declared.Aggregator.{Aggregator}
 use Rattle.olap_meaning.specs.declared.CellValue.{CellValue}
 use Rattle.olap_meaning.specs.declared.OutOfMemory.{OutOfMemory}
 use Rattle.olap_server.specs.declared.status.Status.{Status}
 use Rattle.olap_server.specs.declared.status.Status.TheVariants.{Done, Schema}
-use Rattle.olap_server.specs.declared.cell.CellFault.{CellFault}
-use Rattle.olap_server.specs.declared.cell.CellFault.TheVariants.{OutOfMemory as NoMemory}
+use Rattle.olap_server.specs.declared.fault.CellFault.{CellFault}
+use Rattle.olap_server.specs.declared.fault.CellFault.TheVariants.{OutOfMemory as NoMemory}
 use Rattle.olap_server.specs.Faults.{told_fault, refusal_text}
-use Rattle.olap_server.specs.Run.{AnswerTells, fault_text}
+use Rattle.olap_server.specs.Run.{AnswerTells}
 use Rattle.olap_server.specs.Said.{Said, IsSaid, no_memory}
 
 -- the answer to a query is that to its parts
@@ -32,19 +32,13 @@ value_told text reply file answer value is made told = elim (told_or_not text re
   | inr e ↦ inr e
 ]
 
--- what is told of a fault is what is told of its answer
-refusal_of : (fault : FileFault) → refusal_text (told_fault fault) ≡ fault_text fault
-refusal_of (no_column name) = refl
-refusal_of (not_csv n) = refl
-refusal_of (not_number n column) = refl
-refusal_of (too_many_rows total limit) = refl
-
+-- what is told of a fault is told of its answer
 pub refusal_told : (told : CellFault) (reply : Said) (file : List ℕ) (parts answer : Result CellValue FileFault) → parts ≡ answer → (told ≡ NoMemory) ⊎ IsErrAnd parts (λ fault. told ≡ told_fault fault)
     → IsSaid (told ≢ NoMemory) Schema (line (codes "FACT " ++ name_text file ++ codes " " ++ refusal_text told)) reply → AnswerTells answer file reply.status reply.text ⊎ (reply ≡ no_memory)
 refusal_told told reply file parts answer same found (inl none) = inr none
 refusal_told told reply file parts answer same (inl none) (inr said) = absurd (said.0 none)
 refusal_told told reply file parts answer same (inr found) (inr said) =
     let fault = err_from_is_err_and parts found in
-    let words : refusal_text told ≡ fault_text fault.0 = ap refusal_text fault.2 ∙ refusal_of fault.0 in
+    let words : refusal_text told ≡ refusal_text (told_fault fault.0) = ap refusal_text fault.2 in
     let is : answer ≡ Err fault.0 = sym same ∙ fault.1 in
     inl (rw is (ap (λ r. r.status) said.1, ap (λ r. r.text) said.1 ∙ ap (λ t. line (codes "FACT " ++ name_text file ++ codes " " ++ t)) words))

@@ -2,8 +2,8 @@
 use Rattle.std.specs.Prelude.{◌≡◌, ℕ, List, Option, IsSomeAnd, codes, ◌++◌}
 use Rattle.olap_meaning.specs.FileQuery.{FileFault, not_csv, no_column, not_number, too_many_rows}
 use Rattle.olap_meaning.specs.Texts.{name_text}
-use Rattle.olap_server.specs.declared.cell.CellFault.{CellFault}
-use Rattle.olap_server.specs.declared.cell.CellFault.TheVariants.{NoColumn, Unbuilt, OutOfMemory}
+use Rattle.olap_server.specs.declared.fault.CellFault.{CellFault}
+use Rattle.olap_server.specs.declared.fault.CellFault.TheVariants.{NoColumn, Unbuilt, OutOfMemory}
 
 -- the answer to a fault of the file: only a column that is not there has a name of its own yet
 abbrev pub told_fault : FileFault → CellFault

@@ -1,6 +1,6 @@
-pub mod Bound
 pub mod Faults
-pub mod Said
-pub mod Run
-pub mod RunWords
+pub mod Bound
 pub mod Parted
+pub mod Said
+pub mod Asked
+pub mod Run

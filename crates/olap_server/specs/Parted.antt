@@ -16,6 +16,12 @@ pub record IsWithinFile (values : List (Option ℤ)) (count : ℕ) : Type 0 wher
   pub small : count ≤ ROW_LIMIT
 
 -- a part is without a fault of its own, and this is kept of it
-pub record IsPart (query : FileQuery) (header : List (List ℕ)) (rows : List (List (List ℕ))) (part : PartSum) : Type 0 where
+pub record IsPart (query : FileQuery) (header : List (List ℕ)) (rows : List (List (List ℕ)))
+    (part : PartSum) : Type 0 where
   pub sound : first_fault query header 1 rows ≡ None
-  pub summed : part ≡ record { aggregator = query.aggregator; values = asked_values query header rows; count = length rows }
+  pub summed : part
+      ≡ record {
+        aggregator = query.aggregator;
+        values = asked_values query header rows;
+        count = length rows;
+      }

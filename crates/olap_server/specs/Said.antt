@@ -1,8 +1,6 @@
 -- What a run has to say.
 use Rattle.std.specs.Prelude.{◌≡◌, ◌⊎◌, ℕ, List, codes}
-use Rattle.olap_meaning.specs.Texts.{line}
-use Rattle.olap_server.specs.declared.reply.ReplyText.{ReplyText}
-use Rattle.olap_server.specs.declared.reply.ReplyText.TheVariants.{Fixed, Made}
+use Rattle.olap_meaning.specs.Texts.{line, named_line}
 use Rattle.olap_server.specs.declared.status.Status.{Status}
 use Rattle.olap_server.specs.declared.status.Status.TheVariants.{Memory}
 
@@ -11,15 +9,31 @@ pub record Said : Type 0 where
   pub status : Status
   pub text : List ℕ
 
--- the bytes of a text
-abbrev pub text_of : ReplyText → List ℕ
-text_of (Fixed text) = text.now
-text_of (Made text) = text
+-- the lines that a run writes: the words are no command line
+abbrev pub usage_line : List ℕ
+usage_line = line (codes "USAGE")
+
+-- a file, or the input, could not be read
+abbrev pub source_line : List ℕ
+source_line = line (codes "SOURCE")
+
+-- there was no memory
+abbrev pub memory_line : List ℕ
+memory_line = line (codes "MEMORY")
+
+-- a file is not there
+abbrev pub no_file_line : List ℕ → List ℕ
+no_file_line name = named_line (codes "NO FILE") name
+
+-- a file of an opening is refused
+abbrev pub unbuilt_line : List ℕ → List ℕ
+unbuilt_line file = named_line (codes "UNBUILT") file
 
 -- there was no memory for what was to be said
 abbrev pub no_memory : Said
-no_memory = record { status = Memory; text = line (codes "MEMORY") }
+no_memory = record { status = Memory; text = memory_line }
 
 -- this is said, which comes only where the cause holds, or there was no memory for it
 abbrev pub IsSaid : Type 0 → Status → List ℕ → Said → Type 0
-IsSaid cause status text said = (said ≡ no_memory) ⊎ (cause × (said ≡ record { status = status; text = text }))
+IsSaid cause status text said =
+    (said ≡ no_memory) ⊎ (cause × (said ≡ record { status = status; text = text }))

@@ -4,10 +4,10 @@ ghost use Rattle.olap_meaning.specs.Records.{column_place, field_in, number, mis
 ghost use Rattle.olap_meaning.specs.FileQuery.{header_fault, record_fault, is_asked};
 ghost use Rattle.olap_server.specs.Faults.{TellsFault, MissesColumn};
 
-use crate::cell::CellFault;
+use crate::fault::CellFault;
 use crate::query::Query;
 use csv_records::{Record, number};
-use olap_base::{Aggregator, ROW_LIMIT, Text};
+use olap_meaning::{Aggregator, ROW_LIMIT, Text};
 use std::alloc::Global;
 use std::marker::Model;
 
@@ -38,7 +38,8 @@ fn place_filters(
 ) -> Result<Vec<usize>, CellFault>
     ensures places { IfOk result (λ v.
         map (λ place. Some place) v.items ≡ map (λ pair. column_place pair.0 header.now) pairs.now) }
-    ensures all_there { IfOk result (λ _. missing_column (map (λ pair. pair.0) pairs.now) header.now ≡ None) }
+    ensures all_there { IfOk result
+        (λ _. missing_column (map (λ pair. pair.0) pairs.now) header.now ≡ None) }
     ensures fault { IfErr result (λ e. (e ≡ CellFault.OutOfMemory)
         ⊎ MissesColumn e (missing_column (map (λ pair. pair.0) pairs.now) header.now)) }
 {
@@ -90,9 +91,12 @@ impl<'a> BoundQuery<'a> {
     /// The value of the column in the record of this number: None is NULL. The faults of the record are seen here, whether
     /// the pairs ask for it or not.
     pub(crate) fn value(&self, row: &Record, n: u64) -> Result<Option<i64>, CellFault>
-        ensures value { IfOk result (λ v. v ≡ number (field_in self.now.header self.now.query.column row.now)) }
-        ensures sound { IfOk result (λ _. record_fault self.now.query self.now.header n row.now ≡ None) }
-        ensures fault { IfErr result (λ e. TellsFault e (record_fault self.now.query self.now.header n row.now)) }
+        ensures value { IfOk result
+            (λ v. v ≡ number (field_in self.now.header self.now.query.column row.now)) }
+        ensures sound { IfOk result
+            (λ _. record_fault self.now.query self.now.header n row.now ≡ None) }
+        ensures fault { IfErr result
+            (λ e. TellsFault e (record_fault self.now.query self.now.header n row.now)) }
     {
         if !row.is_csv(&self.header) {
             return Err(CellFault::Unbuilt);

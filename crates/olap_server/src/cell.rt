@@ -3,70 +3,19 @@ ghost use Rattle.std.specs.Prelude.{◌≡◌, ◌≢◌, ◌⊎◌, ◌++◌, O
 ghost use Rattle.std.specs.List.{AllZip, flat_map};
 ghost use Rattle.csv_records.specs.Files.{file_records};
 ghost use Rattle.olap_meaning.specs.FileQuery.{answer_of, first_fault};
-ghost use Rattle.olap_server.specs.declared.cell.CellFault.TheVariants.{OutOfMemory as NoMemory};
 ghost use Rattle.olap_server.specs.Faults.{TellsFault, told_fault};
 ghost use Rattle.olap_server.specs.Parted.{IsPart};
 
 use crate::bound_query::BoundQuery;
+use crate::fault::CellFault;
 use crate::part::{Part, join_parts};
 use crate::query::Query;
 use csv_records::{Record, Rows, record_parts};
 use measure_folds::Tally;
-use olap_base::{Aggregator, CellValue, OutOfMemory, Text};
+use olap_meaning::{Aggregator, CellValue, Text};
 use rayon::prelude::*;
-use std::alloc::{AllocFailed, Global};
-use std::fmt;
+use std::alloc::Global;
 use std::thread::Threads;
-
-/// Why a file gives no aggregate.
-#[derive(Debug, Drop)]
-pub enum CellFault {
-    /// The header has no column of this name. Of several it is the first: the query's own, then those of the pairs.
-    NoColumn { name: Text },
-    /// The file has another fault, which has no name of its own yet.
-    Unbuilt,
-    OutOfMemory,
-}
-
-impl fmt::Display for CellFault {
-    fn fmt<W: fmt::Write>(&self, f: &mut fmt::Formatter<W>) -> fmt::Result {
-        match self {
-            CellFault::NoColumn { name } => write!(f, "no column {name}"),
-            CellFault::Unbuilt => write!(f, "the file has a fault"),
-            CellFault::OutOfMemory => write!(f, "out of memory"),
-        }
-    }
-}
-
-impl std::error::Error for CellFault {}
-
-impl From<OutOfMemory> for CellFault {
-    ghost from_gives = { λ _ e. e ≡ NoMemory };
-
-    fn from(_error: OutOfMemory) -> CellFault {
-        CellFault::OutOfMemory
-    }
-}
-
-impl<T: Drop> From<AllocFailed<T>> for CellFault {
-    ghost from_gives = { λ _ e. e ≡ NoMemory };
-
-    fn from(_error: AllocFailed<T>) -> CellFault {
-        CellFault::OutOfMemory
-    }
-}
-
-impl CellFault {
-    /// The fault of a header without a column of this name.
-    pub(crate) fn missing_column(alloc: Global, name: &str) -> CellFault
-        ensures { (result ≡ CellFault.NoColumn name.now) ⊎ (result ≡ CellFault.OutOfMemory) }
-    {
-        match Text::from_str(alloc, name) {
-            Ok(name) => CellFault::NoColumn { name },
-            Err(OutOfMemory) => CellFault::OutOfMemory,
-        }
-    }
-}
 
 /// The aggregate of a column over the records of a CSV file whose fields equal the pairs, each a column and a field.
 ///
@@ -160,7 +109,9 @@ fn fold_parts(
         .with_min_len(1)
         .map(
             |bytes: &&[u8]| -> Result<Part, CellFault>
-                ensures { IfOk result (λ part. IsPart bound.entry.now.query bound.entry.now.header (file_records bytes.now.now) part) }
+                ensures { IfOk result
+                    (λ part. IsPart bound.entry.now.query bound.entry.now.header
+                    (file_records bytes.now.now) part) }
             { fold_part(alloc, bound, bytes) },
         )
         .collect::<Result<Vec<Part>, CellFault>>(rt, alloc);
@@ -172,7 +123,8 @@ fn fold_parts(
 
 // What is kept of a part below the header.
 fn fold_part(alloc: Global, bound: &BoundQuery<'_>, bytes: &[u8]) -> Result<Part, CellFault>
-    ensures { IfOk result (λ part. IsPart bound.now.query bound.now.header (file_records bytes.now) part) }
+    ensures { IfOk result
+        (λ part. IsPart bound.now.query bound.now.header (file_records bytes.now) part) }
 {
     let mut rows = Rows::new(alloc, bytes);
     fold_rows(alloc, bound, &mut rows)

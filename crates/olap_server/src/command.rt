@@ -1,113 +1,50 @@
-//! The words of a command line.
-ghost use Rattle.std.specs.Prelude.{◌≡◌, Some, None, IfOk, OnErr, IsSome, is_some, map, string_bytes};
-ghost use Rattle.olap_meaning.specs.Commands.{aggregator_named, command_of, pairs_of};
+//! What the words of a command line ask for.
+ghost use Rattle.std.specs.Prelude.{◌≡◌, IfOk, IsSome, OnErr, map, option_map, string_bytes};
+ghost use Rattle.olap_meaning.specs.Commands.{command_of};
+ghost use Rattle.olap_server.specs.Asked.{IsAsked, MayLackMemory, asked};
 
-use olap_base::{Aggregator, List, OutOfMemory, Text};
+use crate::cell_command::{CellCommand, read_cell};
+use crate::run_words::schema_file;
+use crate::words::Words;
+use olap_meaning::OutOfMemory;
 use std::alloc::Global;
-use std::marker::Model;
 
-/// The command `cell`: a query of one file.
+/// What a command line asks for.
 #[derive(Drop)]
-pub(crate) struct CellCommand<'a> {
-    file: &'a str,
-    column: &'a str,
-    aggregator: Aggregator,
-    pairs: List<(Text, Text)>,
+pub(crate) enum Command<'a> {
+    /// One aggregate of a file.
+    Cell(CellCommand<'a>),
+    /// A session over the cache that the schema of this file opens.
+    Run(&'a str),
 }
 
-impl<'a> Model for CellCommand<'a> {
-    ghost use Rattle.olap_meaning.specs.Commands.{CellCommand as Command};
-
-    ghost Value = { Command };
-
-    ghost view = { λ c. record { file = c.file.now; query = record { column = c.column.now; aggregator = c.aggregator; pairs = c.pairs } } };
-}
-
-impl<'a> CellCommand<'a> {
-    pub(crate) fn file(&self) -> &str
-        ensures { result.now ≡ self.now.file }
-    {
-        self.file
-    }
-
-    pub(crate) fn column(&self) -> &str
-        ensures { result.now ≡ self.now.query.column }
-    {
-        self.column
-    }
-
-    pub(crate) fn aggregator(&self) -> Aggregator
-        ensures { result ≡ self.now.query.aggregator }
-    {
-        self.aggregator
-    }
-
-    pub(crate) fn pairs(&self) -> &[(Text, Text)]
-        ensures { result.now ≡ self.now.query.pairs }
-    {
-        self.pairs.as_slice()
-    }
-}
-
-// The aggregator of a name.
-fn read_aggregator(name: &str) -> Option<Aggregator>
-    ensures { result ≡ aggregator_named name.now }
-{
-    match name {
-        "sum" => Some(Aggregator::Sum),
-        "count" => Some(Aggregator::Count),
-        "min" => Some(Aggregator::Min),
-        "max" => Some(Aggregator::Max),
-        "avg" => Some(Aggregator::Avg),
-        "distinct-count" => Some(Aggregator::DistinctCount),
-        _ => None,
-    }
-}
-
-// Whether words stand two by two.
-fn are_pairs(words: &[String]) -> bool
-    ensures { result ≡ is_some (pairs_of (map string_bytes words.now)) }
-{
-    words.len() % 2 == 0
-}
-
-// Words two by two.
-fn read_pairs(alloc: Global, words: &[String]) -> Result<List<(Text, Text)>, OutOfMemory>
-    requires { IsSome (pairs_of (map string_bytes words.now)) }
-    ensures { IfOk result (λ pairs. pairs_of (map string_bytes words.now) ≡ Some pairs) }
-{
-    let mut pairs = List::new(alloc);
-    for i in 0..words.len() / 2 {
-        let column = Text::from_str(alloc, words[2 * i].as_str())?;
-        let value = Text::from_str(alloc, words[2 * i + 1].as_str())?;
-        pairs.push((column, value))?;
-    }
-    Ok(pairs)
-}
-
-/// The command of the words, read by their places; None where they are no command line.
-pub(crate) fn read_command<'a>(
-    alloc: Global,
-    words: &'a [String],
-) -> Result<Option<CellCommand<'a>>, OutOfMemory>
-    ensures command { IfOk result (λ command. command ≡ command_of (map string_bytes words.now)) }
+/// The command of the words; None where they are no command line.
+fn read_command<'a>(alloc: Global, words: &'a [String]) -> Result<Option<Command<'a>>, OutOfMemory>
+    ensures command { IfOk result
+        (λ command. option_map asked command ≡ command_of (map string_bytes words.now)) }
     ensures err { OnErr result (IsSome (command_of (map string_bytes words.now))) }
 {
-    if words.len() < 4 || words[0].as_str() != "cell" {
-        return Ok(None);
+    match words {
+        [first, rest @ ..] if first.as_str() == "cell" => match read_cell(alloc, rest)? {
+            Some(command) => Ok(Some(Command::Cell(command))),
+            None => Ok(None),
+        },
+        [first, rest @ ..] if first.as_str() == "run" => match schema_file(rest) {
+            Some(file) => Ok(Some(Command::Run(file))),
+            None => Ok(None),
+        },
+        _ => Ok(None),
     }
-    let Some(aggregator) = read_aggregator(words[3].as_str()) else {
-        return Ok(None);
-    };
-    let rest = &words[4..];
-    if !are_pairs(rest) {
-        return Ok(None);
+}
+
+/// What words ask for, as the system gave them; None where they are no command line.
+pub(crate) fn read_words(alloc: Global, words: &Words) -> Result<Option<Command<'_>>, OutOfMemory>
+    ensures asked { IfOk result (λ command. IsAsked words.now (option_map asked command)) }
+    ensures err { OnErr result (MayLackMemory words.now) }
+{
+    match words {
+        Words::Read(words) => read_command(alloc, words.as_slice()),
+        Words::NotText => Ok(None),
+        Words::OutOfMemory => Err(OutOfMemory),
     }
-    let pairs = read_pairs(alloc, rest)?;
-    Ok(Some(CellCommand {
-        file: words[1].as_str(),
-        column: words[2].as_str(),
-        aggregator,
-        pairs,
-    }))
 }

@@ -3,7 +3,10 @@
 
 mod bound_query;
 mod cell;
+mod cell_command;
 mod command;
+mod counted;
+mod fault;
 mod part;
 mod query;
 mod reply;
@@ -11,8 +14,12 @@ mod run_words;
 mod sessions;
 mod status;
 mod top_call;
+mod words;
 
-pub use cell::{CellFault, cell_of_csv};
+pub use cell::cell_of_csv;
+pub use counted::carry_out;
+pub use fault::CellFault;
 pub use sessions::Ended;
 pub use status::Status;
 pub use top_call::run;
+pub use words::Words;

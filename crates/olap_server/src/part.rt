@@ -6,7 +6,7 @@ ghost use Rattle.olap_meaning.specs.declared.Aggregator.TheVariants.{DistinctCou
 ghost use Rattle.olap_server.specs.Parted.{IsWithinFile};
 
 use measure_folds::Tally;
-use olap_base::{CellValue, ROW_LIMIT};
+use olap_meaning::{CellValue, ROW_LIMIT};
 use std::marker::Model;
 
 /// What is kept of a part's records.
@@ -30,7 +30,8 @@ impl Part {
     /// The part of so many records, with the tally of those that are asked for.
     pub(crate) fn new(tally: Tally, count: u64) -> Part
         requires { IsWithinFile tally.values count }
-        ensures { result ≡ record { aggregator = tally.aggregator; values = tally.values; count = count } }
+        ensures { result
+            ≡ record { aggregator = tally.aggregator; values = tally.values; count = count } }
     {
         Part { tally, count }
     }

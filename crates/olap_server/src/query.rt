@@ -1,7 +1,7 @@
 //! A query of one file.
 ghost use Rattle.std.specs.Prelude.{◌≡◌};
 
-use olap_base::{Aggregator, Text};
+use olap_meaning::{Aggregator, Text};
 use std::marker::Model;
 
 /// The aggregate of a column over the records whose fields equal the pairs, each a column and a field.
@@ -26,7 +26,12 @@ impl<'a> Query<'a> {
         aggregator: Aggregator,
         pairs: &'a [(Text, Text)],
     ) -> Query<'a>
-        ensures { result ≡ record { column = column.entry.now; aggregator = aggregator; pairs = pairs.entry.now } }
+        ensures { result
+            ≡ record {
+              column = column.entry.now;
+              aggregator = aggregator;
+              pairs = pairs.entry.now;
+            } }
     {
         Query {
             column,

@@ -1,26 +1,23 @@
 //! What a run has to say.
-ghost use Rattle.std.specs.Prelude.{◌≡◌};
+ghost use Rattle.std.specs.Prelude.{◌≡◌, ◌≤◌, ◌<◌, ◌⊎◌, MatchResult};
+ghost use Rattle.olap_server.specs.Said.{no_memory};
+ghost use Rattle.olap_server.specs.Run.{IsLastLine};
 
 use crate::status::Status;
-use olap_base::Text;
+use olap_meaning::{OutOfMemory, Text, Written};
+use outside::{Failed, Sink};
 use std::marker::Model;
-
-/// The text of a reply: a fixed one takes no memory.
-#[derive(Drop)]
-pub(crate) enum ReplyText {
-    Fixed(&'static str),
-    Made(Text),
-}
 
 /// What a run has to say: how it ended, and the text that it writes.
 #[derive(Drop)]
 pub(crate) struct Reply {
     status: Status,
-    text: ReplyText,
+    text: Written,
 }
 
 impl Model for Reply {
-    ghost use Rattle.olap_server.specs.Said.{Said, text_of};
+    ghost use Rattle.olap_meaning.specs.Texts.{text_of};
+    ghost use Rattle.olap_server.specs.Said.{Said};
 
     ghost Value = { Said };
 
@@ -34,32 +31,43 @@ impl Reply {
     {
         Reply {
             status,
-            text: ReplyText::Fixed(text),
+            text: Written::Fixed(text),
         }
     }
 
-    /// A reply of a text that was made for it.
-    pub(crate) fn made(status: Status, text: Text) -> Reply
-        ensures { result ≡ record { status = status; text = text } }
+    /// That there was no memory.
+    pub(crate) fn no_memory() -> Reply
+        ensures { result ≡ no_memory }
     {
-        Reply {
-            status,
-            text: ReplyText::Made(text),
+        Reply::fixed(Status::Memory, "MEMORY\n")
+    }
+
+    /// A reply of a text, where there was memory for it.
+    pub(crate) fn made(status: Status, text: Result<Text, OutOfMemory>) -> Reply
+        ensures { MatchResult text
+            (λ t. result ≡ record { status = status; text = t })
+            (λ _. result ≡ no_memory) }
+    {
+        match text {
+            Ok(text) => Reply {
+                status,
+                text: Written::Made(text),
+            },
+            Err(OutOfMemory) => Reply::no_memory(),
         }
     }
 
-    pub(crate) fn status(&self) -> Status
-        ensures { result ≡ self.now.status }
+    /// Writes what is to be said, and gives its status, or that of a failed write.
+    pub(crate) fn say<O: Sink>(&self, output: &mut O) -> Status
+        ensures last { IsLastLine self.now.status self.now.text (O.taken output.old)
+            (O.taken output.new) result }
+        ensures count { O.faults output.old ≤ O.faults output.new }
+        ensures cause { result ≡ Status.Sink → (self.now.status ≡ Status.Sink)
+            ⊎ (O.faults output.old < O.faults output.new) }
     {
-        self.status
-    }
-
-    pub(crate) fn text(&self) -> &str
-        ensures { result.now ≡ self.now.text }
-    {
-        match &self.text {
-            ReplyText::Fixed(text) => text,
-            ReplyText::Made(text) => text.as_str(),
+        match output.write(self.text.as_str().as_bytes()) {
+            Ok(()) => self.status,
+            Err(Failed) => Status::Sink,
         }
     }
 }

@@ -1,7 +1,6 @@
 //! The words of the command `run`.
 ghost use Rattle.std.specs.Prelude.{◌≡◌, map, option_map, string_bytes};
-ghost use Rattle.olap_meaning.specs.Commands.{is_file_word, run_file, schema_file};
-ghost use Rattle.olap_server.specs.RunWords.{joined_file};
+ghost use Rattle.olap_meaning.specs.Commands.{is_file_word, joined_file, schema_file};
 
 // Whether a word can stand as the file of an option.
 fn is_file_word(word: &str) -> bool
@@ -24,8 +23,8 @@ fn joined_file(option: &str) -> Option<&str>
     }
 }
 
-// The file of the option `--schema`.
-fn schema_file(words: &[String]) -> Option<&str>
+/// The schema's file of the words behind `run`; None where they are not the one option `--schema`.
+pub(crate) fn schema_file(words: &[String]) -> Option<&str>
     ensures { option_map (λ text. text.now) result ≡ schema_file (map string_bytes words.now) }
 {
     match words {
@@ -33,16 +32,6 @@ fn schema_file(words: &[String]) -> Option<&str>
         [option, file] if option.as_str() == "--schema" && is_file_word(file.as_str()) => {
             Some(file.as_str())
         }
-        _ => None,
-    }
-}
-
-/// The schema's file of the command `run`; None where the words are no such command.
-pub(crate) fn run_file(words: &[String]) -> Option<&str>
-    ensures { option_map (λ text. text.now) result ≡ run_file (map string_bytes words.now) }
-{
-    match words {
-        [first, rest @ ..] if first.as_str() == "run" => schema_file(rest),
         _ => None,
     }
 }

@@ -1,20 +1,18 @@
 //! The command `run`: a cache is opened, and a session served over it.
-ghost use Rattle.std.specs.Prelude.{◌≡◌, ◌≤◌, ◌<◌, ◌≢◌, ◌⊎◌, ◌++◌, IfOk, IfSome, IsTrue, None, Some, codes};
+ghost use Rattle.std.specs.Prelude.{◌≡◌, ◌≤◌, ◌<◌, ◌≢◌, ◌⊎◌, IfSome, IsTrue, None};
 ghost use Rattle.cache_manager.specs.Jobs.{NoneFlies};
-ghost use Rattle.line_session.specs.Sessions.{IsServed, asker};
+ghost use Rattle.line_session.specs.Sessions.{asker};
 ghost use Rattle.olap_meaning.specs.Legal.{Legal, is_next_call};
-ghost use Rattle.olap_meaning.specs.Texts.{line, name_text};
-ghost use Rattle.olap_server.specs.Run.{EndsRun, IsLast, IsWithin, SayTells};
+ghost use Rattle.olap_server.specs.Run.{EndsRun, IsLast, IsWithin, SayTells, flow_of};
 
 use crate::reply::Reply;
 use crate::status::Status;
-use crate::top_call::{made_reply, missing_line, no_memory, say};
 use cache_manager::Manager;
 use cache_opening::OpenFault;
-use fact_batches::Steps;
+use fact_versions::Steps;
 use history_core::History;
 use line_session::{SessionEnd, serve};
-use olap_base::{OutOfMemory, Text, name_text};
+use olap_meaning::{OutOfMemory, named_line};
 use outside::{Sink, Source};
 use std::alloc::Global;
 use std::sync::ledger::Ledger;
@@ -26,28 +24,21 @@ pub struct Ended {
     pub history: Option<History>,
 }
 
-fn unbuilt_line(alloc: Global, file: &str) -> Result<Text, OutOfMemory>
-    ensures { IfOk result (λ t. t ≡ line (codes "UNBUILT " ++ name_text file.now)) }
-{
-    let name = name_text(alloc, file)?;
-    Ok(Text::from_string(format!(in alloc; "UNBUILT {name}\n")?))
-}
-
 /// What is to be said of a cache that was not opened.
 pub(crate) fn reply_to_opening(alloc: Global, fault: &OpenFault) -> Reply
     ensures { SayTells fault.now result }
 {
     match fault {
-        OpenFault::NoFile { name } => made_reply(
+        OpenFault::NoFile { name } => Reply::made(
             Status::NoFile,
-            missing_line(alloc, name.as_str()),
+            named_line(alloc, "NO FILE", name.as_str()),
         ),
-        OpenFault::Unbuilt { file } => made_reply(
+        OpenFault::Unbuilt { file } => Reply::made(
             Status::Schema,
-            unbuilt_line(alloc, file.as_str()),
+            named_line(alloc, "UNBUILT", file.as_str()),
         ),
         OpenFault::Source => Reply::fixed(Status::Source, "SOURCE\n"),
-        OpenFault::OutOfMemory => no_memory(),
+        OpenFault::OutOfMemory => Reply::no_memory(),
     }
 }
 
@@ -55,13 +46,14 @@ pub(crate) fn reply_to_opening(alloc: Global, fault: &OpenFault) -> Reply
 fn last_word<O: Sink>(output: &mut O, end: SessionEnd) -> Status
     ensures last { IsLast end (O.taken output.old) (O.taken output.new) result }
     ensures count { O.faults output.old ≤ O.faults output.new }
-    ensures cause { result ≡ Status.Sink → (end ≡ SessionEnd.SendFault) ⊎ (O.faults output.old < O.faults output.new) }
+    ensures cause { result ≡ Status.Sink → (end ≡ SessionEnd.SendFault)
+        ⊎ (O.faults output.old < O.faults output.new) }
 {
     match end {
         SessionEnd::Quit | SessionEnd::EndOfInput | SessionEnd::LongLine => Status::Done,
-        SessionEnd::ReceiveFault => say(output, &Reply::fixed(Status::Source, "SOURCE\n")),
+        SessionEnd::ReceiveFault => Reply::fixed(Status::Source, "SOURCE\n").say(output),
         SessionEnd::SendFault => Status::Sink,
-        SessionEnd::TooManyLines => say(output, &no_memory()),
+        SessionEnd::TooManyLines => Reply::no_memory().say(output),
     }
 }
 
@@ -75,7 +67,9 @@ pub(crate) fn serve_opened<S: Source, O: Sink, L: Ledger>(
 ) -> Ended
     requires call { IsTrue (is_next_call opened.entries (asker 1)) }
     requires idle { NoneFlies opened.entries }
-    ensures served { IfSome result.history (λ history. EndsRun opened history (S.left input.old) (S.left input.new) (O.taken output.old) (O.taken output.new) result.status) }
+    ensures served { IfSome result.history (λ history. EndsRun opened history
+        (flow_of S.left O.taken input.old output.old steps.old)
+        (flow_of S.left O.taken input.new output.new steps.new) result.status) }
     ensures there { result.history ≢ None }
     ensures legal { IfSome result.history (λ history. Legal history.setting history.entries) }
     ensures cost { IfSome result.history (λ history. IsWithin opened history steps.old steps.new) }
@@ -85,9 +79,9 @@ pub(crate) fn serve_opened<S: Source, O: Sink, L: Ledger>(
     let mut manager = opened;
     let status = match serve(alloc, &mut manager, input, output, steps) {
         Ok(end) => last_word(output, end),
-        Err(OutOfMemory) => say(output, &no_memory()),
+        Err(OutOfMemory) => Reply::no_memory().say(output),
     };
-    manager.is_legal();
+    manager.steps_are_legal();
     Ended {
         status,
         history: Some(manager.into_history()),

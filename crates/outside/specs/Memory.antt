@@ -31,7 +31,8 @@ has_room (Some room) size = nat_le size room
 abbrev pub lets_pass : Filled → List ℕ → Bool
 lets_pass sink bytes = not (fails_next sink.plan) && has_room sink.room (length bytes)
 
--- what a source in memory has left, its plan, how many bytes it still gives, and how many one call gives at most, where those are limited, and its faults
+-- what a source in memory has left, its plan, how many bytes it still gives, and how many one call gives at most,
+-- where those are limited, and its faults
 pub record Supplied : Type 0 where
   pub left : List ℕ
   pub plan : Planned
@@ -59,7 +60,8 @@ given source size = at_most source.room (wanted source size)
 
 -- the plan lets the next read pass, and there is room for its first byte if it would give one
 abbrev pub lets_read : Supplied → ℕ → Bool
-lets_read source size = not (fails_next source.plan) && has_room source.room (min 1 (wanted source size))
+lets_read source size =
+    not (fails_next source.plan) && has_room source.room (min 1 (wanted source size))
 
 -- what a depot in memory holds, its plan, and its counts
 pub record Stored : Type 0 where

@@ -4,29 +4,20 @@ ghost use Rattle.outside.specs.Told.{file_named};
 
 use olap_meaning::List;
 use std::alloc::Global;
-use std::fmt;
+use thiserror::Error;
 
 /// Why a file was not given.
-#[derive(Clone, Copy, Debug, PartialEq, Eq)]
+#[derive(Clone, Copy, Debug, PartialEq, Eq, Error)]
 pub enum DepotRefusal {
     /// No file has this name.
+    #[error("no file has this name")]
     Missing,
     /// The file could not be read.
+    #[error("the file could not be read")]
     Failed,
+    #[error("out of memory")]
     OutOfMemory,
 }
-
-impl fmt::Display for DepotRefusal {
-    fn fmt<W: fmt::Write>(&self, f: &mut fmt::Formatter<W>) -> fmt::Result {
-        f.write_str(match self {
-            DepotRefusal::Missing => "no file has this name",
-            DepotRefusal::Failed => "the file could not be read",
-            DepotRefusal::OutOfMemory => "out of memory",
-        })
-    }
-}
-
-impl std::error::Error for DepotRefusal {}
 
 /// Where files come from, as a folder.
 pub trait Depot {
@@ -41,11 +32,13 @@ pub trait Depot {
 
     /// The bytes of the file of this name.
     fn fetch(&mut self, alloc: Global, name: &str) -> Result<List<u8>, DepotRefusal>
-        ensures file { IfOk result (λ bytes. IfSome (files self.old) (λ all. file_named all name.now ≡ Some bytes)) }
+        ensures file { IfOk result
+            (λ bytes. IfSome (files self.old) (λ all. file_named all name.now ≡ Some bytes)) }
         ensures same_files { files self.new ≡ files self.old }
         ensures fault_count { faults self.old ≤ faults self.new }
         ensures miss_count { misses self.old ≤ misses self.new }
         ensures failed { IsErrOf result DepotRefusal.Failed → faults self.old < faults self.new }
         ensures missing { IsErrOf result DepotRefusal.Missing → misses self.old < misses self.new }
-        ensures not_there { IsErrOf result DepotRefusal.Missing → IfSome (files self.old) (λ all. file_named all name.now ≡ None) };
+        ensures not_there { IsErrOf result DepotRefusal.Missing
+            → IfSome (files self.old) (λ all. file_named all name.now ≡ None) };
 }

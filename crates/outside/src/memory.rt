@@ -72,7 +72,7 @@ impl Model for MemorySink {
 
     ghost Value = { Filled };
 
-    ghost view = { λ s. record { taken = s.taken.items; plan = s.calls; room = s.room; faults = s.faults.count } };
+    ghost view = { λ s. record { taken = s.taken.items; plan = s.calls; room = s.room; faults = s.faults } };
 }
 
 impl MemorySink {
@@ -128,7 +128,8 @@ impl Sink for MemorySink {
 
     fn write(&mut self, bytes: &[u8]) -> Result<(), Failed>
         ensures all { OnOk result (self.new.taken ≡ self.old.taken ++ bytes.now) }
-        ensures front { OnErr result (TakesFront (Some self.old.taken) (Some self.new.taken) bytes.now) }
+        ensures front { OnErr result
+            (TakesFront (Some self.old.taken) (Some self.new.taken) bytes.now) }
         ensures count { self.old.faults ≤ self.new.faults }
         ensures cause { OnErr result (self.old.faults < self.new.faults) }
         ensures planned { OnOk result (IsTrue (lets_pass self.old bytes.now)) }
@@ -165,7 +166,7 @@ impl Model for MemoryDepot {
 
     ghost Value = { Stored };
 
-    ghost view = { λ d. record { files = d.files; plan = d.calls; faults = d.faults.count; misses = d.misses.count } };
+    ghost view = { λ d. record { files = d.files; plan = d.calls; faults = d.faults; misses = d.misses } };
 }
 
 impl MemoryDepot {
@@ -221,7 +222,8 @@ impl Depot for MemoryDepot {
         ensures miss_count { self.old.misses ≤ self.new.misses }
         ensures failed { IsErrOf result DepotRefusal.Failed → self.old.faults < self.new.faults }
         ensures missing { IsErrOf result DepotRefusal.Missing → self.old.misses < self.new.misses }
-        ensures not_there { IsErrOf result DepotRefusal.Missing → file_named self.old.files name.now ≡ None }
+        ensures not_there { IsErrOf result DepotRefusal.Missing
+            → file_named self.old.files name.now ≡ None }
         ensures planned { IsErrOf result DepotRefusal.Failed ↔ IsTrue (fails_next self.old.plan) }
     {
         if self.calls.fails() {

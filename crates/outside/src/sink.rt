@@ -2,19 +2,12 @@
 ghost use Rattle.std.specs.Prelude.{◌≡◌, ◌<◌, ◌≤◌, OnOk, OnErr, ℕ, List, Option};
 ghost use Rattle.outside.specs.Told.{with_bytes, TakesFront};
 
-use std::fmt;
+use thiserror::Error;
 
 /// A call on an object outside has failed.
-#[derive(Clone, Copy, Debug, PartialEq, Eq)]
+#[derive(Clone, Copy, Debug, PartialEq, Eq, Error)]
+#[error("a call on an object outside has failed")]
 pub struct Failed;
-
-impl fmt::Display for Failed {
-    fn fmt<W: fmt::Write>(&self, f: &mut fmt::Formatter<W>) -> fmt::Result {
-        f.write_str("a call on an object outside has failed")
-    }
-}
-
-impl std::error::Error for Failed {}
 
 /// Where bytes go, as the standard output.
 pub trait Sink {

@@ -17,8 +17,10 @@ pub trait Source {
     fn read(&mut self, into: &mut [u8]) -> Result<usize, Failed>
         ensures size { length into.new ≡ length into.old }
         ensures within { IfOk result (λ n. n ≤ length into.old) }
-        ensures front { IfOk result (λ n. TakenOff (left self.old) (left self.new) (take n into.new)) }
-        ensures end { IfOk result (λ n. n ≡ 0 → 0 < length into.old → IfSome (left self.old) (λ bytes. bytes ≡ [])) }
+        ensures front { IfOk result
+            (λ n. TakenOff (left self.old) (left self.new) (take n into.new)) }
+        ensures end { IfOk result
+            (λ n. n ≡ 0 → 0 < length into.old → IfSome (left self.old) (λ bytes. bytes ≡ [])) }
         ensures untaken { OnErr result (left self.new ≡ left self.old) }
         ensures count { faults self.old ≤ faults self.new }
         ensures cause { OnErr result (faults self.old < faults self.new) };

@@ -32,7 +32,7 @@ impl<'a, R: Print> Sink for StdSink<'a, R> {
 
     ghost taken = { λ _. None };
 
-    ghost faults = { λ s. s.faults.count };
+    ghost faults = { λ s. s.faults };
 
     fn write(&mut self, bytes: &[u8]) -> Result<(), Failed> {
         match io::writer(self.rt).write_all(bytes) {
@@ -69,7 +69,7 @@ impl<'a, R: Input> Source for StdSource<'a, R> {
 
     ghost left = { λ _. None };
 
-    ghost faults = { λ s. s.faults.count };
+    ghost faults = { λ s. s.faults };
 
     fn read(&mut self, into: &mut [u8]) -> Result<usize, Failed> {
         let mut reader = self.rt.reader();
@@ -108,9 +108,9 @@ impl<'a, R: Files + AllocGlobal> Depot for FolderDepot<'a, R> {
 
     ghost files = { λ _. None };
 
-    ghost faults = { λ d. d.faults.count };
+    ghost faults = { λ d. d.faults };
 
-    ghost misses = { λ d. d.misses.count };
+    ghost misses = { λ d. d.misses };
 
     fn fetch(&mut self, _alloc: Global, name: &str) -> Result<List<u8>, DepotRefusal> {
         let refusal = match fs::read(self.rt, name) {

@@ -4,7 +4,8 @@ ghost use Rattle.olap_catalog.specs.MemberOf.{IsMemberOf};
 ghost use Rattle.olap_meaning.specs.Grids.{cell_grid, member_grid};
 
 use crate::titles::member_title;
-use olap_base::{Catalog, CellValue, CubeId, Member, OutOfMemory, Text, plain_text};
+use olap_catalog::Catalog;
+use olap_meaning::{CellValue, CubeId, Member, OutOfMemory, Text, plain_text};
 use std::alloc::Global;
 
 /// The grid of one cell: the position of its answer, the title of the one member on the columns, and its value.
@@ -31,7 +32,8 @@ pub fn member_grid(
     value: &CellValue,
 ) -> Result<Text, OutOfMemory>
     requires { IsMemberOf catalog.now cube member.now }
-    ensures { IfOk result (λ grid. grid ≡ member_grid catalog.now cube position member.now value.now) }
+    ensures { IfOk result
+        (λ grid. grid ≡ member_grid catalog.now cube position member.now value.now) }
 {
     let title = member_title(alloc, catalog, cube, member)?;
     cell_grid(alloc, position, title.as_str(), value)

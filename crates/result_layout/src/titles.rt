@@ -5,9 +5,8 @@ ghost use Rattle.olap_catalog.specs.Members.{all_text};
 ghost use Rattle.olap_catalog.specs.MemberOf.{IsMemberOf, measure_count, levels_of, is_path};
 ghost use Rattle.olap_meaning.specs.Grids.{title};
 
-use olap_base::{
-    Catalog, CubeId, HierarchyId, MeasureId, Member, OutOfMemory, Text, ValueId, name_text,
-};
+use olap_catalog::Catalog;
+use olap_meaning::{CubeId, HierarchyId, MeasureId, Member, OutOfMemory, Text, ValueId, name_text};
 use std::alloc::Global;
 
 /// The title of a member in a grid.
@@ -66,7 +65,8 @@ fn path_title(
 ) -> Result<Text, OutOfMemory>
     requires hierarchy { h < length catalog.now.hierarchies }
     requires path { is_path catalog.now (levels_of catalog.now h) path.now ≡ true }
-    ensures { IfOk result (λ text. (cube : ℕ) → text ≡ title catalog.now cube (Member.At h path.now)) }
+    ensures { IfOk result
+        (λ text. (cube : ℕ) → text ≡ title catalog.now cube (Member.At h path.now)) }
 {
     let mut title = name_text(alloc, catalog.full_name(h))?.into_string();
     let levels = catalog.hierarchy(h).levels.as_slice();

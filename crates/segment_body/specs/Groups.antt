@@ -10,7 +10,11 @@ use Rattle.segment_body.specs.BodyOf.{different_values, numbers_at}
 
 -- the group of the rows that have some values
 abbrev pub group_of : Aggregator → List (List ℕ × Option ℤ) → List ℕ → Group
-group_of aggregator rows values = record { values = values; tally = record { aggregator = aggregator; values = numbers_at rows values } }
+group_of aggregator rows values =
+    record {
+      values = values;
+      tally = record { aggregator = aggregator; values = numbers_at rows values };
+    }
 
 -- the groups of some rows: one for each different list of values, by first appearance
 abbrev pub groups_of : Aggregator → List (List ℕ × Option ℤ) → List Group
@@ -30,16 +34,28 @@ rows_of groups places = map (row_at (values_of groups)) places
 
 -- a group with one number more
 abbrev pub with_number : Group → Option ℤ → Group
-with_number group number = record group { tally = record group.tally { values = group.tally.values ++ number ∷ [] } }
+with_number group number =
+    record group { tally = record group.tally { values = group.tally.values ++ number ∷ [] } }
 
--- a row is added to groups, to that at a place: the group there has the row's values, and gets its number; or none has them, and a group of this row alone is put at the end
+-- a row is added to groups, to that at a place: the group there has the row's values, and gets its number; or none
+-- has them, and a group of this row alone is put at the end
 abbrev pub IsAdded : Aggregator → List ℕ → Option ℤ → List Group → List Group → ℕ → Type 0
 IsAdded aggregator values number old new place =
-    ((slice_get (values_of old) place ≡ Some values) × ((d : Group) → new ≡ slice_set old place (with_number (slice_index_or old place d) number)))
-    ⊎ ((list_any (bytes_eq values) (values_of old) ≡ false) × (place ≡ length old) × (new ≡ old ++ record { values = values; tally = record { aggregator = aggregator; values = number ∷ [] } } ∷ []))
+    ((slice_get (values_of old) place ≡ Some values)
+    × ((d : Group)
+    → new ≡ slice_set old place (with_number (slice_index_or old place d) number)))
+    ⊎ ((list_any (bytes_eq values) (values_of old) ≡ false) × (place ≡ length old)
+    × (new
+    ≡ old
+    ++ record {
+      values = values;
+      tally = record { aggregator = aggregator; values = number ∷ [] };
+    } ∷ []))
 
--- a header, groups and places hold rows: the header is well formed and allows each row, there are not too many rows, the groups are theirs, and each place is that of a group
-pub record AreHeld (header : Header) (aggregator : Aggregator) (groups : List Group) (places : List (ℕ × Option ℤ)) (rows : List (List ℕ × Option ℤ)) : Type 0 where
+-- a header, groups and places hold rows: the header is well formed and allows each row, there are not too many rows,
+-- the groups are theirs, and each place is that of a group
+pub record AreHeld (header : Header) (aggregator : Aggregator) (groups : List Group)
+    (places : List (ℕ × Option ℤ)) (rows : List (List ℕ × Option ℤ)) : Type 0 where
   pub header_holds : IsTrue (is_header header)
   pub allowed : IsTrue (list_all (λ row. are_allowed header row.0) rows)
   pub room : length rows ≤ ROW_LIMIT

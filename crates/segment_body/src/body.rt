@@ -41,7 +41,8 @@ impl Body {
     /// The body of no row.
     pub fn new(alloc: Global, header: Header, aggregator: Aggregator) -> Result<Body, OutOfMemory>
         requires { IsTrue (is_header header) }
-        ensures { IfOk result (λ body. body ≡ record { header = header; aggregator = aggregator; rows = [] }) }
+        ensures { IfOk result
+            (λ body. body ≡ record { header = header; aggregator = aggregator; rows = [] }) }
     {
         Ok(Body {
             alloc,
@@ -56,7 +57,8 @@ impl Body {
     pub fn add(&mut self, values: &[ValueId], value: Option<i64>) -> Result<(), OutOfMemory>
         requires allowed { IsTrue (are_allowed self.old.header values.now) }
         requires room { length self.old.rows < ROW_LIMIT }
-        ensures ok { OnOk result (self.new ≡ record self.old { rows = self.old.rows ++ (values.now, value) ∷ [] }) }
+        ensures ok { OnOk result
+            (self.new ≡ record self.old { rows = self.old.rows ++ (values.now, value) ∷ [] }) }
         ensures err { OnErr result (self.new ≡ self.old) }
     {
         let place = add_row(self.alloc, &mut self.groups, self.aggregator, values, value)?;
@@ -68,7 +70,12 @@ impl Body {
     pub fn get(&self, values: &[ValueId]) -> Option<&Tally>
         ensures found { is_some result ≡ has_row self.now.rows values.now }
         ensures none { IfNone result (numbers_at self.now.rows values.now ≡ []) }
-        ensures tally { IfSome result (λ t. t.now ≡ record { aggregator = self.now.aggregator; values = numbers_at self.now.rows values.now }) }
+        ensures tally { IfSome result
+            (λ t. t.now
+            ≡ record {
+              aggregator = self.now.aggregator;
+              values = numbers_at self.now.rows values.now;
+            }) }
     {
         match place_of(self.groups.as_slice(), values) {
             None => None,
@@ -80,7 +87,9 @@ impl Body {
     pub fn value(&self, cell: &Cell) -> CellValue
         requires covered { IsTrue (just_covers self.now.header cell.now) }
         requires rising { IsTrue (rise (map (λ pair. pair.0) cell.now.at)) }
-        ensures { result ≡ aggregate self.now.aggregator (map (λ row. row.1) (filter (body_row_in self.now.header cell.now) self.now.rows)) }
+        ensures { result
+            ≡ aggregate self.now.aggregator
+            (map (λ row. row.1) (filter (body_row_in self.now.header cell.now) self.now.rows)) }
     {
         match place_in(self.groups.as_slice(), cell.at.as_slice()) {
             None => CellValue::Empty,
@@ -100,7 +109,8 @@ impl Body {
     pub fn header(&self) -> &Header
         ensures value { result.now ≡ self.now.header }
         ensures well_formed { IsTrue (is_header self.now.header) }
-        ensures allowed { IsTrue (list_all (λ row. are_allowed self.now.header row.0) self.now.rows) }
+        ensures allowed { IsTrue
+            (list_all (λ row. are_allowed self.now.header row.0) self.now.rows) }
     {
         &self.header
     }

@@ -22,7 +22,12 @@ impl Group {
         values: &[ValueId],
         value: Option<i64>,
     ) -> Result<Group, OutOfMemory>
-        ensures { IfOk result (λ g. g ≡ record { values = values.now; tally = record { aggregator = aggregator; values = value ∷ [] } }) }
+        ensures { IfOk result
+            (λ g. g
+            ≡ record {
+              values = values.now;
+              tally = record { aggregator = aggregator; values = value ∷ [] };
+            }) }
     {
         let mut tally = Tally::new(alloc, aggregator);
         tally.step(value)?;
@@ -42,7 +47,8 @@ pub(crate) fn add_row(
     number: Option<i64>,
 ) -> Result<usize, OutOfMemory>
     requires { All (λ group. length group.tally.values < ROW_LIMIT) groups.old.items }
-    ensures ok { IfOk result (λ place. IsAdded aggregator values.now number groups.old.items groups.new.items place) }
+    ensures ok { IfOk result
+        (λ place. IsAdded aggregator values.now number groups.old.items groups.new.items place) }
     ensures err { OnErr result (groups.new.items ≡ groups.old.items) }
 {
     match place_of(groups.as_slice(), values) {

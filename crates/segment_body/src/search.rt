@@ -32,7 +32,8 @@ fn are_values_of(at: &[(ColumnId, ValueId)], values: &[ValueId]) -> bool
 
 /// The place of the group that has the values of a cell's pairs, in their order.
 pub(crate) fn place_in(groups: &[Group], at: &[(ColumnId, ValueId)]) -> Option<usize>
-    ensures { result ≡ position (λ group. bytes_eq (map (λ pair. pair.1) at.now) group.values) groups.now }
+    ensures { result
+        ≡ position (λ group. bytes_eq (map (λ pair. pair.1) at.now) group.values) groups.now }
 {
     groups
         .iter()

@@ -12,9 +12,11 @@ abbrev pub is_set : Allowed → Bool
 is_set Any = true
 is_set (Set values) = nat_lt 0 (length values) && rise values
 
--- columns with their allowed values are a header's: the columns rise, and each column's allowed values are well formed
+-- columns with their allowed values are a header's: the columns rise, and each column's allowed values are well
+-- formed
 abbrev pub are_columns : List (ℕ × Allowed) → Bool
-are_columns columns = rise (map (λ column. column.0) columns) && list_all (λ column. is_set column.1) columns
+are_columns columns =
+    rise (map (λ column. column.0) columns) && list_all (λ column. is_set column.1) columns
 
 -- a header is well formed: its columns are
 abbrev pub is_header : Header → Bool
@@ -22,4 +24,6 @@ is_header header = are_columns header.columns
 
 -- values are allowed on a header's columns: there is one for each column, and it is allowed there
 abbrev pub are_allowed : Header → List ℕ → Bool
-are_allowed header values = (length values == length header.columns) && list_all (λ own. allows own.0.1 own.1) (zip header.columns values)
+are_allowed header values =
+    (length values == length header.columns)
+    && list_all (λ own. allows own.0.1 own.1) (zip header.columns values)

@@ -12,7 +12,8 @@ use olap_meaning::{Allowed, Cell, ColumnId, ValueId};
 /// them.
 pub fn allows_at(columns: &[(ColumnId, Allowed)], column: ColumnId, value: ValueId) -> bool
     requires { IsTrue (headers.are_columns columns.now) }
-    ensures { result ≡ list_any (λ own. (own.0 == column) && covering.allows own.1 value) columns.now }
+    ensures { result
+        ≡ list_any (λ own. (own.0 == column) && covering.allows own.1 value) columns.now }
 {
     match columns.binary_search_by_key(&column, |own| own.0) {
         Ok(i) => allows(&columns[i].1, value),
@@ -27,7 +28,8 @@ pub fn names_column(cell: &Cell, column: ColumnId) -> bool
     cell.at.as_slice().iter().any(|pair| pair.0 == column)
 }
 
-fn columns_rise(columns: &[(ColumnId, Allowed)]) -> bool
+/// Whether columns rise, whatever stands beside each.
+pub fn columns_rise<T>(columns: &[(ColumnId, T)]) -> bool
     ensures { result ≡ rise (map (λ column. column.0) columns.now) }
 {
     for i in 1..columns.len() {

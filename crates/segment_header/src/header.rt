@@ -17,7 +17,10 @@ pub fn is_header(header: &Header) -> bool
 
 fn allow_all(columns: &[(ColumnId, Allowed)], at: &[(ColumnId, ValueId)]) -> bool
     requires { IsTrue (headers.are_columns columns.now) }
-    ensures { result ≡ list_all (λ pair. list_any (λ own. (own.0 == pair.0) && covering.allows own.1 pair.1) columns.now) at.now }
+    ensures { result
+        ≡ list_all
+        (λ pair. list_any
+        (λ own. (own.0 == pair.0) && covering.allows own.1 pair.1) columns.now) at.now }
 {
     at.iter().all(|pair| allows_at(columns, pair.0, pair.1))
 }
@@ -37,7 +40,8 @@ pub fn covers(header: &Header, cell: &Cell) -> bool
 /// takes no memory.
 pub fn same_columns(header: &Header, cell: &Cell) -> bool
     requires { IsTrue (headers.is_header header.now) }
-    ensures { result ≡ list_all (λ column. covering.names_column cell.now column.0) header.now.columns }
+    ensures { result
+        ≡ list_all (λ column. covering.names_column cell.now column.0) header.now.columns }
 {
     header
         .columns
@@ -57,7 +61,8 @@ pub fn is_allowed(header: &Header, values: &[ValueId]) -> bool
 fn are_in_sets(columns: &[(ColumnId, Allowed)], values: &[ValueId]) -> bool
     requires sets { IsTrue (headers.are_columns columns.now) }
     requires one_each { length values.now ≡ length columns.now }
-    ensures { result ≡ list_all (λ own. covering.allows own.0.1 own.1) (zip columns.now values.now) }
+    ensures { result
+        ≡ list_all (λ own. covering.allows own.0.1 own.1) (zip columns.now values.now) }
 {
     let mut i = 0;
     while i < columns.len() {

@@ -6,7 +6,7 @@ mod copies;
 mod header;
 mod values;
 
-pub use columns::{allows_at, are_columns, names_column};
+pub use columns::{allows_at, are_columns, columns_rise, names_column};
 pub use copies::{copy_cell, copy_header};
 pub use header::{covers, is_allowed, is_header, same_columns};
 pub use olap_meaning::{Allowed, Header};

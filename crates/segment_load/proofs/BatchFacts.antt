@@ -8,7 +8,7 @@ use Rattle.segment_body.proofs.Places.{each_at}
 use Rattle.olap_meaning.specs.declared.cells.Header.{Header}
 use Rattle.olap_meaning.specs.declared.tables.Catalog.{Catalog}
 use Rattle.olap_meaning.specs.declared.tables.Row.{Row}
-use Rattle.fact_batches.specs.FactRows.{FactRows}
+use Rattle.fact_versions.specs.FactRows.{FactRows}
 use Rattle.fact_versions.specs.Facts.{rows_of_batches}
 use Rattle.segment_load.specs.Jobs.{row_at}
 use Rattle.segment_load.specs.Loads.{are_batches, body_row, body_rows, is_batch, rows_in}

@@ -14,12 +14,13 @@ use Rattle.olap_meaning.specs.declared.tables.Catalog.{Catalog}
 use Rattle.olap_meaning.specs.declared.tables.Cube.{Cube}
 use Rattle.olap_meaning.specs.Catalog.{fact_columns}
 use Rattle.olap_meaning.specs.History.{is_some_and}
+use Rattle.olap_meaning.specs.Legal.{is_column_of}
 use Rattle.olap_meaning.proofs.Appearances.{any-same}
-use Rattle.olap_catalog.proofs.SeenFacts.{list_any-map}
+use Rattle.catalog_tables.proofs.SeenFacts.{list_any-map}
 use Rattle.segment_body.proofs.Places.{some_at}
 use Rattle.segment_body.proofs.RowFacts.{same_self}
 use Rattle.segment_load.specs.Jobs.{fact_place}
-use Rattle.segment_load.specs.Loads.{header_measure, is_column_of, is_loadable}
+use Rattle.segment_load.specs.Loads.{header_measure, is_loadable}
 use Rattle.segment_load.proofs.RowFacts.{some_and, position_of}
 
 -- the columns of some measures

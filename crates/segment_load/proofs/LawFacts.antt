@@ -16,11 +16,11 @@ use Rattle.olap_meaning.specs.Covering.{allows, among, header_covers, just_cover
 use Rattle.olap_meaning.specs.History.{Entry, rows_of, is_some_and}
 use Rattle.olap_meaning.specs.Legal.{rise}
 use Rattle.olap_meaning.specs.Values.{aggregate}
-use Rattle.olap_meaning.specs.Worth.{fact, measure_of, row_in, row_value, value}
+use Rattle.olap_meaning.specs.Worth.{fact, measure_of, row_in, row_value, value, value_over}
 use Rattle.segment_header.specs.Headers.{is_header, is_set}
 use Rattle.segment_header.proofs.RiseFacts.{all_at, found_at, key_told}
 use Rattle.segment_body.specs.BodyOf.{BodyOf, body_row_in}
-use Rattle.segment_load.specs.Loads.{allowed_values, if_allowed, row_values, row_number, header_measure, body_rows, body_of, body_value, value_over}
+use Rattle.segment_load.specs.Loads.{allowed_values, if_allowed, row_values, row_number, header_measure, body_rows, body_of, body_value}
 
 eq_of : (a b : ℕ) → (a == b) ≡ true → a ≡ b
 eq_of a b h = grind (arith, nat_tests)

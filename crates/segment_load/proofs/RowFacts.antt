@@ -15,13 +15,13 @@ use Rattle.olap_meaning.specs.declared.tables.Row.{Row}
 use Rattle.olap_meaning.specs.Catalog.{fact_columns, leaf_value, records}
 use Rattle.olap_meaning.specs.Covering.{among}
 use Rattle.olap_meaning.specs.History.{is_some_and}
-use Rattle.olap_meaning.specs.Legal.{is_leaf, is_row}
+use Rattle.olap_meaning.specs.Legal.{is_column_of, is_leaf, is_row}
 use Rattle.olap_meaning.specs.Worth.{leaf_in, row_value}
-use Rattle.fact_batches.specs.FactRows.{FactRows}
+use Rattle.fact_versions.specs.FactRows.{FactRows}
 use Rattle.segment_header.proofs.RiseFacts.{all_at}
 use Rattle.segment_body.proofs.Places.{each_at, missed}
 use Rattle.segment_load.specs.Jobs.{IsReader, place_of, row_at}
-use Rattle.segment_load.specs.Loads.{header_measure, is_batch, is_column_of, is_loadable}
+use Rattle.segment_load.specs.Loads.{header_measure, is_batch, is_loadable}
 
 eq_of : (a b : ℕ) → (a == b) ≡ true → a ≡ b
 eq_of a b h = grind (arith, nat_tests)

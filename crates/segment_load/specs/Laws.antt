@@ -6,21 +6,24 @@ use Rattle.olap_meaning.specs.declared.tables.Catalog.{Catalog}
 use Rattle.olap_meaning.specs.declared.tables.Row.{Row}
 use Rattle.olap_meaning.specs.Covering.{just_covers}
 use Rattle.olap_meaning.specs.History.{Entry, rows_of}
-use Rattle.olap_meaning.specs.Worth.{value}
+use Rattle.olap_meaning.specs.Worth.{value, value_over}
 use Rattle.segment_header.specs.Headers.{is_header}
 use Rattle.segment_body.specs.BodyOf.{BodyOf}
-use Rattle.segment_load.specs.Loads.{body_of, body_value, value_over}
+use Rattle.segment_load.specs.Loads.{body_of, body_value}
 
 -- what the body of a load says of a cell that its header just covers is the value of the cell over the loaded rows
 abbrev pub LoadsAreWorth : Type 0
 LoadsAreWorth =
     (catalog : Catalog) (header : Header) (rows : List Row) (body : BodyOf) (cell : Cell)
-    → IsTrue (is_header header) → IsTrue (just_covers header cell) → body_of catalog header rows ≡ Some body
+    → IsTrue (is_header header) → IsTrue (just_covers header cell)
+    → body_of catalog header rows ≡ Some body
     → body_value body cell ≡ value_over catalog cell rows
 
 -- over the rows of a version, it is the value of the cell in that version
 abbrev pub LoadsAreWorthInVersions : Type 0
 LoadsAreWorthInVersions =
-    (catalog : Catalog) (history : List Entry) (header : Header) (version : ℕ) (body : BodyOf) (cell : Cell)
-    → IsTrue (is_header header) → IsTrue (just_covers header cell) → body_of catalog header (rows_of history header.cube version) ≡ Some body
+    (catalog : Catalog) (history : List Entry) (header : Header) (version : ℕ) (body : BodyOf)
+    (cell : Cell)
+    → IsTrue (is_header header) → IsTrue (just_covers header cell)
+    → body_of catalog header (rows_of history header.cube version) ≡ Some body
     → body_value body cell ≡ value catalog history cell version

@@ -4,8 +4,7 @@ ghost use Rattle.segment_header.specs.Headers.{is_header};
 ghost use Rattle.segment_load.specs.Loads.{are_batches, body_of, body_rows, header_measure, is_loadable, rows_in};
 
 use crate::reader::RowReader;
-use fact_batches::Steps;
-use fact_versions::Snapshot;
+use fact_versions::{Snapshot, Steps};
 use olap_catalog::Catalog;
 use olap_meaning::{Aggregator, Header, OutOfMemory, ROW_LIMIT, ValueId, Who};
 use segment_body::Body;
@@ -57,7 +56,14 @@ impl LoadJob {
         requires header { IsTrue (is_header header) }
         requires loadable { IsTrue (is_loadable catalog.value header) }
         requires fit { IsTrue (are_batches catalog.value header.cube snapshot) }
-        ensures { result ≡ record { catalog = catalog.value; load = load; who = who; header = header; snapshot = snapshot } }
+        ensures { result
+            ≡ record {
+              catalog = catalog.value;
+              load = load;
+              who = who;
+              header = header;
+              snapshot = snapshot;
+            } }
     {
         let rows = snapshot.rows();
         LoadJob {
@@ -117,7 +123,9 @@ impl LoadJob {
 
     /// What the measure is summed up by.
     fn aggregator(&self) -> Aggregator
-        ensures { option_map (λ measure. measure.aggregator) (header_measure self.now.catalog self.now.header) ≡ Some result }
+        ensures { option_map
+            (λ measure. measure.aggregator) (header_measure self.now.catalog self.now.header)
+            ≡ Some result }
     {
         let cube = self.catalog.cube(self.header.cube);
         cube.measures.as_slice()[usize::from(self.header.measure.0)].aggregator
@@ -125,7 +133,9 @@ impl LoadJob {
 
     /// The body of the rows.
     fn fold<L: Ledger>(&self, alloc: Global, steps: &mut Steps<L>) -> Result<Body, OutOfMemory>
-        ensures body { IfOk result (λ body. Some body ≡ body_of self.now.catalog self.now.header (rows_in self.now.snapshot)) }
+        ensures body { IfOk result
+            (λ body. Some body
+            ≡ body_of self.now.catalog self.now.header (rows_in self.now.snapshot)) }
         ensures cost { OnOk result (steps.new ≡ steps.old + length (rows_in self.now.snapshot)) }
         ensures at_least { steps.old ≤ steps.new }
         ensures at_most { steps.new ≤ steps.old + length (rows_in self.now.snapshot) }
@@ -150,7 +160,12 @@ fn add_pieces<L: Ledger>(
     requires fit { IsTrue (are_batches reader.now.catalog reader.now.header.cube snapshot.now) }
     requires same { body.old.header ≡ reader.now.header }
     requires room { length body.old.rows + length (rows_in snapshot.now) ≤ ROW_LIMIT }
-    ensures ok { OnOk result (body.new ≡ record body.old { rows = body.old.rows ++ body_rows reader.now.catalog reader.now.header (rows_in snapshot.now) }) }
+    ensures ok { OnOk result
+        (body.new
+        ≡ record body.old {
+          rows = body.old.rows
+              ++ body_rows reader.now.catalog reader.now.header (rows_in snapshot.now);
+        }) }
     ensures cost { OnOk result (steps.new ≡ steps.old + length (rows_in snapshot.now)) }
     ensures at_least { steps.old ≤ steps.new }
     ensures at_most { steps.new ≤ steps.old + length (rows_in snapshot.now) }
@@ -171,7 +186,8 @@ pub fn run_load<L: Ledger>(
 ) -> Result<Delivery, LoadJob>
     ensures load { IfOk result (λ delivery. delivery.load ≡ job.load) }
     ensures who { IfOk result (λ delivery. delivery.who ≡ job.who) }
-    ensures body { IfOk result (λ delivery. Some delivery.body ≡ body_of job.catalog job.header (rows_in job.snapshot)) }
+    ensures body { IfOk result
+        (λ delivery. Some delivery.body ≡ body_of job.catalog job.header (rows_in job.snapshot)) }
     ensures cost { OnOk result (steps.new ≡ steps.old + length (rows_in job.snapshot)) }
     ensures at_least { steps.old ≤ steps.new }
     ensures at_most { steps.new ≤ steps.old + length (rows_in job.snapshot) }

@@ -20,7 +20,9 @@ fn names_column(measures: &[Measure], column: &str) -> bool
 
 /// The place of a column among the different columns of some measures.
 fn place_among(measures: &[Measure], column: &str) -> Option<usize>
-    ensures { result ≡ position (bytes_eq column.now) (first_appearances (map (λ measure. measure.column) measures.now)) }
+    ensures { result
+        ≡ position (bytes_eq column.now)
+        (first_appearances (map (λ measure. measure.column) measures.now)) }
 {
     let mut place = 0;
     for i in 0..measures.len() {
@@ -58,7 +60,9 @@ pub(crate) fn places_of(
     header: &Header,
 ) -> Result<Vec<usize>, OutOfMemory>
     requires { IsTrue (is_loadable catalog.now header.now) }
-    ensures { IfOk result (λ places. map Some places.items ≡ map (λ column. jobs.place_of catalog.now header.now.cube column.0) header.now.columns) }
+    ensures { IfOk result
+        (λ places. map Some places.items
+        ≡ map (λ column. jobs.place_of catalog.now header.now.cube column.0) header.now.columns) }
 {
     let dimensions = catalog.cube(header.cube).dimensions.as_slice();
     let columns = header.columns.as_slice();

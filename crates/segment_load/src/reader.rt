@@ -6,7 +6,7 @@ ghost use Rattle.segment_load.specs.Jobs.{row_at};
 ghost use Rattle.segment_load.specs.Loads.{body_row, body_rows, if_allowed, is_batch, is_loadable, row_number, row_values};
 
 use crate::places::{fact_place, places_of};
-use fact_batches::Piece;
+use fact_versions::Piece;
 use olap_catalog::Catalog;
 use olap_meaning::{Header, OutOfMemory, ROW_LIMIT, ValueId};
 use segment_body::Body;
@@ -42,7 +42,8 @@ impl<'a> RowReader<'a> {
     ) -> Result<RowReader<'a>, OutOfMemory>
         requires header_holds { IsTrue (is_header header.now) }
         requires loadable { IsTrue (is_loadable catalog.now header.now) }
-        ensures { IfOk result (λ reader. reader ≡ record { catalog = catalog.entry.now; header = header.entry.now }) }
+        ensures { IfOk result
+            (λ reader. reader ≡ record { catalog = catalog.entry.now; header = header.entry.now }) }
     {
         Ok(RowReader {
             catalog,
@@ -58,7 +59,11 @@ impl<'a> RowReader<'a> {
         requires row { i < length piece.now.rows }
         requires fit { IsTrue (is_batch self.now.catalog self.now.header.cube piece.now) }
         requires narrow { piece.now.dimensions < 2 ^ 32 }
-        ensures { result ≡ option_and_then (λ column. option_and_then (if_allowed column.1) (row_value self.now.catalog self.now.header.cube (row_at piece.now i) column.0)) (slice_get self.now.header.columns k) }
+        ensures { result
+            ≡ option_and_then
+            (λ column. option_and_then (if_allowed column.1)
+            (row_value self.now.catalog self.now.header.cube (row_at piece.now i) column.0))
+            (slice_get self.now.header.columns k) }
     {
         let column = &self.header.columns.as_slice()[k];
         let leaf = piece.leaf(i, self.places[k] as u32);
@@ -80,7 +85,9 @@ impl<'a> RowReader<'a> {
         requires row { i < length piece.now.rows }
         requires fit { IsTrue (is_batch self.now.catalog self.now.header.cube piece.now) }
         requires narrow { piece.now.dimensions < 2 ^ 32 }
-        ensures { IfOk result (λ kept. row_values self.now.catalog self.now.header (row_at piece.now i) ≡ (if kept then Some values.new.items else None)) }
+        ensures { IfOk result
+            (λ kept. row_values self.now.catalog self.now.header (row_at piece.now i)
+            ≡ (if kept then Some values.new.items else None)) }
     {
         values.clear();
         for k in 0..self.header.columns.len() {
@@ -116,7 +123,12 @@ impl<'a> RowReader<'a> {
         requires few_columns { piece.now.columns < 2 ^ 32 }
         requires same { body.old.header ≡ self.now.header }
         requires room { length body.old.rows < ROW_LIMIT }
-        ensures { OnOk result (body.new ≡ record body.old { rows = body.old.rows ++ option_to_list (body_row self.now.catalog self.now.header (row_at piece.now i)) }) }
+        ensures { OnOk result
+            (body.new
+            ≡ record body.old {
+              rows = body.old.rows
+                  ++ option_to_list (body_row self.now.catalog self.now.header (row_at piece.now i));
+            }) }
     {
         let kept = self.values(piece, i, values)?;
         if kept {
@@ -135,7 +147,12 @@ impl<'a> RowReader<'a> {
         requires fit { IsTrue (is_batch self.now.catalog self.now.header.cube piece.now) }
         requires same { body.old.header ≡ self.now.header }
         requires room { length body.old.rows + length piece.now.rows ≤ ROW_LIMIT }
-        ensures { OnOk result (body.new ≡ record body.old { rows = body.old.rows ++ body_rows self.now.catalog self.now.header piece.now.rows }) }
+        ensures { OnOk result
+            (body.new
+            ≡ record body.old {
+              rows = body.old.rows
+                  ++ body_rows self.now.catalog self.now.header piece.now.rows;
+            }) }
     {
         // A row has no more leaves and numbers than these can count.
         let (_dimensions, _columns) = (piece.dimensions(), piece.columns());

@@ -1,9 +1,16 @@
-//! Tests of sessions over the sample files, from the opening of the cache to the bytes that are sent.
+//! Tests of lines, queries and the outside, where types are needed: whatever can be said as files, words and bytes is a
+//! case of `olap_cases`. They stand apart, since a crate with tests is proved twice.
 #![tactic(auto)]
 
 #[cfg(test)]
-mod openings;
+mod faults;
 #[cfg(test)]
-mod sample;
+mod long_lines;
 #[cfg(test)]
-mod sessions;
+mod queries;
+#[cfg(test)]
+mod short_lines;
+#[cfg(test)]
+mod sources;
+#[cfg(test)]
+mod standard;

@@ -1,3 +1,4 @@
+-- What only contracts see of the calls of `main`.
 use Rattle.olapd.proofs.main.Given as goal
 
 abbrev pub ghosts-carry_out : goal.ghosts-carry_out

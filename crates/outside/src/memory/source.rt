@@ -28,7 +28,7 @@ impl Model for MemorySource {
 
     ghost Value = { Supplied };
 
-    ghost view = { λ s. record { left = drop s.place s.bytes; plan = s.calls; room = s.room; most = s.most; faults = s.faults.count } };
+    ghost view = { λ s. record { left = drop s.place s.bytes; plan = s.calls; room = s.room; most = s.most; faults = s.faults } };
 
     ghost invariant = { λ s. s.place ≤ length s.bytes };
 }
@@ -43,7 +43,8 @@ impl MemorySource {
         room: Option<u64>,
         most: Option<usize>,
     ) -> MemorySource
-        ensures { result ≡ record { left = bytes; plan = calls; room = room; most = most; faults = 0 } }
+        ensures { result
+            ≡ record { left = bytes; plan = calls; room = room; most = most; faults = 0 } }
     {
         MemorySource {
             bytes,
@@ -86,7 +87,8 @@ impl Source for MemorySource {
     fn read(&mut self, into: &mut [u8]) -> Result<usize, Failed>
         ensures size { length into.new ≡ length into.old }
         ensures within { IfOk result (λ n. n ≤ length into.old) }
-        ensures front { IfOk result (λ n. TakenOff (Some self.old.left) (Some self.new.left) (take n into.new)) }
+        ensures front { IfOk result
+            (λ n. TakenOff (Some self.old.left) (Some self.new.left) (take n into.new)) }
         ensures rest { IfOk result (λ n. drop n into.new ≡ drop n into.old) }
         ensures end { IfOk result (λ n. n ≡ 0 → 0 < length into.old → self.old.left ≡ []) }
         ensures untaken { OnErr result (self.new.left ≡ self.old.left) }
@@ -99,7 +101,8 @@ impl Source for MemorySource {
         ensures room { IfOk result (λ n. self.new.room ≡ option_map (λ r. r - n) self.old.room) }
         ensures same_room { OnErr result (self.new.room ≡ self.old.room) }
         ensures most { self.new.most ≡ self.old.most }
-        ensures fault { self.new.faults ≡ (if is_ok result then self.old.faults else self.old.faults + 1) }
+        ensures fault { self.new.faults
+            ≡ (if is_ok result then self.old.faults else self.old.faults + 1) }
     {
         let wanted = piece(self.most, into.len().min(self.bytes.len() - self.place));
         let size = fitting(self.room, wanted);

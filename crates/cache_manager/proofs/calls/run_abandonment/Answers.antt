@@ -1,3 +1,4 @@
+-- A job that is given up is taken out, and its load is dropped.
 use Rattle.std.proofs.Common.{◌∙◌, ◌<◌, ◌++◌, refl, sym, ap, arith, length, map}
 use Rattle.olap_meaning.specs.History.{Drop}
 use Rattle.cache_manager.proofs.Running.{ending_is, goes_on, length_map, map_remove, run_ended, run_later, stays}
@@ -16,7 +17,7 @@ pub returns-clause-run : goal.returns-clause-run
 returns-clause-run c n run =
     let within : c.args.job < length c.args.jobs.now.items = omega (arith, c.if-job-len.false, c.len.ensures, c.args.jobs.now.ok.0) in
     rw c.remove.ensures.items
-    (run_ended c.args.manager.now c.abandon.new.self _ c.abandon.ensures.setting c.abandon.ensures.entry c.is_legal.ensures c.args.jobs.now.items c.args.job n c.remove.result within c.remove.ensures.value
+    (run_ended c.args.manager.now c.abandon.new.self _ c.abandon.ensures.setting c.abandon.ensures.entry c.steps_are_legal.ensures c.args.jobs.now.items c.args.job n c.remove.result within c.remove.ensures.value
     (λ j. refl) refl run)
 
 pub returns-clause-reply : goal.returns-clause-reply

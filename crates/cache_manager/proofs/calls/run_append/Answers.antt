@@ -1,9 +1,10 @@
+-- An append is a call of the run, admitted or refused, and leaves the jobs that are out.
 use Rattle.std.proofs.Common.{◌∙◌, ◌+◌, refl, sym, ap, subst, arith, length, map}
 use Rattle.std.proofs.lemmas.Bool.{eq-eqb, lt-ltb}
 use Rattle.std.proofs.lemmas.List.{length_push}
 use Rattle.olap_meaning.specs.History.{Entry, Append, version}
 use Rattle.olap_meaning.proofs.Growing.{version_grows}
-use Rattle.cache_manager.specs.Cache.{CacheOf}
+use Rattle.history_core.specs.Cache.{CacheOf}
 use Rattle.cache_manager.specs.Runs.{IsRun}
 use Rattle.cache_manager.proofs.Running.{goes_on, next_call, run_later, run_on, stays}
 use Rattle.cache_manager.proofs.calls.run_append.Goals as goal
@@ -13,7 +14,7 @@ append-requires-clause-call c = next_call c.args.who c.args.manager.now.entries 
 
 pub returns-in-Ok-clause-run : goal.returns-in-Ok-clause-run
 returns-in-Ok-clause-run c =
-    run_on c.args.manager.now c.append.new.self _ c.append.ensures.setting c.in-Ok.ensures.entry c.is_legal.ensures c.args.jobs.now c.args.who.call (λ k d l. refl) (lt-ltb _ _ (omega arith)) c.requires.run
+    run_on c.args.manager.now c.append.new.self _ c.append.ensures.setting c.in-Ok.ensures.entry c.steps_are_legal.ensures c.args.jobs.now c.args.who.call (λ k d l. refl) (lt-ltb _ _ (omega arith)) c.requires.run
 
 pub returns-in-Ok-clause-reply : goal.returns-in-Ok-clause-reply
 returns-in-Ok-clause-reply c =

@@ -1,3 +1,4 @@
+-- That `run_call` ensures `reply`.
 use Rattle.cache_manager.proofs.calls.run_call.Goals as goal
 
 pub returns-in-Deliver-clause-reply : goal.returns-in-Deliver-clause-reply

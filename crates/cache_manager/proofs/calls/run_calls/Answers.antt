@@ -1,3 +1,4 @@
+-- That `run_calls` keeps what holds at each turn.
 use Rattle.std.proofs.Common.{◌∙◌, ℕ, sym, ap, subst}
 use Rattle.cache_manager.specs.Runs.{MayReply, Stage, next_stage, stage_of}
 use Rattle.cache_manager.proofs.Running.{replies_more}

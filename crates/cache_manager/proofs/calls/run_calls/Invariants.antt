@@ -1,3 +1,4 @@
+-- What holds at each turn of `run_calls`.
 use Rattle.std.proofs.Common.{◌≡◌}
 use Rattle.cache_manager.specs.Runs.{IsRun, MayReplyAll, first_stage, stage_after, stage_of}
 use Rattle.cache_manager.proofs.calls.run_calls.Given as goal

@@ -1,3 +1,4 @@
+-- A job that is run is taken out and its load delivered, or it is put back.
 use Rattle.std.proofs.Common.{◌≡◌, ◌∙◌, ◌<◌, ◌==◌, ◌++◌, ◌∷◌, [], ℕ, List, refl, sym, ap, arith, length, map}
 use Rattle.std.specs.Prelude.{insert, remove}
 use Rattle.olap_meaning.specs.declared.cells.Who.{Who}
@@ -19,7 +20,7 @@ pub returns-in-Ok-clause-run : goal.returns-in-Ok-clause-run
 returns-in-Ok-clause-run g c n run =
     let within : c.args.job < length c.args.jobs.now.items = omega (arith, c.if-job-len.false, c.len.ensures, c.args.jobs.now.ok.0) in
     rw c.remove.ensures.items
-    (run_ended c.args.manager.now c.deliver.new.self _ c.deliver.ensures.setting c.deliver.ensures.entry c.is_legal.ensures c.args.jobs.now.items c.args.job n c.remove.result within c.remove.ensures.value
+    (run_ended c.args.manager.now c.deliver.new.self _ c.deliver.ensures.setting c.deliver.ensures.entry c.steps_are_legal.ensures c.args.jobs.now.items c.args.job n c.remove.result within c.remove.ensures.value
     (λ j. ap (λ (m : ℕ). m == j) c.in-Ok.ensures.load) refl run)
 
 pub returns-in-Ok-clause-reply : goal.returns-in-Ok-clause-reply

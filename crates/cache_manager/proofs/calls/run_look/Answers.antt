@@ -1,9 +1,10 @@
+-- A look is a call of the run: it is answered, starts loads whose jobs are out, or is not made.
 use Rattle.std.proofs.Common.{◌≡◌, ◌∙◌, ◌+◌, ◌++◌, ◌∷◌, [], List, All, refl, sym, ap, subst, arith, map, length}
 use Rattle.std.proofs.lemmas.Bool.{both_ways, lt-ltb}
 use Rattle.olap_meaning.specs.declared.cells.Cell.{Cell}
 use Rattle.olap_meaning.specs.History.{Answer, Start}
-use Rattle.cache_manager.specs.Answers.{HasSource, IsAnswer, SomeWants, source_of}
-use Rattle.cache_manager.specs.Cache.{CacheOf}
+use Rattle.history_core.specs.Answers.{HasSource, IsAnswer, SomeWants, source_of}
+use Rattle.history_core.specs.Cache.{CacheOf}
 use Rattle.cache_manager.specs.Groups.{loads_for}
 use Rattle.cache_manager.specs.Jobs.{numbers_from}
 use Rattle.cache_manager.specs.Runs.{IsRun}
@@ -24,7 +25,7 @@ look-requires-clause-call c = next_call c.args.who c.args.manager.now.entries c.
 
 pub returns-in-Ok-Ready-clause-run : goal.returns-in-Ok-Ready-clause-run
 returns-in-Ok-Ready-clause-run c =
-    run_on c.args.manager.now c.look.new.self _ c.look.ensures.setting (rw c.in-Ok-Ready.field-0-is at c.in-Ok-Ready.ensures.answer_entry) c.is_legal.ensures c.args.jobs.now.items c.args.who.call (λ k d l. refl) (lt-ltb _ _ (omega arith)) c.requires.run
+    run_on c.args.manager.now c.look.new.self _ c.look.ensures.setting (rw c.in-Ok-Ready.field-0-is at c.in-Ok-Ready.ensures.answer_entry) c.steps_are_legal.ensures c.args.jobs.now.items c.args.who.call (λ k d l. refl) (lt-ltb _ _ (omega arith)) c.requires.run
 
 pub returns-in-Ok-Ready-clause-reply : goal.returns-in-Ok-Ready-clause-reply
 returns-in-Ok-Ready-clause-reply c = (
@@ -53,10 +54,10 @@ returns-in-Ok-Load-clause-reply c = (
 
 pub returns-in-Ok-Load-clause-next : goal.returns-in-Ok-Load-clause-next
 returns-in-Ok-Load-clause-next c =
-    let entries : c.look.new.self.entries ≡ c.args.manager.now.entries ++ map Start (loads_for c.args.who c.args.manager.now.entries c.args.cells) =
-    (rw c.in-Ok-Load.field-0-is at c.in-Ok-Load.ensures.load_entries) ∙ ap (λ (cells : List Cell). c.args.manager.now.entries ++ map Start (loads_for c.args.who c.args.manager.now.entries cells)) c.as_slice.ensures in
-    let numbers : map (λ job. job.load) c.in-Ok-Load.started ≡ numbers_from (length c.args.manager.now.entries + 1) (length (loads_for c.args.who c.args.manager.now.entries c.args.cells)) =
-    (rw c.in-Ok-Load.field-0-is at c.in-Ok-Load.ensures.numbers) ∙ ap (λ (cells : List Cell). numbers_from (length c.args.manager.now.entries + 1) (length (loads_for c.args.who c.args.manager.now.entries cells))) c.as_slice.ensures in
+    let entries : c.look.new.self.entries ≡ c.args.manager.now.entries ++ map Start (loads_for c.args.manager.now c.args.who c.args.cells) =
+    (rw c.in-Ok-Load.field-0-is at c.in-Ok-Load.ensures.load_entries) ∙ ap (λ (cells : List Cell). c.args.manager.now.entries ++ map Start (loads_for c.args.manager.now c.args.who cells)) c.as_slice.ensures in
+    let numbers : map (λ job. job.load) c.in-Ok-Load.started ≡ numbers_from (length c.args.manager.now.entries + 1) (length (loads_for c.args.manager.now c.args.who c.args.cells)) =
+    (rw c.in-Ok-Load.field-0-is at c.in-Ok-Load.ensures.numbers) ∙ ap (λ (cells : List Cell). numbers_from (length c.args.manager.now.entries + 1) (length (loads_for c.args.manager.now c.args.who cells))) c.as_slice.ensures in
     rw c.into_vec.ensures (goes_on c.args.manager.now c.look.new.self _ _ _ _ c.look.ensures.setting entries numbers)
 
 pub returns-clause-run : goal.returns-clause-run

@@ -1,3 +1,4 @@
+-- What holds at each turn of `have_same_columns`.
 use Rattle.std.proofs.Common.{◌≡◌, bytes_eq, drop, map}
 use Rattle.cache_manager.proofs.groups.have_same_columns.Given as goal
 

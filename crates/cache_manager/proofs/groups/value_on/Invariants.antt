@@ -1,3 +1,4 @@
+-- What holds at each turn of `value_on`.
 use Rattle.std.proofs.Common.{◌≡◌, ◌==◌, drop}
 use Rattle.std.specs.List.{find}
 use Rattle.cache_manager.proofs.groups.value_on.Given as goal

@@ -1,11 +1,13 @@
-use Rattle.std.proofs.Common.{◌≡◌, drop, filter, filter_map, true}
+-- The values so far rise, and are just those of the cells of the group so far.
+use Rattle.std.proofs.Common.{◌≡◌, ℕ, filter, take, true}
+use Rattle.std.specs.List.{list_any}
+use Rattle.olap_meaning.specs.Covering.{among}
 use Rattle.olap_meaning.specs.Legal.{rise}
 use Rattle.cache_manager.specs.Groups as groups
 use Rattle.cache_manager.proofs.groups.values_on.Given as goal
 
--- what is left to be put, and the values so far rise
 abbrev pub invariant-loop-cell : goal.invariant-loop-cell
 invariant-loop-cell l = record {
-  rest : groups.put_all (filter_map (groups.value_on l.column) (filter (groups.alike l.first) (drop l.cell-index l.cells))) l.values.items ≡ groups.values_on l.column (filter (groups.alike l.first) l.cells);
   rising : rise l.values.items ≡ true;
+  just : (v : ℕ) → among l.values.items v ≡ list_any (groups.has_on l.column v) (filter (groups.alike l.first) (take l.cell-index (groups.lent l.cells)));
 }

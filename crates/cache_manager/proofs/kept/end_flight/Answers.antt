@@ -1,3 +1,4 @@
+-- That `end_flight` ensures what it says.
 use Rattle.std.proofs.Common.{◌==◌, not, rules}
 use Rattle.std.proofs.lemmas.Fn.{filter_same}
 use Rattle.cache_manager.proofs.kept.end_flight.Goals as goal

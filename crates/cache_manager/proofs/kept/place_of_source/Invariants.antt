@@ -1,3 +1,4 @@
+-- What holds at each turn of `place_of_source`.
 use Rattle.cache_manager.specs.Search.{IsGreatest}
 use Rattle.cache_manager.proofs.kept.place_of_source.Given as goal
 

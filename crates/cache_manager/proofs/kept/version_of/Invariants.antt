@@ -1,3 +1,4 @@
+-- What holds at each turn of `version_of`.
 use Rattle.std.proofs.Common.{◌≡◌, ◌==◌, drop}
 use Rattle.std.specs.List.{find}
 use Rattle.cache_manager.proofs.kept.version_of.Given as goal

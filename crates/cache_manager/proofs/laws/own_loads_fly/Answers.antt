@@ -1,3 +1,4 @@
+-- That `own_loads_fly` ensures what it says.
 use Rattle.cache_manager.proofs.Own.{own_ends}
 use Rattle.cache_manager.proofs.laws.own_loads_fly.Goals as goal
 

@@ -1,3 +1,4 @@
+-- What holds at each turn of `start_all`.
 use Rattle.std.proofs.Common.{◌≡◌, ◌+◌, ◌++◌, length, map}
 use Rattle.std.specs.Vec.{vec_capacity, vec_len}
 use Rattle.history_core.specs.Entries.{entry_of}

@@ -1,7 +1,8 @@
+-- The catalog is that of the schema and its tables, and a fault of either has its cause.
 use Rattle.std.proofs.Common.{subst, sym}
 use Rattle.std.proofs.lemmas.Result.{err_from_is_err_and}
 use Rattle.olap_catalog.specs.Parts.{records_in}
-use Rattle.cache_opening.specs.Causes.{Shown}
+use Rattle.outside.specs.Told.{Shown, shown_of}
 use Rattle.cache_opening.specs.Steps.{IsWhole}
 use Rattle.cache_opening.proofs.OpenSteps.{catalog_read, schema_unread, tables_unread}
 use Rattle.cache_opening.proofs.SchemaFacts.{whole_catalog}
@@ -9,7 +10,7 @@ use Rattle.cache_opening.proofs.catalogs.open_catalog.Goals as goal
 
 pub returns-in_err-schema-clause-fault : goal.returns-in_err-schema-clause-fault
 returns-in_err-schema-clause-fault g c =
-    let shown : Shown = record { files = g.D.Depot.files c.args.depot.now; misses_before = g.D.Depot.misses c.args.depot.now; misses_after = g.D.Depot.misses c.open_schema.new.depot; faults_before = g.D.Depot.faults c.args.depot.now; faults_after = g.D.Depot.faults c.open_schema.new.depot } in
+    let shown : Shown = shown_of g.D.Depot.files g.D.Depot.misses g.D.Depot.faults c.args.depot.now c.open_schema.new.depot in
     let p = err_from_is_err_and c.from_residual.result c.from_residual.ensures.1 in rw (p.1, p.2) (schema_unread c.args.file.now shown c.in_err-schema.field-0.0 c.in_err-schema.ensures.fault)
 
 pub returns-in_err-tables-clause-fault : goal.returns-in_err-tables-clause-fault

@@ -1,9 +1,10 @@
+-- The table of a dimension is what its file is read as, and a fault has its cause.
 use Rattle.std.proofs.Common.{slice_get}
 use Rattle.std.proofs.lemmas.Result.{err_from_is_err_and}
 use Rattle.olap_meaning.specs.declared.schema.SchemaDimension.{SchemaDimension}
 use Rattle.dim_tables.specs.TableFiles.{table_of}
-use Rattle.olap_catalog.specs.Tables.{TableOf}
-use Rattle.cache_opening.specs.Causes.{Shown}
+use Rattle.catalog_tables.specs.Tables.{TableOf}
+use Rattle.outside.specs.Told.{Shown, shown_of}
 use Rattle.cache_opening.specs.Opening.{table_from}
 use Rattle.cache_opening.proofs.PartFacts.{read_badly, read_well, unread}
 use Rattle.cache_opening.proofs.catalogs.open_table.Goals as goal
@@ -11,17 +12,17 @@ use Rattle.cache_opening.proofs.catalogs.open_table.Goals as goal
 pub returns-in_err-bytes-clause-fault : goal.returns-in_err-bytes-clause-fault
 unfolding table_from
 returns-in_err-bytes-clause-fault g c =
-    let shown : Shown = record { files = g.D.Depot.files c.args.depot.now; misses_before = g.D.Depot.misses c.args.depot.now; misses_after = g.D.Depot.misses c.fetch.new.depot; faults_before = g.D.Depot.faults c.args.depot.now; faults_after = g.D.Depot.faults c.fetch.new.depot } in
+    let shown : Shown = shown_of g.D.Depot.files g.D.Depot.misses g.D.Depot.faults c.args.depot.now c.fetch.new.depot in
     let p = err_from_is_err_and c.from_residual.result c.from_residual.ensures.1 in rw (p.1, p.2) (unread (λ (d : SchemaDimension). d.table) table_of (λ (t : TableOf). t.records) shown (slice_get c.args.schema.now.dimensions c.args.dimension) c.table_file.result.now c.in_err-bytes.field-0.0 c.table_file.ensures c.in_err-bytes.ensures.fault)
 
 pub returns-clause-ok : goal.returns-clause-ok
 unfolding table_from
 returns-clause-ok g c =
-    let shown : Shown = record { files = g.D.Depot.files c.args.depot.now; misses_before = g.D.Depot.misses c.args.depot.now; misses_after = g.D.Depot.misses c.fetch.new.depot; faults_before = g.D.Depot.faults c.args.depot.now; faults_after = g.D.Depot.faults c.fetch.new.depot } in
+    let shown : Shown = shown_of g.D.Depot.files g.D.Depot.misses g.D.Depot.faults c.args.depot.now c.fetch.new.depot in
     read_well (λ (d : SchemaDimension). d.table) table_of (λ (t : TableOf). t.records) shown (slice_get c.args.schema.now.dimensions c.args.dimension) c.table_file.result.now c.in_ok-bytes.bytes c.as_slice.result.now c.table_in.result c.table_file.ensures c.in_ok-bytes.ensures.ok c.as_slice.ensures c.table_in.ensures.ok
 
 pub returns-clause-fault : goal.returns-clause-fault
 unfolding table_from
 returns-clause-fault g c =
-    let shown : Shown = record { files = g.D.Depot.files c.args.depot.now; misses_before = g.D.Depot.misses c.args.depot.now; misses_after = g.D.Depot.misses c.fetch.new.depot; faults_before = g.D.Depot.faults c.args.depot.now; faults_after = g.D.Depot.faults c.fetch.new.depot } in
+    let shown : Shown = shown_of g.D.Depot.files g.D.Depot.misses g.D.Depot.faults c.args.depot.now c.fetch.new.depot in
     read_badly (λ (d : SchemaDimension). d.table) table_of (λ (t : TableOf). t.records) shown (slice_get c.args.schema.now.dimensions c.args.dimension) c.table_file.result.now c.in_ok-bytes.bytes c.as_slice.result.now c.table_in.result c.table_file.ensures c.in_ok-bytes.ensures.ok c.as_slice.ensures c.table_in.ensures.fault

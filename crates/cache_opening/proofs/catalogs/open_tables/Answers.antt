@@ -1,3 +1,5 @@
+-- That `open_tables` ensures `fault`, `same_files`, `fault_count`, `miss_count`, `ok` and `levels` and keeps what
+-- holds at each turn.
 use Rattle.std.proofs.Common.{◌≤◌, ◌∙◌, arith, length, refl}
 use Rattle.std.proofs.lemmas.Result.{err_from_is_err_and}
 use Rattle.cache_opening.proofs.TableSteps.{all_tables, more_tables, no_tables, table_fails, whole_tables}

@@ -1,3 +1,4 @@
+-- What holds at each turn of `open_tables`.
 use Rattle.std.proofs.Common.{◌≡◌, ◌≤◌}
 use Rattle.cache_opening.proofs.TableSteps.{AreTables}
 use Rattle.cache_opening.proofs.catalogs.open_tables.Given as goal

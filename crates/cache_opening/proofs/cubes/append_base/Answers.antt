@@ -1,3 +1,4 @@
+-- That `append_base` ensures `ok` and `fault`.
 use Rattle.std.proofs.Common.{◌∙◌, ap}
 use Rattle.cache_opening.proofs.BatchSteps.{batch_fits, batch_refused}
 use Rattle.cache_opening.proofs.cubes.append_base.Goals as goal

@@ -1,3 +1,5 @@
+-- That `open_cubes` ensures `setting`, `fault`, `same_files`, `fault_count`, `miss_count` and `ok`, may call
+-- `open_cube` and keeps what holds at each turn.
 use Rattle.std.proofs.Common.{◌≤◌, ◌<◌, ◌∙◌, ap, arith, length, refl}
 use Rattle.std.proofs.lemmas.Result.{err_from_is_err_and}
 use Rattle.cache_opening.proofs.BatchSteps.{all_appended, batch_fails, more_appended, next_cube, none_appended}

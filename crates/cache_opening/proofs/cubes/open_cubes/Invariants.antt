@@ -1,3 +1,4 @@
+-- What holds at each turn of `open_cubes`.
 use Rattle.std.proofs.Common.{◌≡◌, ◌≤◌}
 use Rattle.cache_opening.proofs.BatchSteps.{AreAppended}
 use Rattle.cache_opening.proofs.cubes.open_cubes.Given as goal

@@ -1,5 +1,6 @@
+-- The manager is what a schema's file opens, and a fault of any step has its cause.
 use Rattle.std.proofs.lemmas.Result.{err_from_is_err_and}
-use Rattle.cache_opening.specs.Causes.{Shown}
+use Rattle.outside.specs.Told.{Shown, shown_of}
 use Rattle.cache_opening.proofs.BaseFacts.{base_idle, base_others}
 use Rattle.cache_opening.proofs.OpenSteps.{batches_unread, begun, catalog_unread, is_opened}
 use Rattle.cache_opening.proofs.opened.open_cache.Goals as goal
@@ -9,7 +10,7 @@ open_cubes-requires g c = begun c.in_ok-catalog.catalog c.in_ok-manager.manager 
 
 pub returns-in_err-catalog-clause-fault : goal.returns-in_err-catalog-clause-fault
 returns-in_err-catalog-clause-fault g c =
-    let shown : Shown = record { files = g.D.Depot.files c.args.depot.now; misses_before = g.D.Depot.misses c.args.depot.now; misses_after = g.D.Depot.misses c.open_catalog.new.depot; faults_before = g.D.Depot.faults c.args.depot.now; faults_after = g.D.Depot.faults c.open_catalog.new.depot } in
+    let shown : Shown = shown_of g.D.Depot.files g.D.Depot.misses g.D.Depot.faults c.args.depot.now c.open_catalog.new.depot in
     let p = err_from_is_err_and c.from_residual.result c.from_residual.ensures.1 in rw (p.1, p.2) (catalog_unread c.args.file.now shown c.in_err-catalog.field-0.0 c.in_err-catalog.ensures.fault)
 
 pub returns-in_err-open_cubes-clause-fault : goal.returns-in_err-open_cubes-clause-fault

@@ -1,3 +1,4 @@
+-- What holds at each turn of `add`.
 use Rattle.std.proofs.Common.{◌≡◌, ◌++◌, take}
 use Rattle.cell_request.proofs.boxes.add.Given as goal
 

@@ -1,3 +1,4 @@
+-- That `box_under` ensures `ok`, `fault` and `own`.
 use Rattle.std.proofs.Common.{◌∙◌, sym, ap}
 use Rattle.std.proofs.lemmas.Result.{IfOk-weaker}
 use Rattle.olap_meaning.specs.declared.cells.LevelRef.TheVariants.{Whole}

@@ -1,3 +1,4 @@
+-- That `boxes_under` ensures `fault` and keeps what holds at each turn.
 use Rattle.std.proofs.Common.{◌∙◌, ◌++◌, ap, arith}
 use Rattle.std.proofs.lemmas.Result.{err_from_is_err_and}
 use Rattle.cell_request.proofs.CellFacts.{boxes_more, boxes_fail}

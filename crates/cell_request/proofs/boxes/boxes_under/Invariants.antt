@@ -1,3 +1,4 @@
+-- What holds at each turn of `boxes_under`.
 use Rattle.cell_request.proofs.CellFacts.{AreBoxes}
 use Rattle.cell_request.proofs.boxes.boxes_under.Given as goal
 

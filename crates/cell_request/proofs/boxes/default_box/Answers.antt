@@ -1,3 +1,4 @@
+-- That `default_box` ensures `fault`, `ok` and `own`.
 use Rattle.std.proofs.Common.{◌∙◌, sym, ap, Ok, Err}
 use Rattle.cell_request.specs.Boxes.{box_or_name}
 use Rattle.cell_request.proofs.BoxFacts.{box_is, default_is_of}

@@ -1,3 +1,4 @@
+-- That `cell_under` ensures `known`.
 use Rattle.cell_request.proofs.CellFacts.{cell_known}
 use Rattle.cell_request.proofs.cells.cell_under.Goals as goal
 

@@ -1,3 +1,4 @@
+-- That `first_measure` ensures `found`.
 use Rattle.std.proofs.Common.{◌∙◌, sym}
 use Rattle.cell_request.proofs.MeasureFacts.{measure_first}
 use Rattle.cell_request.proofs.cells.first_measure.Goals as goal

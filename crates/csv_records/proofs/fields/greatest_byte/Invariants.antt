@@ -1,3 +1,4 @@
+-- What holds at each turn of `greatest_byte`.
 use Rattle.std.proofs.Common.{ℕ, ◌<◌, ◌≤◌, get_or}
 use Rattle.csv_records.proofs.fields.greatest_byte.Given as goal
 

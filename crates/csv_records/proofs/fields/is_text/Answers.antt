@@ -1,3 +1,4 @@
+-- That `is_text` ensures what it says.
 use Rattle.csv_records.proofs.NumberFacts.{text_yes, text_no}
 use Rattle.csv_records.proofs.fields.is_text.Goals as goal
 

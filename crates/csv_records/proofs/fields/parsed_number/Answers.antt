@@ -1,3 +1,4 @@
+-- That `parsed_number` ensures what it says.
 use Rattle.std.proofs.Common.{◌∙◌}
 use Rattle.csv_records.proofs.NumberFacts.{number_of_no_text, number_of_text}
 use Rattle.csv_records.proofs.fields.parsed_number.Goals as goal

@@ -1,3 +1,4 @@
+-- That `short_number` ensures what it says, keeps what holds at each turn and stays within its numbers.
 use Rattle.std.proofs.Common.{◌<◌, length, arith}
 use Rattle.std.proofs.lemmas.Bool.Decides.{nat_tests}
 use Rattle.std.proofs.lemmas.Int.{ints, to_z_pos}

@@ -1,3 +1,4 @@
+-- What holds at each turn of `short_number`.
 use Rattle.std.proofs.Common.{◌≡◌, take}
 use Rattle.std.specs.Str.Parse.{AllDigits, digits_value}
 use Rattle.csv_records.proofs.fields.short_number.Given as goal

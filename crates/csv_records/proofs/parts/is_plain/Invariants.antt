@@ -1,3 +1,4 @@
+-- What holds at each turn of `is_plain`.
 use Rattle.std.proofs.Common.{ℕ, ◌<◌, get_or}
 use Rattle.csv_records.specs.Parts.{IsPlain}
 use Rattle.csv_records.proofs.parts.is_plain.Given as goal

@@ -1,3 +1,4 @@
+-- That `record_parts` may call `split_at` and keeps what holds at each turn.
 use Rattle.std.proofs.Common.{refl}
 use Rattle.csv_records.proofs.PartFacts.{part_cut, plain_drop, plain_each, end_within, one_more}
 use Rattle.csv_records.proofs.parts.record_parts.Goals as goal

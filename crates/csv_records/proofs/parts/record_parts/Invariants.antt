@@ -1,3 +1,4 @@
+-- What holds at each turn of `record_parts`, and what falls at each of them.
 use Rattle.std.proofs.Common.{◌≡◌, ◌++◌, length}
 use Rattle.std.specs.List.{flat_map}
 use Rattle.csv_records.specs.Files.{file_records}

@@ -1,7 +1,9 @@
+-- The items that are left, read behind those that were, give what all of them give.
 use Rattle.std.proofs.Common.{◌≡◌, [], map, drop}
 use Rattle.serde_json.specs.View.{view}
-use Rattle.cube_schema.specs.Cubes.{cubes_from}
+use Rattle.cube_schema.specs.Cubes.{cube_of}
+use Rattle.cube_schema.specs.Lists.{items_from}
 use Rattle.cube_schema.proofs.cubes.read_cubes.Given as goal
 
 abbrev pub invariant-loop-item : goal.invariant-loop-item
-invariant-loop-item l = cubes_from l.dimensions l.cubes (map view (drop l.item-index l.items)) ≡ cubes_from l.dimensions [] (map view l.items)
+invariant-loop-item l = items_from (cube_of l.dimensions) l.cubes (map view (drop l.item-index l.items)) ≡ items_from (cube_of l.dimensions) [] (map view l.items)

@@ -1,12 +1,14 @@
-use Rattle.std.proofs.Common.{◌≡◌, ◌≤◌, [], map, drop}
-use Rattle.olap_meaning.specs.declared.schema.TheConstants.{LEVEL_LIMIT}
+-- The dimensions that are left, read behind those that were, give what all of them give.
+use Rattle.std.proofs.Common.{◌≡◌, [], map, drop}
 use Rattle.serde_json.specs.View.{view}
-use Rattle.cube_schema.specs.Dimensions.{dimensions_from, nothing_taken}
+use Rattle.cube_schema.specs.Dimensions.{dimension_of}
+use Rattle.cube_schema.specs.Lists.{items_from}
+use Rattle.cube_schema.specs.Taken.{IsTakenBy}
 use Rattle.cube_schema.proofs.dimensions.read_dimensions.Given as goal
 
 abbrev pub invariant-loop-item : goal.invariant-loop-item
 invariant-loop-item l =
     record {
-      rest : dimensions_from l.taken l.dimensions (map view (drop l.item-index l.items)) ≡ dimensions_from nothing_taken [] (map view l.items);
-      room : l.taken.levels ≤ LEVEL_LIMIT;
+      rest : items_from dimension_of l.dimensions (map view (drop l.item-index l.items)) ≡ items_from dimension_of [] (map view l.items);
+      taken : IsTakenBy l.dimensions l.taken;
     }

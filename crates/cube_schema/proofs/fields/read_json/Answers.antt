@@ -1,3 +1,4 @@
+-- That `read_json` ensures `ok` and `err`.
 use Rattle.std.proofs.Common.{inr, refl, rules}
 use Rattle.serde_json.specs.View.{view}
 use Rattle.serde_json.specs.Errors.{IsMemory}

@@ -1,14 +1,15 @@
-use Rattle.std.proofs.Common.{◌≡◌, ◌≤◌, [], fold, map, drop}
-use Rattle.olap_meaning.specs.declared.schema.TheConstants.{LEVEL_LIMIT}
+-- The hierarchies that are left, read behind those that were, give what all of them give.
+use Rattle.std.proofs.Common.{◌≡◌, [], map, drop}
 use Rattle.serde_json.specs.View.{view}
-use Rattle.cube_schema.specs.Dimensions.{hierarchies_from, taken_with}
+use Rattle.cube_schema.specs.Dimensions.{hierarchy_of}
+use Rattle.cube_schema.specs.Lists.{items_from}
+use Rattle.cube_schema.specs.Taken.{IsTakenWith}
 use Rattle.cube_schema.proofs.hierarchies.hierarchies_of.Given as goal
 
 abbrev pub invariant-loop-item : goal.invariant-loop-item
 invariant-loop-item l =
     record {
-      rest : hierarchies_from l.dimension l.dimension_name l.taken l.hierarchies (map view (drop l.item-index l.items))
-          ≡ hierarchies_from l.dimension l.dimension_name l.initial.taken [] (map view l.items);
-      taken : l.taken ≡ fold (taken_with l.dimension_name) l.initial.taken l.hierarchies;
-      room : l.taken.levels ≤ LEVEL_LIMIT;
+      rest : items_from (hierarchy_of l.dimensions l.dimension_name) l.hierarchies (map view (drop l.item-index l.items))
+          ≡ items_from (hierarchy_of l.dimensions l.dimension_name) [] (map view l.items);
+      taken : IsTakenWith l.dimensions l.dimension_name l.hierarchies l.taken;
     }

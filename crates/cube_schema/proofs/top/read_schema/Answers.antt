@@ -1,3 +1,4 @@
+-- That `read_schema` ensures `limits`.
 use Rattle.serde_json.specs.View.{view}
 use Rattle.cube_schema.proofs.LimitFacts.{limits-if-ok}
 use Rattle.cube_schema.proofs.top.read_schema.Goals as goal

@@ -1,3 +1,4 @@
+-- What holds at each turn of `has_empty`.
 use Rattle.std.proofs.Common.{◌≡◌, drop}
 use Rattle.std.specs.List.{list_any}
 use Rattle.olap_meaning.specs.Records.{is_null}

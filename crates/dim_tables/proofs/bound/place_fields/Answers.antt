@@ -1,3 +1,4 @@
+-- That `place_fields` ensures `fault` and keeps what holds at each turn.
 use Rattle.std.proofs.Common.{◌∙◌, sym, append_assoc}
 use Rattle.std.proofs.lemmas.Result.{err_from_is_err_and}
 use Rattle.olap_meaning.specs.Records.{column_place}

@@ -1,3 +1,4 @@
+-- What holds at each turn of `place_fields`.
 use Rattle.std.proofs.Common.{◌≡◌, ◌++◌, Some, map, drop}
 use Rattle.std.specs.List.{flat_map}
 use Rattle.olap_meaning.specs.Records.{column_place, missing_column}

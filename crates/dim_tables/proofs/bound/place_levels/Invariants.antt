@@ -1,3 +1,4 @@
+-- What holds at each turn of `place_levels`.
 use Rattle.std.proofs.Common.{◌≡◌, ◌++◌, Some, map, drop}
 use Rattle.olap_meaning.specs.Records.{column_place, missing_column}
 use Rattle.dim_tables.proofs.bound.place_levels.Given as goal

@@ -1,3 +1,4 @@
+-- What holds at each turn of `texts_at`.
 use Rattle.std.proofs.Common.{◌≡◌, ◌++◌, drop}
 use Rattle.dim_tables.specs.Bound.{fields_at}
 use Rattle.dim_tables.proofs.bound.texts_at.Given as goal

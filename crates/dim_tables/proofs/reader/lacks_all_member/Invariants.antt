@@ -1,3 +1,4 @@
+-- What holds at each turn of `lacks_all_member`.
 use Rattle.std.proofs.Common.{◌≡◌, drop}
 use Rattle.std.specs.List.{list_all}
 use Rattle.dim_tables.proofs.reader.lacks_all_member.Given as goal

@@ -1,3 +1,4 @@
+-- That `read_dimension` ensures `err` and `ok`.
 use Rattle.std.proofs.Common.{◌∙◌, inr, sym, Ok}
 use Rattle.dim_tables.proofs.TableFacts.{table_is, no_member, some_member}
 use Rattle.dim_tables.proofs.reader.read_dimension.Goals as goal

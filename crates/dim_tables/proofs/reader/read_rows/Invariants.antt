@@ -1,3 +1,4 @@
+-- What holds at each turn of `read_rows`, and what falls at each of them.
 use Rattle.std.proofs.Common.{◌≡◌, [], length}
 use Rattle.olap_meaning.specs.Schema.{levels_of}
 use Rattle.dim_tables.specs.TableFiles.{records_with}

@@ -1,3 +1,4 @@
+-- That `read_table` ensures `ok`, `levels` and `err` and may call `read_dimension`.
 use Rattle.std.proofs.Common.{arith}
 use Rattle.olap_meaning.specs.Schema.{levels_of}
 use Rattle.dim_tables.proofs.TableFacts.{part_length, item_at}

@@ -1,3 +1,4 @@
+-- What holds at each turn of `is_among`.
 use Rattle.std.proofs.Common.{◌≡◌, bytes_eq, drop, map}
 use Rattle.std.specs.List.{list_any}
 use Rattle.fact_rows.proofs.columns.is_among.Given as goal

@@ -1,3 +1,4 @@
+-- What holds at each turn of `place_keys`.
 use Rattle.std.proofs.Common.{◌≡◌, ◌++◌, drop, map}
 use Rattle.std.specs.List.{zip}
 use Rattle.olap_meaning.specs.Records.{missing_column}

@@ -1,8 +1,10 @@
+-- Measure by measure, the columns are those that have appeared so far, each with its place.
 use Rattle.std.proofs.Common.{◌≡◌, ◌∙◌, ap, sym, map, Some, true, false, bytes_eq}
 use Rattle.std.proofs.lemmas.List.{map-append}
 use Rattle.std.specs.List.{list_any}
 use Rattle.olap_meaning.specs.Records.{column_place}
-use Rattle.fact_rows.proofs.PlaceFacts.{missing_from, placed_more, seen_again, seen_first}
+use Rattle.csv_records.proofs.PlaceFacts.{missing_from}
+use Rattle.fact_rows.proofs.PlaceFacts.{placed_more, seen_again, seen_first}
 use Rattle.fact_rows.proofs.columns.place_numbers.Goals as goal
 
 pub loop-measure-preserved-then-is_among : goal.loop-measure-preserved-then-is_among

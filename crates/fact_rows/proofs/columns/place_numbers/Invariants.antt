@@ -1,3 +1,4 @@
+-- What holds at each turn of `place_numbers`.
 use Rattle.std.proofs.Common.{◌≡◌, drop, map, take}
 use Rattle.olap_meaning.specs.Catalog.{first_appearances}
 use Rattle.olap_meaning.specs.Records.{missing_column}

@@ -1,3 +1,4 @@
+-- What holds at each turn of `read_rows`, and what falls at each of them.
 use Rattle.std.proofs.Common.{◌≡◌, [], length, true}
 use Rattle.std.specs.List.{list_all}
 use Rattle.olap_meaning.specs.Legal.{is_row}

@@ -1,3 +1,4 @@
+-- What holds at each turn of `without_batches`.
 use Rattle.std.proofs.Common.{◌≡◌, [], replicate}
 use Rattle.fact_versions.proofs.facts.without_batches.Given as goal
 

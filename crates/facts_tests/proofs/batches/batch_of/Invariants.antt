@@ -1,3 +1,4 @@
+-- The batch has its two dimensions, its one column, and the rows so far.
 use Rattle.std.proofs.Common.{◌≡◌, length}
 use Rattle.facts_tests.proofs.batches.batch_of.Given as goal
 

@@ -1,3 +1,4 @@
+-- The counter of the steps is new.
 use Rattle.facts_tests.proofs.batches.three_rows_are_read_back.Given as goal
 
 abbrev pub ghosts-three_lines : goal.ghosts-three_lines

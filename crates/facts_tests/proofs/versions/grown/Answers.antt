@@ -1,5 +1,6 @@
+-- One more batch is like those before it.
 use Rattle.std.proofs.Common.{◌≡◌}
-use Rattle.fact_batches.specs.FactRows.{FactRows}
+use Rattle.fact_versions.specs.FactRows.{FactRows}
 use Rattle.facts_tests.proofs.VersionFacts.{grown-more}
 use Rattle.facts_tests.proofs.versions.grown.Goals as goal
 

@@ -1,3 +1,4 @@
+-- There are two cubes, and the batches of the second are alike.
 use Rattle.std.proofs.Common.{◌≡◌, All, length}
 use Rattle.fact_versions.specs.Facts.{batches_of}
 use Rattle.facts_tests.proofs.versions.grown.Given as goal

@@ -1,3 +1,4 @@
+-- One more piece costs its rows.
 use Rattle.std.proofs.Common.{sym, arith}
 use Rattle.facts_tests.proofs.VersionFacts.{rows-next}
 use Rattle.facts_tests.proofs.versions.snapshot_lines.Goals as goal

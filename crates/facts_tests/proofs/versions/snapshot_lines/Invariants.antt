@@ -1,3 +1,4 @@
+-- The steps are the rows of the pieces so far.
 use Rattle.std.proofs.Common.{◌≡◌, ◌+◌, take}
 use Rattle.fact_versions.specs.Facts.{rows_of_batches}
 use Rattle.facts_tests.proofs.versions.snapshot_lines.Given as goal

@@ -1,8 +1,9 @@
+-- That `before_lf` ensures what it says and stays within its numbers.
 use Rattle.std.proofs.Common.{rules, ◌≤◌, length, arith}
 use Rattle.std.specs.Prelude.{not}
 use Rattle.std.proofs.lemmas.List.Sums.{prefix_len-le-length}
 use Rattle.std.proofs.lemmas.Slice.{between_to_end}
-use Rattle.olap_meaning.specs.Lines.{is_lf}
+use Rattle.input_lines.specs.Reader.{is_lf}
 use Rattle.input_lines.proofs.LineLemmas.{line_length-found, line_length-none}
 use Rattle.input_lines.proofs.reader.before_lf.Goals as goal
 

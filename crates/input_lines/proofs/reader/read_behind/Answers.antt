@@ -1,3 +1,4 @@
+-- That `read_behind` ensures `taken` and `kept`.
 use Rattle.std.proofs.Common.{ap, ◌∙◌, ◌≤◌, ◌+◌, take, length, arith}
 use Rattle.input_lines.proofs.Taking.{HasTaken-written, slice_range-written, OnErr-always}
 use Rattle.input_lines.proofs.reader.read_behind.Goals as goal

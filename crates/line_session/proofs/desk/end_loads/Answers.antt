@@ -1,3 +1,4 @@
+-- Each job in turn is ended, and the jobs behind it stay out.
 use Rattle.std.proofs.Common.{◌≡◌, ◌∙◌, ◌+◌, ◌<◌, ◌++◌, ◌∷◌, [], List, ap, sym, subst, arith, length, drop, get_or, map, All, true}
 use Rattle.std.proofs.lemmas.Iterator.Adapters.{YieldsList-from_vec}
 use Rattle.std.proofs.lemmas.Iterator.Consumers.{YieldsList-turn}
@@ -34,7 +35,7 @@ loop-job-preserved g c =
     let at : c.in-Some.job ≡ get_or c.args.jobs (length c.loop-job.yielded) c.in-Some.job = subst (λ (xs : List JobOf). c.in-Some.job ≡ get_or xs (length c.loop-job.yielded) c.in-Some.job) c.into_vec-job-items.ensures turn.1 in
     let front = drop_at c.args.jobs (length c.loop-job.yielded) c.in-Some.job within at in
     let out =
-    rest_out c.loop-job.manager c.end_load-run.new.manager c.in-Some.job (drop (length c.loop-job.yielded + 1) c.args.jobs) c.end_load-run.result c.end_load-run.ensures.setting c.end_load-run.ensures.entry c.is_legal.ensures
+    rest_out c.loop-job.manager c.end_load-run.new.manager c.in-Some.job (drop (length c.loop-job.yielded + 1) c.args.jobs) c.end_load-run.result c.end_load-run.ensures.setting c.end_load-run.ensures.entry c.steps_are_legal.ensures
     (subst (λ (xs : List JobOf). All (IsJobOf c.loop-job.manager) xs) front c.loop-job.invariant.jobs)
     (subst (λ (xs : List JobOf). apart (map (λ job. job.load) xs) ≡ true) front c.loop-job.invariant.different)
     (subst (λ (xs : List JobOf). AreOut c.loop-job.manager.entries xs) front c.loop-job.invariant.complete) in

@@ -1,3 +1,4 @@
+-- What holds at each turn of `end_loads`.
 use Rattle.std.proofs.Common.{◌≡◌, ◌+◌, ◌≤◌, ◌++◌, All, drop, length, map, true}
 use Rattle.std.specs.Prelude.{sum_by}
 use Rattle.cache_manager.specs.Jobs.{IsJobOf}

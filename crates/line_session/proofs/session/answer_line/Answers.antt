@@ -1,3 +1,4 @@
+-- That `answer_line` ensures `call`.
 use Rattle.line_session.proofs.Handling.{next_line}
 use Rattle.line_session.proofs.session.answer_line.Goals as goal
 

@@ -1,3 +1,4 @@
+-- That `reply_to_line` ensures `ends` and `grown`.
 use Rattle.std.proofs.Common.{sym}
 use Rattle.line_session.proofs.Handling.{meaning_goes_on}
 use Rattle.line_session.proofs.Quitting.{blank_goes_on}

@@ -1,3 +1,4 @@
+-- A turn more goes on with the session, or ends it.
 use Rattle.std.proofs.Common.{◌≡◌, ℕ, List, Option, ap, subst, arith}
 use Rattle.input_lines.specs.Reader.{not_given}
 use Rattle.line_session.specs.Sessions.{IsServed}
@@ -8,12 +9,12 @@ use Rattle.line_session.proofs.session.serve.Goals as goal
 
 pub returns-in-Some-clause-at_most : goal.returns-in-Some-clause-at_most
 returns-in-Some-clause-at_most g c =
-    let read = rows_joined c.args.manager.now c.loop-number.manager c.take_turn.new.manager c.is_legal.ensures c.loop-number.invariant.grown c.take_turn.ensures.grown in
+    let read = rows_joined c.args.manager.now c.loop-number.manager c.take_turn.new.manager c.steps_are_legal.ensures c.loop-number.invariant.grown c.take_turn.ensures.grown in
     omega (arith, read, c.loop-number.invariant.at_most, c.take_turn.ensures.at_most)
 
 pub loop-number-preserved : goal.loop-number-preserved
 loop-number-preserved g c =
-    let read = rows_joined c.args.manager.now c.loop-number.manager c.take_turn.new.manager c.is_legal.ensures c.loop-number.invariant.grown c.take_turn.ensures.grown in
+    let read = rows_joined c.args.manager.now c.loop-number.manager c.take_turn.new.manager c.steps_are_legal.ensures c.loop-number.invariant.grown c.take_turn.ensures.grown in
     record {
       served = λ end after sent rest. c.loop-number.invariant.served end after sent
           (turn_then c.loop-number.number end c.loop-number.manager c.take_turn.new.manager after (not_given c.loop-number.reader.held (g.S.Source.left c.loop-number.source)) (not_given c.take_turn.new.reader.held (g.S.Source.left c.take_turn.new.source)) (g.O.Sink.taken c.loop-number.sink) (g.O.Sink.taken c.take_turn.new.sink) sent

@@ -1,7 +1,8 @@
+-- What the session still comes to is what it comes to from its beginning.
 use Rattle.std.proofs.Common.{◌≡◌, ◌+◌, ◌≤◌, ℕ, List, Option, true}
 use Rattle.input_lines.specs.Reader.{not_given}
 use Rattle.olap_meaning.specs.Legal.{is_next_call}
-use Rattle.cache_manager.specs.Cache.{CacheOf}
+use Rattle.history_core.specs.Cache.{CacheOf}
 use Rattle.cache_manager.specs.Jobs.{NoneFlies}
 use Rattle.line_session.specs.Asks.{rows_started}
 use Rattle.line_session.specs.Sessions.{GoesOn, IsServed, asker}

@@ -1,3 +1,4 @@
+-- That `read_cell_query` ensures `none`.
 use Rattle.std.proofs.Common.{rules}
 use Rattle.mdx_reader.proofs.Paths.{unwritten}
 use Rattle.mdx_reader.proofs.cell_query.read_cell_query.Goals as goal

@@ -1,3 +1,4 @@
+-- That `tokens_are_one` ensures what it says.
 use Rattle.mdx_reader.proofs.Once.{spells_once}
 use Rattle.mdx_reader.proofs.laws.tokens_are_one.Goals as goal
 

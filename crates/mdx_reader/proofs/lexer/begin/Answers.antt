@@ -1,3 +1,4 @@
+-- That `begin` ensures what it says.
 use Rattle.std.proofs.Common.{sym, refl}
 use Rattle.mdx_reader.proofs.Turns.{white_begins, word_begins, name_begins, sign_begins, nothing_begins}
 use Rattle.mdx_reader.proofs.Arms.{first_capital}

@@ -1,3 +1,4 @@
+-- That `end_text` ensures what it says.
 use Rattle.mdx_reader.proofs.Arms.{word_at_end, name_at_end, open_at_end}
 use Rattle.mdx_reader.proofs.lexer.end_text.Goals as goal
 

@@ -1,3 +1,4 @@
+-- That `end_word` ensures what it says.
 use Rattle.mdx_reader.proofs.Turns.{keyword_ends, no_keyword}
 use Rattle.mdx_reader.proofs.lexer.end_word.Goals as goal
 

@@ -1,3 +1,4 @@
+-- That `read_tokens` ensures what it says and keeps what holds at each turn.
 use Rattle.std.specs.Str.{chars}
 use Rattle.std.proofs.lemmas.Iterator.{YieldsList-from_chars}
 use Rattle.std.proofs.lemmas.Iterator.Consumers.{YieldsList-turn, YieldsList-end}

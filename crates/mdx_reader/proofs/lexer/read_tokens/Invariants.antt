@@ -1,3 +1,4 @@
+-- What holds at each turn of `read_tokens`.
 use Rattle.std.proofs.Common.{length, drop}
 use Rattle.std.specs.Prelude.{encode_utf8_all}
 use Rattle.std.specs.Str.{chars}

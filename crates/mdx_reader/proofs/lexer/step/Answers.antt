@@ -1,3 +1,4 @@
+-- That `step` ensures what it says.
 use Rattle.std.proofs.Common.{refl, Some, encode_utf8}
 use Rattle.mdx_reader.specs.declared.mode.Mode.TheVariants.{InWord, InName, Closing}
 use Rattle.mdx_reader.proofs.Turns.{word_goes, name_goes, name_closes, name_reopens}

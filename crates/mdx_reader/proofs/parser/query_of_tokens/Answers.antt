@@ -1,3 +1,4 @@
+-- That `query_of_tokens` ensures what it says.
 use Rattle.std.proofs.Common.{◌≡◌, ◌∷◌, rules, subst}
 use Rattle.olap_meaning.specs.declared.queries.Token.TheVariants.{Sign}
 use Rattle.olap_meaning.specs.declared.queries.Sign.TheVariants.{OpenBrace}

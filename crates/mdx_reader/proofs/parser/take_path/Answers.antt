@@ -1,3 +1,4 @@
+-- That `take_path` ensures what it says.
 use Rattle.std.proofs.Common.{◌∙◌, ap, ◌∷◌}
 use Rattle.olap_meaning.specs.declared.queries.Sign.TheVariants.{OpenBrace}
 use Rattle.olap_meaning.specs.declared.queries.Token.TheVariants.{Sign}

@@ -1,3 +1,4 @@
+-- What holds at each turn of `take_path`, and what falls at each of them.
 use Rattle.std.proofs.Common.{◌≡◌, ◌++◌, length}
 use Rattle.mdx_reader.proofs.Paths.{dotted}
 use Rattle.mdx_reader.proofs.parser.take_path.Given as goal

@@ -1,3 +1,4 @@
+-- What holds at each turn of `tally_of`.
 use Rattle.std.proofs.Common.{◌≡◌, ◌≤◌, length}
 use Rattle.measure_folds.proofs.tests.tally_of.Given as goal
 

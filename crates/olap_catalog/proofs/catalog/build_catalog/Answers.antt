@@ -1,7 +1,8 @@
+-- That `build_catalog` may call `roots_of` and leaves a value that is whole.
 use Rattle.std.proofs.Common.{◌≡◌, ◌∙◌, ap, arith, length, map, rules}
 use Rattle.olap_meaning.specs.Schema.{all_columns, all_hierarchies, hierarchies_in}
 use Rattle.std.specs.List.{list_all}
-use Rattle.olap_catalog.specs.Tables.{TableOf, have_fields}
+use Rattle.catalog_tables.specs.Tables.{TableOf, have_fields}
 use Rattle.olap_catalog.proofs.PartFacts.{parts_fit, length_all_hierarchies}
 use Rattle.olap_catalog.proofs.catalog.build_catalog.Goals as goal
 

@@ -1,6 +1,7 @@
+-- What holds at each turn of `numbered`.
 use Rattle.std.proofs.Common.{◌≡◌, true}
 use Rattle.std.specs.List.{list_all}
-use Rattle.olap_catalog.specs.Tables.{have_fields}
+use Rattle.catalog_tables.specs.Tables.{have_fields}
 use Rattle.olap_catalog.proofs.catalog.numbered.Given as goal
 
 abbrev pub invariant-loop-table : goal.invariant-loop-table

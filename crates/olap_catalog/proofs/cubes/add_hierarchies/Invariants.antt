@@ -1,3 +1,4 @@
+-- What holds at each turn of `add_hierarchies`.
 use Rattle.std.proofs.Common.{◌≡◌, ◌++◌, ◌==◌, drop, map, filter}
 use Rattle.std.specs.List.{enumerate_from}
 use Rattle.olap_catalog.specs.Roots.{hierarchies_among}

@@ -1,3 +1,4 @@
+-- What holds at each turn of `cube_names_of`.
 use Rattle.std.proofs.Common.{◌≡◌, take, map}
 use Rattle.olap_catalog.proofs.cubes.cube_names_of.Given as goal
 

@@ -1,3 +1,4 @@
+-- What holds at each turn of `cubes_of`.
 use Rattle.std.proofs.Common.{◌≡◌, take, map}
 use Rattle.olap_meaning.specs.Schema.{cube_over}
 use Rattle.olap_catalog.proofs.cubes.cubes_of.Given as goal

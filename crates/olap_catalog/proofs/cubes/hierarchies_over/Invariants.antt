@@ -1,3 +1,4 @@
+-- What holds at each turn of `hierarchies_over`.
 use Rattle.std.proofs.Common.{◌≡◌, ◌++◌, drop, flat_map}
 use Rattle.olap_catalog.specs.Roots.{hierarchies_among}
 use Rattle.olap_catalog.proofs.cubes.hierarchies_over.Given as goal

@@ -1,3 +1,4 @@
+-- What holds at each turn of `measure_names_of`.
 use Rattle.std.proofs.Common.{◌≡◌, take, map}
 use Rattle.olap_catalog.specs.Roots.{measure_names}
 use Rattle.olap_catalog.proofs.cubes.measure_names_of.Given as goal

@@ -1,3 +1,4 @@
+-- What holds at each turn of `measures_of`.
 use Rattle.std.proofs.Common.{◌≡◌, take}
 use Rattle.olap_catalog.proofs.cubes.measures_of.Given as goal
 

@@ -1,3 +1,4 @@
+-- What holds at each turn of `names_of_measures`.
 use Rattle.std.proofs.Common.{◌≡◌, take, map}
 use Rattle.olap_catalog.proofs.cubes.names_of_measures.Given as goal
 

@@ -1,3 +1,4 @@
+-- What holds at each turn of `names_of_roots`.
 use Rattle.std.proofs.Common.{◌≡◌, take}
 use Rattle.olap_catalog.specs.Roots.{root_names_in}
 use Rattle.olap_catalog.proofs.cubes.names_of_roots.Given as goal

@@ -1,3 +1,4 @@
+-- What holds at each turn of `places_of`.
 use Rattle.std.proofs.Common.{◌≡◌, ◌++◌, drop, filter_map}
 use Rattle.olap_meaning.specs.Schema.{dimension_place}
 use Rattle.olap_catalog.proofs.cubes.places_of.Given as goal

@@ -1,3 +1,4 @@
+-- What holds at each turn of `roots_of`.
 use Rattle.std.proofs.Common.{◌≡◌, take, map, flat_map}
 use Rattle.olap_catalog.specs.Roots.{hierarchies_among}
 use Rattle.olap_catalog.proofs.cubes.roots_of.Given as goal

@@ -1,3 +1,4 @@
+-- That `add_dimension` keeps what holds at each turn.
 use Rattle.std.proofs.Common.{rules}
 use Rattle.olap_catalog.proofs.LayoutFacts.{dimension_step, room_step}
 use Rattle.olap_catalog.proofs.layout.add_dimension.Goals as goal

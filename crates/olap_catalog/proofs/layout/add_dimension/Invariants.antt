@@ -1,3 +1,4 @@
+-- What holds at each turn of `add_dimension`.
 use Rattle.std.proofs.Common.{◌≡◌, ◌+◌, ◌++◌, drop, length, flat_map}
 use Rattle.olap_meaning.specs.Schema.{columns_from}
 use Rattle.olap_catalog.proofs.layout.add_dimension.Given as goal

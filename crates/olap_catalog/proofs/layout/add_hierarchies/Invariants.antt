@@ -1,3 +1,4 @@
+-- What holds at each turn of `add_hierarchies`.
 use Rattle.std.proofs.Common.{◌≡◌, ◌+◌, ◌++◌, drop, length, flat_map}
 use Rattle.olap_meaning.specs.Schema.{hierarchies_from}
 use Rattle.olap_catalog.proofs.layout.add_hierarchies.Given as goal

@@ -1,3 +1,4 @@
+-- What holds at each turn of `add_levels`.
 use Rattle.std.proofs.Common.{◌≡◌, ◌+◌, ◌++◌, drop}
 use Rattle.olap_meaning.specs.Schema.{columns_from}
 use Rattle.olap_catalog.proofs.layout.add_levels.Given as goal

@@ -1,3 +1,4 @@
+-- That `columns_of` keeps what holds at each turn.
 use Rattle.std.proofs.Common.{rules, arith}
 use Rattle.olap_meaning.specs.Schema.{levels_of}
 use Rattle.olap_catalog.proofs.LayoutFacts.{schema_step, flat_length}

@@ -1,3 +1,4 @@
+-- What holds at each turn of `columns_of`.
 use Rattle.std.proofs.Common.{◌≡◌, ◌≤◌, ◌++◌, drop, length, flat_map}
 use Rattle.olap_meaning.specs.Schema.{all_columns, levels_of}
 use Rattle.olap_catalog.proofs.layout.columns_of.Given as goal

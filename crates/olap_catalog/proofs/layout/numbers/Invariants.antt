@@ -1,3 +1,4 @@
+-- What holds at each turn of `numbers`.
 use Rattle.std.proofs.Common.{◌≡◌, ◌+◌, ◌++◌, drop}
 use Rattle.olap_meaning.specs.Schema.{numbers_from}
 use Rattle.olap_catalog.proofs.layout.numbers.Given as goal

@@ -1,3 +1,4 @@
+-- That `root_at` ensures what it says.
 use Rattle.std.proofs.Common.{◌∙◌, ◌∷◌, ap, sym, map, option_and_then, slice_get, arith}
 use Rattle.olap_meaning.specs.declared.cells.LevelRef.TheVariants.{Measures, Whole}
 use Rattle.olap_catalog.proofs.RootFacts.{whole_at}

@@ -1,3 +1,4 @@
+-- That `paired` ensures what it says and keeps what holds at each turn.
 use Rattle.std.proofs.Common.{arith}
 use Rattle.olap_catalog.proofs.LayoutFacts.{zip_step, zip_end}
 use Rattle.olap_catalog.proofs.paths.paired.Goals as goal

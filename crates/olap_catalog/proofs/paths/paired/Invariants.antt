@@ -1,3 +1,4 @@
+-- What holds at each turn of `paired`.
 use Rattle.std.proofs.Common.{◌≡◌, ◌++◌, drop}
 use Rattle.std.specs.List.{zip}
 use Rattle.olap_catalog.proofs.paths.paired.Given as goal

@@ -1,3 +1,4 @@
+-- That `some_answer_is_legal` ensures what it says.
 use Rattle.olap_meaning.proofs.Legality.{some_answer_is_legal}
 use Rattle.olap_meaning.proofs.laws.some_answer_is_legal.Goals as goal
 

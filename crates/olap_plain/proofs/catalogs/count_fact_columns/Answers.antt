@@ -1,3 +1,4 @@
+-- That `count_fact_columns` keeps what holds at each turn.
 use Rattle.std.proofs.Common.{◌∙◌, sym, arith, true, false}
 use Rattle.olap_plain.proofs.Fields.{columns_on}
 use Rattle.olap_plain.proofs.catalogs.count_fact_columns.Goals as goal

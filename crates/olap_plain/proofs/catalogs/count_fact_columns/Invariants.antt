@@ -1,3 +1,4 @@
+-- What holds at each turn of `count_fact_columns`.
 use Rattle.std.proofs.Common.{◌≡◌, ◌≤◌, length, take, map}
 use Rattle.olap_meaning.specs.Catalog.{first_appearances}
 use Rattle.olap_plain.proofs.catalogs.count_fact_columns.Given as goal

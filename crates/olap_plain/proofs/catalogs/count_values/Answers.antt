@@ -1,3 +1,4 @@
+-- That `count_values` keeps what holds at each turn.
 use Rattle.std.proofs.Common.{◌∙◌, sym, arith, true, false}
 use Rattle.olap_plain.proofs.Fields.{counts_on}
 use Rattle.olap_plain.proofs.catalogs.count_values.Goals as goal

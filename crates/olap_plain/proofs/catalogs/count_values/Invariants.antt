@@ -1,3 +1,4 @@
+-- What holds at each turn of `count_values`.
 use Rattle.std.proofs.Common.{◌≡◌, ◌≤◌, length, take}
 use Rattle.olap_meaning.specs.Catalog.{first_appearances, field_texts}
 use Rattle.olap_plain.proofs.catalogs.count_values.Given as goal

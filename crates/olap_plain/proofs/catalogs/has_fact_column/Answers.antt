@@ -1,3 +1,4 @@
+-- That `has_fact_column` ensures what it says.
 use Rattle.std.proofs.Common.{sym, ◌∙◌, bytes_eq}
 use Rattle.olap_plain.proofs.Fields.{any-map}
 use Rattle.olap_plain.proofs.catalogs.has_fact_column.Goals as goal

@@ -1,3 +1,4 @@
+-- That `has_text` ensures what it says.
 use Rattle.std.proofs.Common.{sym, ◌∙◌, bytes_eq, slice_get}
 use Rattle.olap_plain.proofs.Fields.{any-filter_map}
 use Rattle.olap_plain.proofs.catalogs.has_text.Goals as goal

@@ -1,3 +1,4 @@
+-- That `number_in` ensures what it says and keeps what holds at each turn.
 use Rattle.std.proofs.Common.{◌∙◌, ap, sym, arith, Some, true, false}
 use Rattle.olap_plain.proofs.Fields.{counts_on, none_step, found_step, none_in}
 use Rattle.olap_plain.proofs.catalogs.number_in.Goals as goal

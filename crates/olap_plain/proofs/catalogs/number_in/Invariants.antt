@@ -1,3 +1,4 @@
+-- What holds at each turn of `number_in`.
 use Rattle.std.proofs.Common.{◌≡◌, ◌≤◌, length, take, false, bytes_eq}
 use Rattle.std.specs.List.{list_any}
 use Rattle.olap_meaning.specs.Catalog.{first_appearances, field_texts}

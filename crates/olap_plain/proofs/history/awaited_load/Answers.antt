@@ -1,3 +1,4 @@
+-- That `awaited_load` ensures what it says and keeps what holds at each turn.
 use Rattle.std.proofs.Common.{sym, ◌∙◌, arith}
 use Rattle.olap_meaning.specs.History.{awaited, awaited_load}
 use Rattle.olap_plain.specs.Entries.{entries}

@@ -1,3 +1,4 @@
+-- What holds at each turn of `awaited_load`, and what falls at each of them.
 use Rattle.std.proofs.Common.{◌≡◌, ◌≤◌, length}
 use Rattle.olap_meaning.specs.History.{latest, awaited, awaited_load}
 use Rattle.olap_plain.specs.Entries.{entries}

@@ -1,3 +1,4 @@
+-- That `exact_source` ensures what it says and keeps what holds at each turn.
 use Rattle.std.proofs.Common.{sym, ◌∙◌, arith, ◌&&◌}
 use Rattle.olap_meaning.specs.History.{live, load_just_covers, exact_source}
 use Rattle.olap_plain.specs.Entries.{entries}

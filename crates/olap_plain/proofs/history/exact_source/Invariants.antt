@@ -1,3 +1,4 @@
+-- What holds at each turn of `exact_source`, and what falls at each of them.
 use Rattle.std.proofs.Common.{◌≡◌, ◌≤◌, ◌&&◌, length}
 use Rattle.olap_meaning.specs.History.{latest, live, load_just_covers, exact_source}
 use Rattle.olap_plain.specs.Entries.{entries}

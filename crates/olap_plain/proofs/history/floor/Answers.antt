@@ -1,3 +1,4 @@
+-- That `floor` ensures what it says.
 use Rattle.olap_plain.proofs.EntryFacts.{floor_front}
 use Rattle.olap_plain.proofs.history.floor.Goals as goal
 

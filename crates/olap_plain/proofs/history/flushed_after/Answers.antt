@@ -1,3 +1,4 @@
+-- That `flushed_after` ensures what it says.
 use Rattle.std.proofs.Common.{◌∙◌}
 use Rattle.olap_plain.proofs.EntryFacts.{flushed_tail}
 use Rattle.olap_plain.proofs.history.flushed_after.Goals as goal

@@ -1,3 +1,4 @@
+-- That `kept` ensures what it says.
 use Rattle.std.proofs.Common.{sym, ◌∙◌}
 use Rattle.olap_meaning.specs.History as meaning
 use Rattle.olap_plain.proofs.EntryFacts.{any_entries}

@@ -1,3 +1,4 @@
+-- That `latest_flush` ensures `value` and keeps what holds at each turn.
 use Rattle.std.proofs.Common.{sym, ◌∙◌, ap, arith, unwrap_or}
 use Rattle.olap_meaning.specs.History.{flushes, entry_at, is_some_and}
 use Rattle.olap_plain.specs.Entries.{entries}

@@ -1,3 +1,4 @@
+-- What holds at each turn of `latest_flush`, and what falls at each of them.
 use Rattle.std.proofs.Common.{◌≡◌, ◌≤◌, length, unwrap_or}
 use Rattle.olap_meaning.specs.History.{latest, flushes, entry_at, is_some_and, latest_flush}
 use Rattle.olap_plain.specs.Entries.{entries}

@@ -1,3 +1,4 @@
+-- What falls at each turn of `are_answered`.
 use Rattle.std.proofs.Common.{length}
 use Rattle.olap_plain.proofs.steps.+are_answered.Given as goal
 

@@ -1,3 +1,4 @@
+-- What falls at each turn of `columns_rise`.
 use Rattle.std.proofs.Common.{length}
 use Rattle.olap_plain.proofs.steps.+columns_rise.Given as goal
 

@@ -1,3 +1,4 @@
+-- That `is_legal` ensures what it says and keeps what holds at each turn.
 use Rattle.std.proofs.Common.{refl, arith}
 use Rattle.std.proofs.lemmas.Bool.{both_ways}
 use Rattle.olap_plain.proofs.StepFacts.{steps_on, step_fails, steps_all}

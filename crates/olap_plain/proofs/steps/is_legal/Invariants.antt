@@ -1,3 +1,4 @@
+-- What holds at each turn of `is_legal`.
 use Rattle.std.proofs.Common.{◌≡◌, ◌<◌, ℕ, suc, take, Some}
 use Rattle.olap_meaning.specs.History.{Entry, entry_at}
 use Rattle.olap_meaning.specs.Legal.{LegalStep}

@@ -1,3 +1,4 @@
+-- That `is_legal_start` ensures what it says.
 use Rattle.olap_plain.specs.Entries.{entries}
 use Rattle.olap_plain.proofs.StepFacts.{start_decided}
 use Rattle.olap_plain.proofs.steps.is_legal_start.Goals as goal

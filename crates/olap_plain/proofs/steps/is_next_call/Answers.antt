@@ -1,3 +1,4 @@
+-- That `is_next_call` ensures what it says.
 use Rattle.std.proofs.Common.{sym, ◌∙◌}
 use Rattle.olap_meaning.specs.Legal.{is_call_below, is_call_of}
 use Rattle.olap_plain.proofs.StepFacts.{all_kept}

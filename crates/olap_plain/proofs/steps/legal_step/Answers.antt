@@ -1,3 +1,4 @@
+-- That `legal_step` ensures what it says.
 use Rattle.olap_plain.specs.Entries.{entries}
 use Rattle.olap_plain.proofs.StepFacts.{step_of}
 use Rattle.olap_plain.proofs.steps.legal_step.Goals as goal

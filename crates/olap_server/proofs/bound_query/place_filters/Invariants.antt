@@ -1,3 +1,4 @@
+-- What holds at each turn of `place_filters`.
 use Rattle.std.proofs.Common.{◌≡◌, Some, map, take, drop}
 use Rattle.olap_meaning.specs.Records.{column_place, missing_column}
 use Rattle.olap_server.proofs.bound_query.place_filters.Given as goal

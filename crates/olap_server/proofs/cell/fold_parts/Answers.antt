@@ -1,3 +1,4 @@
+-- That `fold_parts` ensures what it says.
 use Rattle.std.proofs.Common.{IfOk}
 use Rattle.rayon.proofs.ToStd.{slice-AllZip}
 use Rattle.csv_records.specs.Files.{file_records}

@@ -1,3 +1,4 @@
+-- That `fold_rows` ensures `fault`.
 use Rattle.std.proofs.Common.{◌+◌, inr}
 use Rattle.std.proofs.lemmas.Result.{err_from_is_err_and}
 use Rattle.olap_server.proofs.FaultFacts.{tells_first}

@@ -1,3 +1,4 @@
+-- What holds at each turn of `fold_rows`, and what falls at each of them.
 use Rattle.std.proofs.Common.{◌≡◌, ◌≤◌, ◌+◌, ◌++◌, length}
 use Rattle.olap_meaning.specs.FileQuery.{asked_values, first_fault}
 use Rattle.olap_server.proofs.cell.fold_rows.Given as goal

@@ -1,3 +1,4 @@
+-- That `side_by_side` ensures what it says and may call `join_parts`.
 use Rattle.std.proofs.Common.{◌≡◌, ◌≤◌, ◌+◌, ◌∷◌, ◌∙◌, None, sym}
 use Rattle.std.specs.List.{AllZip, sum_by}
 use Rattle.csv_records.specs.Files.{file_records}

@@ -1,3 +1,4 @@
+-- What holds at each turn of `join_parts`.
 use Rattle.std.proofs.Common.{◌≡◌, ◌+◌, ◌++◌, drop}
 use Rattle.std.specs.List.{flat_map, sum_by}
 use Rattle.olap_server.proofs.part.join_parts.Given as goal

@@ -1,61 +1,44 @@
-use Rattle.std.proofs.Common.{ℕ, List, map, inl, inr}
-use Rattle.std.specs.Prelude.{string_bytes}
-use Rattle.olap_server.specs.Run.{Shown}
+-- What each kind of command line tells where no cache was opened.
+use Rattle.std.proofs.Common.{Some, None, subst, sym, ap}
+use Rattle.olap_meaning.specs.Commands.{Cell, Run}
+use Rattle.outside.specs.Told.{Shown, shown_of}
+use Rattle.olap_server.specs.Run.{Tells}
 use Rattle.olap_server.specs.Said.{Said}
-use Rattle.olap_server.proofs.RunFacts.{by_file, by_none, is_cut_off, is_told, no_sink}
+use Rattle.olap_server.proofs.RunFacts.{by_asked, by_memory, is_cut_off, is_told}
 use Rattle.olap_server.proofs.top_call.run.Goals as goal
 
-pub returns-in-Some-clause-told : goal.returns-in-Some-clause-told
-returns-in-Some-clause-told g c none whole =
+pub returns-in-Ok-Some-Run-clause-told : goal.returns-in-Ok-Some-Run-clause-told
+returns-in-Ok-Some-Run-clause-told g c none whole =
     let told = c.run_session.ensures.told none in
-    let words : List (List ℕ) = map string_bytes c.args.words.now in
-    let shown : Shown = record {
-      files = g.D.Depot.files c.args.depot.now;
-      faults_before = g.D.Depot.faults c.args.depot.now;
-      faults_after = g.D.Depot.faults c.run_session.new.depot;
-      misses_before = g.D.Depot.misses c.args.depot.now;
-      misses_after = g.D.Depot.misses c.run_session.new.depot;
-    } in
-    let said : Said = told.0 in
-    is_told words shown (g.O.Sink.taken c.args.output.now) (g.O.Sink.taken c.run_session.new.output) c.run_session.result.status said (by_file c.in-Some.file.now words shown said c.in-Some.ensures told.1) told.2 whole
+    let shown : Shown = shown_of g.D.Depot.files g.D.Depot.misses g.D.Depot.faults c.args.depot.now c.run_session.new.depot in
+    let is = rw (c.in-Ok-Some-Run.field-0-is, c.in-Ok-Some-Run.field-0-0-is) at c.in-Ok-Some-Run.ensures.asked in
+    is_told c.args.words.now shown (g.O.Sink.taken c.args.output.now) (g.O.Sink.taken c.run_session.new.output) c.run_session.result.status told.0 (by_asked c.args.words.now (Some (Run c.in-Ok-Some-Run.file.now)) shown told.0.status told.0.text is told.1) told.2 whole
 
-pub returns-in-Some-clause-cut_off : goal.returns-in-Some-clause-cut_off
-returns-in-Some-clause-cut_off g c none sink =
+pub returns-in-Ok-Some-Run-clause-cut_off : goal.returns-in-Ok-Some-Run-clause-cut_off
+returns-in-Ok-Some-Run-clause-cut_off g c none sink =
     let told = c.run_session.ensures.told none in
-    let words : List (List ℕ) = map string_bytes c.args.words.now in
-    let shown : Shown = record {
-      files = g.D.Depot.files c.args.depot.now;
-      faults_before = g.D.Depot.faults c.args.depot.now;
-      faults_after = g.D.Depot.faults c.run_session.new.depot;
-      misses_before = g.D.Depot.misses c.args.depot.now;
-      misses_after = g.D.Depot.misses c.run_session.new.depot;
-    } in
-    let said : Said = told.0 in
-    is_cut_off words shown (g.O.Sink.taken c.args.output.now) (g.O.Sink.taken c.run_session.new.output) c.run_session.result.status said (by_file c.in-Some.file.now words shown said c.in-Some.ensures told.1) told.2 sink
+    let shown : Shown = shown_of g.D.Depot.files g.D.Depot.misses g.D.Depot.faults c.args.depot.now c.run_session.new.depot in
+    let is = rw (c.in-Ok-Some-Run.field-0-is, c.in-Ok-Some-Run.field-0-0-is) at c.in-Ok-Some-Run.ensures.asked in
+    is_cut_off c.args.words.now shown (g.O.Sink.taken c.args.output.now) (g.O.Sink.taken c.run_session.new.output) c.run_session.result.status told.0 (by_asked c.args.words.now (Some (Run c.in-Ok-Some-Run.file.now)) shown told.0.status told.0.text is told.1) told.2 sink
 
-pub returns-in-None-clause-cut_off : goal.returns-in-None-clause-cut_off
-returns-in-None-clause-cut_off g c none sink =
-    let words : List (List ℕ) = map string_bytes c.args.words.now in
-    let shown : Shown = record {
-      files = g.D.Depot.files c.args.depot.now;
-      faults_before = g.D.Depot.faults c.args.depot.now;
-      faults_after = g.D.Depot.faults c.reply_to_words-reply.new.depot;
-      misses_before = g.D.Depot.misses c.args.depot.now;
-      misses_after = g.D.Depot.misses c.reply_to_words-reply.new.depot;
-    } in
-    is_cut_off words shown (g.O.Sink.taken c.args.output.now) (g.O.Sink.taken c.say-status.new.output) c.say-status.result c.reply_to_words-reply.result (by_none words shown c.reply_to_words-reply.result c.in-None.ensures c.reply_to_words-reply.ensures) c.say-status.ensures.last sink
+pub returns-in-Ok-Some-Cell-clause-cut_off : goal.returns-in-Ok-Some-Cell-clause-cut_off
+returns-in-Ok-Some-Cell-clause-cut_off g c none sink =
+    let said : Said = c.reply_to_command-reply.result in
+    let shown : Shown = shown_of g.D.Depot.files g.D.Depot.misses g.D.Depot.faults c.args.depot.now c.reply_to_command-reply.new.depot in
+    let is = rw (c.in-Ok-Some-Cell.field-0-is, c.in-Ok-Some-Cell.field-0-0-is) at c.in-Ok-Some-Cell.ensures.asked in
+    is_cut_off c.args.words.now shown (g.O.Sink.taken c.args.output.now) (g.O.Sink.taken c.without_cache.new.output) c.without_cache.result.status said (by_asked c.args.words.now (Some (Cell c.in-Ok-Some-Cell.command)) shown said.status said.text is c.reply_to_command-reply.ensures) c.without_cache.ensures.last sink
 
-pub returns-in-None-clause-failed : goal.returns-in-None-clause-failed
-returns-in-None-clause-failed g c sink =
-    let words : List (List ℕ) = map string_bytes c.args.words.now in
-    let shown : Shown = record {
-      files = g.D.Depot.files c.args.depot.now;
-      faults_before = g.D.Depot.faults c.args.depot.now;
-      faults_after = g.D.Depot.faults c.reply_to_words-reply.new.depot;
-      misses_before = g.D.Depot.misses c.args.depot.now;
-      misses_after = g.D.Depot.misses c.reply_to_words-reply.new.depot;
-    } in
-    elim (c.say-status.ensures.cause sink) [
-      | inl status ↦ absurd (no_sink words shown c.reply_to_words-reply.result (by_none words shown c.reply_to_words-reply.result c.in-None.ensures c.reply_to_words-reply.ensures) status)
-      | inr failed ↦ failed
-    ]
+pub returns-in-Ok-None-clause-cut_off : goal.returns-in-Ok-None-clause-cut_off
+returns-in-Ok-None-clause-cut_off g c none sink =
+    let said : Said = c.fixed.result in
+    let shown : Shown = shown_of g.D.Depot.files g.D.Depot.misses g.D.Depot.faults c.args.depot.now c.args.depot.now in
+    let is = rw c.in-Ok-None.field-0-is at c.in-Ok-None.ensures.asked in
+    let tells = by_asked c.args.words.now None shown said.status said.text is (ap (λ (s : Said). s.status) c.fixed.ensures, ap (λ (s : Said). s.text) c.fixed.ensures) in
+    is_cut_off c.args.words.now shown (g.O.Sink.taken c.args.output.now) (g.O.Sink.taken c.without_cache-in-Ok-None-2.new.output) c.without_cache-in-Ok-None-2.result.status said tells c.without_cache-in-Ok-None-2.ensures.last sink
+
+pub returns-in-Err-clause-cut_off : goal.returns-in-Err-clause-cut_off
+returns-in-Err-clause-cut_off g c none sink =
+    let said : Said = c.no_memory.result in
+    let shown : Shown = shown_of g.D.Depot.files g.D.Depot.misses g.D.Depot.faults c.args.depot.now c.args.depot.now in
+    let tells = subst (λ (s : Said). Tells c.args.words.now shown s.status s.text) (sym c.no_memory.ensures) (by_memory c.args.words.now shown c.in-Err.ensures.err) in
+    is_cut_off c.args.words.now shown (g.O.Sink.taken c.args.output.now) (g.O.Sink.taken c.without_cache-in-Err-2.new.output) c.without_cache-in-Err-2.result.status said tells c.without_cache-in-Err-2.ensures.last sink

@@ -1,3 +1,4 @@
+-- What holds at each turn of `find_file`.
 use Rattle.std.proofs.Common.{◌≡◌, drop}
 use Rattle.outside.specs.Told.{file_named}
 use Rattle.outside.proofs.memory.find_file.Given as goal

@@ -1,3 +1,4 @@
+-- That `member_title` ensures what it says.
 use Rattle.std.proofs.Common.{◌∙◌, sym, ap}
 use Rattle.std.proofs.lemmas.Result.{IfOk-weaker}
 use Rattle.olap_meaning.specs.declared.cells.Member.TheVariants as member

@@ -1,3 +1,5 @@
+-- That `path_title` ensures what it says, may call `value_name`, keeps what holds at each turn and stays within its
+-- numbers.
 use Rattle.std.proofs.Common.{◌∙◌}
 use Rattle.olap_meaning.specs.declared.cells.LevelRef.TheVariants.{Whole}
 use Rattle.olap_meaning.specs.Catalog.{root_name}

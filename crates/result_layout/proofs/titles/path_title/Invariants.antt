@@ -1,3 +1,4 @@
+-- What holds at each turn of `path_title`.
 use Rattle.std.proofs.Common.{◌≡◌, ◌++◌, take, flat_map, string_bytes}
 use Rattle.std.specs.List.{zip}
 use Rattle.olap_meaning.specs.declared.cells.LevelRef.TheVariants.{Whole}

@@ -1,3 +1,4 @@
+-- That `add_row` ensures `ok`.
 use Rattle.std.proofs.Common.{◌∙◌, sym, ap, inl, inr, length, List}
 use Rattle.segment_body.specs.declared.group.Group.{Group}
 use Rattle.segment_body.proofs.GroupFacts.{found, unfound, number_put}

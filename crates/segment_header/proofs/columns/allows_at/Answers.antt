@@ -1,3 +1,4 @@
+-- That `allows_at` ensures what it says.
 use Rattle.std.proofs.Common.{◌∙◌, sym, rules}
 use Rattle.std.proofs.lemmas.Bool.{and_parts}
 use Rattle.std.proofs.lemmas.List.Sorted.{answers_always}

@@ -1,3 +1,4 @@
+-- What holds at each turn of `copy_columns`.
 use Rattle.std.proofs.Common.{◌≡◌, take}
 use Rattle.segment_header.proofs.copies.copy_columns.Given as goal
 

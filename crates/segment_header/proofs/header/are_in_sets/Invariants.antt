@@ -1,3 +1,4 @@
+-- What holds at each turn of `are_in_sets`, and what falls at each of them.
 use Rattle.std.proofs.Common.{◌≡◌, ◌-◌, drop, length}
 use Rattle.std.specs.List.{list_all, zip}
 use Rattle.olap_meaning.specs.Covering as covering

@@ -1,3 +1,4 @@
+-- That `are_rising` ensures what it says and keeps what holds at each turn.
 use Rattle.std.proofs.Common.{◌∙◌, sym}
 use Rattle.segment_header.proofs.RiseFacts.{below_from, rise_on, rise_end}
 use Rattle.segment_header.proofs.values.are_rising.Goals as goal

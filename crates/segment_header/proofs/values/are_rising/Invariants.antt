@@ -1,3 +1,4 @@
+-- What holds at each turn of `are_rising`.
 use Rattle.std.proofs.Common.{◌≡◌, ◌-◌, drop, map}
 use Rattle.olap_meaning.specs.Legal.{rise}
 use Rattle.segment_header.proofs.values.are_rising.Given as goal

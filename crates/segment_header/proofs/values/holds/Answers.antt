@@ -1,3 +1,4 @@
+-- That `holds` ensures what it says.
 use Rattle.std.proofs.Common.{◌∙◌}
 use Rattle.segment_header.proofs.RiseFacts.{search_tells}
 use Rattle.segment_header.proofs.values.holds.Goals as goal

@@ -1,3 +1,4 @@
+-- That `add_pieces` ensures `at_most`, may call `add_rows` and keeps what holds at each turn.
 use Rattle.std.proofs.Common.{◌∙◌, ℕ, ℤ, List, Option, ◌++◌, append_assoc, length, length-append, take, ap, sym, arith}
 use Rattle.olap_meaning.specs.declared.tables.Row.{Row}
 use Rattle.segment_body.specs.BodyOf.{BodyOf}

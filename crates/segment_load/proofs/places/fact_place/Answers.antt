@@ -1,3 +1,4 @@
+-- That `fact_place` ensures what it says and may call `unwrap`.
 use Rattle.std.proofs.Common.{◌≡◌, ◌∙◌, Some, slice_get, ap, sym, refl}
 use Rattle.olap_meaning.specs.declared.cells.Header.{Header}
 use Rattle.segment_load.proofs.FactPlaces.{measure_same}

@@ -1,3 +1,4 @@
+-- That `place_among` ensures what it says and keeps what holds at each turn.
 use Rattle.std.proofs.Common.{◌∙◌, sym, arith}
 use Rattle.segment_load.proofs.FactPlaces.{place_here, counted_next, unseen_next, place_none}
 use Rattle.segment_load.proofs.places.place_among.Goals as goal

@@ -1,3 +1,4 @@
+-- What holds at each turn of `place_among`.
 use Rattle.std.proofs.Common.{◌≡◌, ◌≤◌, false, bytes_eq, length, take, map}
 use Rattle.std.specs.List.{list_any}
 use Rattle.olap_meaning.specs.Catalog.{first_appearances}

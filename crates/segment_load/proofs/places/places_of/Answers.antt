@@ -1,3 +1,4 @@
+-- That `places_of` may call `column` and `unwrap`.
 use Rattle.std.proofs.Common.{refl}
 use Rattle.std.proofs.lemmas.Option.{slice_get_within}
 use Rattle.segment_load.proofs.RowFacts.{column_there, place_there}

@@ -1,3 +1,4 @@
+-- What holds at each turn of `places_of`.
 use Rattle.std.proofs.Common.{◌≡◌, Some, map, take}
 use Rattle.segment_load.specs.Jobs.{place_of}
 use Rattle.segment_load.proofs.places.places_of.Given as goal

@@ -1,6 +1,7 @@
+-- The cells so far are answered.
 use Rattle.std.proofs.Common.{◌≡◌, Some, map, take}
 use Rattle.olap_meaning.specs.Worth.{answered_version, worth}
-use Rattle.cache_manager.specs.Answers.{source_of}
+use Rattle.history_core.specs.Answers.{source_of}
 use Rattle.cache_manager.proofs.manager.Manager.all_answered.Given as goal
 
 abbrev pub invariant-loop-cell : goal.invariant-loop-cell

@@ -1,3 +1,4 @@
+-- That `answered` ensures `value`.
 use Rattle.std.proofs.Common.{◌∙◌, ap, sym, Some}
 use Rattle.cache_manager.proofs.Serving.{kept_worth}
 use Rattle.cache_manager.proofs.manager.Manager.answered.Goals as goal

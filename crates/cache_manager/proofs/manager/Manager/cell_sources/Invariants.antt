@@ -1,5 +1,6 @@
+-- The sources so far are those of the cells.
 use Rattle.std.proofs.Common.{◌≡◌, map, take}
-use Rattle.cache_manager.specs.Answers.{source_of}
+use Rattle.history_core.specs.Answers.{source_of}
 use Rattle.cache_manager.proofs.manager.Manager.cell_sources.Given as goal
 
 abbrev pub invariant-loop-cell : goal.invariant-loop-cell

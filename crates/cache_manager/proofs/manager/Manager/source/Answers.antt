@@ -1,8 +1,9 @@
+-- The kept load with the greatest number is the exact source.
 use Rattle.std.proofs.Common.{◌∙◌, List, ap, sym, subst, Some, length}
 use Rattle.olap_meaning.specs.Covering.{just_covers}
 use Rattle.olap_meaning.specs.History.{exact_source}
 use Rattle.cache_manager.specs.declared.kept.Kept.{Kept}
-use Rattle.cache_manager.specs.Cache.{CacheOf}
+use Rattle.history_core.specs.Cache.{CacheOf}
 use Rattle.cache_manager.specs.Search.{IsGreatest}
 use Rattle.cache_manager.proofs.Serving.{at_place, is_source, no_source}
 use Rattle.cache_manager.proofs.manager.Manager.source.Goals as goal

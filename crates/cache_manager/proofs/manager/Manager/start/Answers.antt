@@ -1,12 +1,13 @@
+-- The Starts that were prepared are legal, and their jobs and flights are those of the history.
 use Rattle.std.proofs.Common.{◌≡◌, ◌∙◌, ◌+◌, ◌++◌, List, [], ap, sym, subst, arith, length, map, true, not, is_some, All}
 use Rattle.std.specs.List.{list_all}
 use Rattle.std.specs.Vec.{vec_len}
 use Rattle.olap_meaning.specs.declared.tables.Setting.{Setting}
 use Rattle.segment_load.specs.Loads.{JobOf}
 use Rattle.olap_meaning.specs.History.{Entry, exact_source}
-use Rattle.olap_meaning.specs.Legal.{Legal}
-use Rattle.cache_manager.specs.Cache.{CacheOf}
-use Rattle.cache_manager.specs.Groups.{firsts, is_known}
+use Rattle.olap_meaning.specs.Legal.{Legal, is_cell}
+use Rattle.history_core.specs.Cache.{CacheOf}
+use Rattle.cache_manager.specs.Groups.{firsts, lent}
 use Rattle.cache_manager.specs.Jobs.{IsJobOf, NoneFlies}
 use Rattle.cache_manager.specs.Plans.{AreLegalSteps, ArePlanned}
 use Rattle.cache_manager.proofs.Ends.{cache_of}
@@ -16,21 +17,21 @@ use Rattle.cache_manager.proofs.manager.Manager.start.Goals as goal
 
 pub start_all-requires-clause-legal : goal.start_all-requires-clause-legal
 start_all-requires-clause-legal c =
-    let legal : Legal c.args.self.now.setting c.args.self.now.entries = subst (λ (k : CacheOf). Legal k.setting k.entries) c.self.view_is c.is_legal.ensures in
+    let legal : Legal c.args.self.now.setting c.args.self.now.entries = subst (λ (k : CacheOf). Legal k.setting k.entries) c.self.view_is c.steps_are_legal.ensures in
     rw (c.reserve-3.ensures.setting, c.reserve-3.ensures.entries)
     (subst (λ (k : CacheOf). AreLegalSteps k.setting k.entries (map step_of c.in_ok-plans.plans.items)) (sym c.self.view_is)
-    (all_legal c.args.self.now c.args.who c.args.wanted.now c.in_ok-plans.plans.items legal c.requires.known c.requires.unserved c.requires.idle c.in_ok-plans.ensures))
+    (all_legal c.args.self.now c.args.who (lent c.args.wanted.now) c.in_ok-plans.plans.items legal c.requires.known c.requires.unserved c.requires.idle c.in_ok-plans.ensures))
 
 pub invariant_of-self-2 : goal.invariant_of-self-2
 invariant_of-self-2 c =
     let many : length c.in_ok-plans.plans.items ≡ vec_len c.in_ok-plans.plans = sym c.in_ok-plans.plans.ok.0 in
     let flying : length c.self.inside.flights.items ≡ vec_len c.self.inside.flights = sym c.self.inside.flights.ok.0 in
     rw (c.start_all.ensures.setting, c.start_all.ensures.entries, c.start_all.ensures.flights, c.reserve-3.ensures.setting, c.reserve-3.ensures.entries, c.reserve-2.ensures.items, c.reserve.ensures.items)
-    (manager_started (cache_of c.self.inside.history) c.args.who c.args.wanted.now c.in_ok-plans.plans.items c.is_legal.ensures
-    (subst (λ (k : CacheOf). list_all (is_known k.setting.catalog) c.args.wanted.now ≡ true) (sym c.self.view_is) c.requires.known)
-    (subst (λ (k : CacheOf). list_all (λ cell. not (is_some (exact_source k.entries cell))) c.args.wanted.now ≡ true) (sym c.self.view_is) c.requires.unserved)
+    (manager_started (cache_of c.self.inside.history) c.args.who (lent c.args.wanted.now) c.in_ok-plans.plans.items c.steps_are_legal.ensures
+    (subst (λ (k : CacheOf). list_all (is_cell k.setting.catalog) (lent c.args.wanted.now) ≡ true) (sym c.self.view_is) c.requires.known)
+    (subst (λ (k : CacheOf). list_all (λ cell. not (is_some (exact_source k.entries cell))) (lent c.args.wanted.now) ≡ true) (sym c.self.view_is) c.requires.unserved)
     (subst (λ (k : CacheOf). NoneFlies k.entries) (sym c.self.view_is) c.requires.idle)
-    (subst (λ (k : CacheOf). ArePlanned k c.args.who c.args.wanted.now (length k.entries + 1) (firsts [] c.args.wanted.now) c.in_ok-plans.plans.items) (sym c.self.view_is) c.in_ok-plans.ensures)
+    (subst (λ (k : CacheOf). ArePlanned k c.args.who (lent c.args.wanted.now) (length k.entries + 1) (firsts [] (lent c.args.wanted.now)) c.in_ok-plans.plans.items) (sym c.self.view_is) c.in_ok-plans.ensures)
     c.self.inside.facts c.self.inside.kept.items c.self.inside.history.spare _ _ _ c.self.inside.flights.items c.self.invariant
     (omega (arith, many, flying, c.start_all.ensures.spare, c.in_ok-reserve-3.ensures.ok, c.in_ok-sum.ensures, c.in_ok-ends.ensures, c.len-2.ensures, c.len-3.ensures, c.len-5.ensures))
     (omega (arith, many, flying, c.in_ok-reserve.ensures.ok, c.in_ok-ends.ensures, c.len-2.ensures, c.len-3.ensures)))
@@ -38,17 +39,17 @@ invariant_of-self-2 c =
 pub returns-clause-entries : goal.returns-clause-entries
 returns-clause-entries c =
     c.start_all.ensures.entries ∙ ap (λ (es : List Entry). es ++ map step_of c.in_ok-plans.plans.items) (c.reserve-3.ensures.entries ∙ ap (λ (k : CacheOf). k.entries) c.self.view_is)
-    ∙ ap (λ (steps : List Entry). c.args.self.now.entries ++ steps) (planned_steps c.args.self.now c.args.who c.args.wanted.now (length c.args.self.now.entries + 1) (firsts [] c.args.wanted.now) c.in_ok-plans.plans.items c.in_ok-plans.ensures)
+    ∙ ap (λ (steps : List Entry). c.args.self.now.entries ++ steps) (planned_steps c.args.self.now c.args.who (lent c.args.wanted.now) (length c.args.self.now.entries + 1) (firsts [] (lent c.args.wanted.now)) c.in_ok-plans.plans.items c.in_ok-plans.ensures)
 
 pub returns-clause-numbers : goal.returns-clause-numbers
 returns-clause-numbers c =
     let jobs : c.from_vec.result ≡ map (λ p. p.job) c.in_ok-plans.plans.items =
     c.from_vec.ensures ∙ c.start_all.ensures.jobs ∙ ap (λ (js : List JobOf). js ++ map (λ p. p.job) c.in_ok-plans.plans.items) c.in_ok-jobs.ensures.items in
-    rw jobs (planned_numbers c.args.self.now c.args.who c.args.wanted.now (length c.args.self.now.entries + 1) (firsts [] c.args.wanted.now) c.in_ok-plans.plans.items c.in_ok-plans.ensures)
+    rw jobs (planned_numbers c.args.self.now c.args.who (lent c.args.wanted.now) (length c.args.self.now.entries + 1) (firsts [] (lent c.args.wanted.now)) c.in_ok-plans.plans.items c.in_ok-plans.ensures)
 
 pub returns-clause-jobs : goal.returns-clause-jobs
 returns-clause-jobs c =
-    let legal : Legal c.args.self.now.setting c.args.self.now.entries = subst (λ (k : CacheOf). Legal k.setting k.entries) c.self.view_is c.is_legal.ensures in
+    let legal : Legal c.args.self.now.setting c.args.self.now.entries = subst (λ (k : CacheOf). Legal k.setting k.entries) c.self.view_is c.steps_are_legal.ensures in
     let jobs : c.from_vec.result ≡ map (λ p. p.job) c.in_ok-plans.plans.items =
     c.from_vec.ensures ∙ c.start_all.ensures.jobs ∙ ap (λ (js : List JobOf). js ++ map (λ p. p.job) c.in_ok-plans.plans.items) c.in_ok-jobs.ensures.items in
     let settings : c.start_all.new.history.setting ≡ c.args.self.now.setting = c.start_all.ensures.setting ∙ c.reserve-3.ensures.setting ∙ ap (λ (k : CacheOf). k.setting) c.self.view_is in
@@ -57,4 +58,4 @@ returns-clause-jobs c =
     subst (λ (js : List JobOf). All (IsJobOf (record { setting = c.start_all.new.history.setting; entries = c.start_all.new.history.entries })) js) (sym jobs)
     (subst (λ (s : Setting). All (IsJobOf (record { setting = s; entries = c.start_all.new.history.entries })) (map (λ p. p.job) c.in_ok-plans.plans.items)) (sym settings)
     (subst (λ (es : List Entry). All (IsJobOf (record { setting = c.args.self.now.setting; entries = es })) (map (λ p. p.job) c.in_ok-plans.plans.items)) (sym entries)
-    (jobs_started c.args.self.now c.args.who c.args.wanted.now c.in_ok-plans.plans.items legal c.requires.known c.requires.unserved c.requires.idle c.in_ok-plans.ensures)))
+    (jobs_started c.args.self.now c.args.who (lent c.args.wanted.now) c.in_ok-plans.plans.items legal c.requires.known c.requires.unserved c.requires.idle c.in_ok-plans.ensures)))

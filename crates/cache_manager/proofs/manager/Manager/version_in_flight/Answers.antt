@@ -1,7 +1,8 @@
+-- A flying load has its flight, with its version.
 use Rattle.std.proofs.Common.{◌≡◌, ◌∙◌, ◌==◌, List, ap, sym, refl, true, option_map}
 use Rattle.std.specs.List.{find}
 use Rattle.olap_meaning.specs.History.{flying, load_version}
-use Rattle.cache_manager.specs.Cache.{CacheOf}
+use Rattle.history_core.specs.Cache.{CacheOf}
 use Rattle.cache_manager.specs.declared.kept.Flight.{Flight}
 use Rattle.cache_manager.proofs.Managing.{version_found}
 use Rattle.cache_manager.proofs.manager.Manager.version_in_flight.Goals as goal

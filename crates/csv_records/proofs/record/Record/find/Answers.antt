@@ -1,3 +1,4 @@
+-- That `find` ensures what it says and keeps what holds at each turn.
 use Rattle.std.proofs.Common.{◌≡◌, ◌∙◌, true, false, sym, bytes_eq}
 use Rattle.csv_records.proofs.FieldFacts.{position_from_drop}
 use Rattle.csv_records.proofs.record.Record.find.Goals as goal

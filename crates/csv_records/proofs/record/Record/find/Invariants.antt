@@ -1,3 +1,4 @@
+-- What holds at each turn of `find`.
 use Rattle.std.proofs.Common.{◌≡◌, drop, bytes_eq}
 use Rattle.std.specs.List.{position_from}
 use Rattle.olap_meaning.specs.Records.{column_place}

@@ -1,3 +1,4 @@
+-- That `get` ensures what it says.
 use Rattle.std.proofs.Common.{◌∙◌}
 use Rattle.csv.specs.Records.{fields_of}
 use Rattle.csv_records.proofs.FieldFacts.{field_at-slice_get}

@@ -1,3 +1,4 @@
+-- That `has_text_fields` ensures what it says and keeps what holds at each turn.
 use Rattle.std.proofs.Common.{◌≡◌, ◌∙◌, true, false, sym}
 use Rattle.std.specs.Str.{is_utf8}
 use Rattle.csv_records.proofs.FieldFacts.{list_all_drop}

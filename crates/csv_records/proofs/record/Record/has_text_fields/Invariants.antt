@@ -1,3 +1,4 @@
+-- What holds at each turn of `has_text_fields`.
 use Rattle.std.proofs.Common.{◌≡◌, drop}
 use Rattle.std.specs.List.{list_all}
 use Rattle.std.specs.Str.{is_utf8}

@@ -1,3 +1,4 @@
+-- That `new` leaves a value that is whole.
 use Rattle.std.proofs.Common.{rules}
 use Rattle.csv_records.proofs.AsciiFacts.{ascii_strip}
 use Rattle.csv_records.proofs.FieldFacts.{ascii_each}

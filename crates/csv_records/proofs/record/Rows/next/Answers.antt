@@ -1,3 +1,4 @@
+-- That `next` ensures `taken` and `end` and leaves a value that is whole.
 use Rattle.std.proofs.Common.{sym, ◌∙◌, rules}
 use Rattle.csv.specs.Records.{fields_of}
 use Rattle.csv_records.proofs.AsciiFacts.{ascii_kept}

@@ -1,3 +1,4 @@
+-- That `bind` leaves a value that is whole.
 use Rattle.std.proofs.Common.{◌≡◌, ◌∙◌, ap, sym, arith, map, Some}
 use Rattle.olap_meaning.specs.Records.{column_place}
 use Rattle.olap_meaning.specs.Schema.{levels_of}

@@ -1,8 +1,10 @@
+-- The texts at the places are the fields of the levels.
 use Rattle.std.proofs.Common.{◌≡◌, ◌∙◌, ap, sym, length}
 use Rattle.std.proofs.lemmas.Result.{IfOk-weaker}
 use Rattle.dim_tables.specs.Bound.{fields_at}
 use Rattle.dim_tables.specs.TableFiles.{fields_in, level_columns}
-use Rattle.dim_tables.proofs.PlaceFacts.{all_within, csv_parts, fields_there}
+use Rattle.csv_records.proofs.PlaceFacts.{csv_parts}
+use Rattle.dim_tables.proofs.PlaceFacts.{all_within, fields_there}
 use Rattle.dim_tables.proofs.bound.BoundDimension.fields.Goals as goal
 
 pub texts_at-requires-clause-within : goal.texts_at-requires-clause-within

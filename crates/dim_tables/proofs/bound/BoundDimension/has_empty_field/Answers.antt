@@ -1,9 +1,11 @@
+-- The places that are looked at are those of the levels' columns.
 use Rattle.std.proofs.Common.{◌≡◌, ◌∙◌, ap, sym, length}
 use Rattle.std.specs.List.{list_any}
 use Rattle.olap_meaning.specs.Records.{is_null}
 use Rattle.dim_tables.specs.Bound.{fields_at}
 use Rattle.dim_tables.specs.TableFiles.{fields_in, level_columns}
-use Rattle.dim_tables.proofs.PlaceFacts.{all_within, csv_parts, fields_there}
+use Rattle.csv_records.proofs.PlaceFacts.{csv_parts}
+use Rattle.dim_tables.proofs.PlaceFacts.{all_within, fields_there}
 use Rattle.dim_tables.proofs.bound.BoundDimension.has_empty_field.Goals as goal
 
 pub has_empty-requires : goal.has_empty-requires

@@ -1,3 +1,4 @@
+-- That `bind` ensures `fault` and `sound`.
 use Rattle.std.proofs.Common.{◌∙◌, sym}
 use Rattle.std.proofs.lemmas.Result.{err_from_is_err_and}
 use Rattle.fact_rows.proofs.PlaceFacts.{first_missing, header_told, none_missing, other_missing}

@@ -1,3 +1,4 @@
+-- That `empty_batch` ensures what it says.
 use Rattle.std.proofs.Common.{◌≡◌, ◌∙◌, ap, sym, length, map}
 use Rattle.olap_meaning.specs.declared.schema.SchemaUse.{SchemaUse}
 use Rattle.fact_rows.specs.BatchFiles.{dimensions_of, number_columns, uses_of}

@@ -1,3 +1,4 @@
+-- What holds at each turn of `read_leaves`.
 use Rattle.std.proofs.Common.{◌≡◌, ◌++◌, drop, map}
 use Rattle.fact_rows.specs.BatchFiles.{foreign_keys, key_fault, leaves_in}
 use Rattle.fact_rows.specs.Bound.{key_pair}

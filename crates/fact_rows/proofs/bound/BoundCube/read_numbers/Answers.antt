@@ -1,8 +1,9 @@
+-- Column by column, the value is the one that the record's field says, or the fault is the definition's.
 use Rattle.std.proofs.Common.{◌∙◌, ◌||◌, ◌++◌, ap, sym, arith, Some, is_some, append_assoc}
 use Rattle.olap_meaning.specs.Records.{column_place, is_null, number}
 use Rattle.fact_rows.specs.declared.fault.BatchFault.TheVariants.{NotNumber}
 use Rattle.fact_rows.specs.Bound.{AreNumbersPlaced}
-use Rattle.fact_rows.proofs.PlaceFacts.{csv_parts, field_there, place_within, same_at}
+use Rattle.csv_records.proofs.PlaceFacts.{csv_parts, field_there, place_within, same_at}
 use Rattle.fact_rows.proofs.RowFacts.{no_value, numbers_from, told_or_not, value_there}
 use Rattle.fact_rows.proofs.bound.BoundCube.read_numbers.Goals as goal
 

@@ -1,3 +1,4 @@
+-- What holds at each turn of `read_numbers`.
 use Rattle.std.proofs.Common.{◌≡◌, ◌++◌, drop, map}
 use Rattle.fact_rows.specs.BatchFiles.{number_columns, number_fault, numbers_in}
 use Rattle.fact_rows.proofs.bound.BoundCube.read_numbers.Given as goal

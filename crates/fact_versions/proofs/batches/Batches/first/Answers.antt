@@ -1,3 +1,4 @@
+-- That `first` ensures what it says and keeps what holds at each turn.
 use Rattle.std.proofs.Common.{◌≤◌, ◌∙◌, map, take, length, refl, add-one, arith}
 use Rattle.std.proofs.lemmas.List.{length-map, map-append, take-map, take_all}
 use Rattle.fact_versions.proofs.BatchFacts.{take_next}

@@ -1,3 +1,4 @@
+-- What holds at each turn of `first`.
 use Rattle.std.proofs.Common.{◌≡◌, map, take}
 use Rattle.fact_versions.proofs.batches.Batches.first.Given as goal
 

@@ -1,3 +1,4 @@
+-- That `rows` keeps what holds at each turn and stays within its numbers.
 use Rattle.std.proofs.Common.{refl, add-one, arith}
 use Rattle.fact_versions.proofs.BatchFacts.{rows_next, rows_within}
 use Rattle.fact_versions.proofs.batches.Batches.rows.Goals as goal

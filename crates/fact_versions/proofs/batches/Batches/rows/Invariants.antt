@@ -1,3 +1,4 @@
+-- What holds at each turn of `rows`.
 use Rattle.std.proofs.Common.{◌≡◌, map, take}
 use Rattle.fact_versions.specs.Facts.{rows_of_batches}
 use Rattle.fact_versions.proofs.batches.Batches.rows.Given as goal

@@ -1,3 +1,4 @@
+-- The item that the list lends is the entry at the position.
 use Rattle.std.proofs.Common.{◌≡◌, ◌∙◌, ◌+◌, ap, arith, option_copied, slice_get}
 use Rattle.history_core.proofs.EntryFacts.{copied_at, entry_at_place}
 use Rattle.history_core.proofs.history.History.entry.Goals as goal

@@ -1,3 +1,4 @@
+-- The law of rising versions, at this history.
 use Rattle.history_core.proofs.history.History.versions_rise.Goals as goal
 
 pub returns : goal.returns

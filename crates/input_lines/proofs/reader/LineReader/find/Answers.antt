@@ -1,6 +1,6 @@
+-- That `find` ensures `unasked` and keeps what holds at each turn.
 use Rattle.std.proofs.Common.{arith, subst, List, ℕ, ◌≡◌, ◌≤◌, length, ap}
-use Rattle.olap_meaning.specs.Lines.{line_length}
-use Rattle.input_lines.specs.Reader.{IsFound}
+use Rattle.input_lines.specs.Reader.{IsFound, line_length}
 use Rattle.input_lines.specs.declared.next.Found.TheVariants as found
 use Rattle.input_lines.proofs.LineLemmas.{needs_more-taken, line_length-taken}
 use Rattle.input_lines.proofs.Taking.{HasTaken-more}

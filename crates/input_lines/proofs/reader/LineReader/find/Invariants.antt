@@ -1,6 +1,6 @@
+-- What holds at each turn of `find`, and what falls at each of them.
 use Rattle.std.proofs.Common.{◌≡◌, ◌≤◌, ◌-◌, [], length}
-use Rattle.olap_meaning.specs.Lines.{line_length}
-use Rattle.input_lines.specs.Reader.{HasTaken, NeedsNoMore}
+use Rattle.input_lines.specs.Reader.{HasTaken, NeedsNoMore, line_length}
 use Rattle.input_lines.proofs.reader.LineReader.find.Given as goal
 
 abbrev pub invariant-loop-found : goal.invariant-loop-found

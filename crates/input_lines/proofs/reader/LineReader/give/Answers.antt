@@ -1,11 +1,13 @@
-use Rattle.std.proofs.Common.{arith, ap, ◌<◌, ◌≤◌, subst, sym, length, List, ℕ, ◌≡◌}
+-- That `give` ensures `told` and `no_lf`.
+use Rattle.std.proofs.Common.{arith, ap, ◌∙◌, ◌<◌, ◌≤◌, subst, sym, length, List, ℕ, ◌≡◌}
 use Rattle.std.specs.Prelude.{All}
+use Rattle.std.proofs.lemmas.Bool.{eqb-true}
 use Rattle.std.proofs.lemmas.Bool.Decides.{nat_tests}
-use Rattle.olap_meaning.specs.Lines.{line_length}
-use Rattle.input_lines.specs.Reader.{IsFound}
+use Rattle.input_lines.specs.Reader.{IsFound, line_length}
 use Rattle.input_lines.specs.declared.next.Found.{Found}
 use Rattle.input_lines.specs.declared.next.Found.TheVariants as found
-use Rattle.input_lines.proofs.LineLemmas.{told-line, told-too_many, told-last, no_lf-take, no_lf-all, no_lf-without_cr}
+use Rattle.input_lines.proofs.LineLemmas.{no_lf-take, no_lf-all, no_lf-without_cr}
+use Rattle.input_lines.proofs.Tells.{told-line, told-too_many, told-last, told-none}
 use Rattle.input_lines.proofs.reader.LineReader.give.Goals as goal
 
 pub returns-in-Lf-clause-told : goal.returns-in-Lf-clause-told
@@ -35,3 +37,8 @@ pub returns-in-Neither-2-clause-no_lf : goal.returns-in-Neither-2-clause-no_lf
 returns-in-Neither-2-clause-no_lf c =
     let seen : IsFound found.Neither c.args.self.now.held = subst (λ (f : Found). IsFound f c.args.self.now.held) c.in-Neither-2.is c.requires.found in
     subst (λ (line : List ℕ). All (λ b. b ≡ 10 → ⊥) line) (sym c.give_all.ensures.line) (no_lf-all c.args.self.now.held seen.0)
+
+pub returns-in-Neither-clause-told : goal.returns-in-Neither-clause-told
+returns-in-Neither-clause-told c = λ rest last.
+    let none : length c.args.self.now.held ≡ 0 = ap length (sym c.held.ensures.value) ∙ eqb-true (length c.held.result.now) 0 (sym c.is_empty.ensures ∙ c.if-is_empty.true) in
+    told-none c.args.self.now.held rest none (last c.in-Neither.is)

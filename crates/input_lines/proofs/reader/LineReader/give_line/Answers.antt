@@ -1,3 +1,4 @@
+-- That `give_line` ensures `held`.
 use Rattle.std.proofs.Common.{ap, ◌∙◌, drop, ◌+◌}
 use Rattle.input_lines.specs.Reader.{Reading}
 use Rattle.input_lines.proofs.Taking.{slice_range-drop}

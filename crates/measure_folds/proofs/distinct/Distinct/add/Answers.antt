@@ -1,3 +1,4 @@
+-- That `add` leaves a value that is whole.
 use Rattle.std.proofs.Common.{refl, SFits, w64}
 use Rattle.std.proofs.lemmas.Int.{to_z-of_z}
 use Rattle.measure_folds.proofs.DistinctFacts.{different_joined}

@@ -1,3 +1,4 @@
+-- That `add` leaves a value that is whole.
 use Rattle.std.proofs.Common.{◌∷◌, [], ℤ, List, ap, arith, length, w64, SFits}
 use Rattle.std.proofs.lemmas.Int.{ints, to_z-of_z}
 use Rattle.measure_folds.proofs.SumFacts.{summed_joined, summed_one}

@@ -1,3 +1,4 @@
+-- That `merge` leaves a value that is whole.
 use Rattle.std.proofs.Common.{ℤ, List, ap, arith, length}
 use Rattle.std.proofs.lemmas.Int.{ints}
 use Rattle.measure_folds.proofs.SumFacts.{summed_joined}

@@ -1,3 +1,4 @@
+-- That `finish` may call `worth`.
 use Rattle.std.proofs.Common.{arith}
 use Rattle.measure_folds.proofs.RowFacts.{numbers_fit}
 use Rattle.measure_folds.proofs.tally.Tally.finish.Goals as goal

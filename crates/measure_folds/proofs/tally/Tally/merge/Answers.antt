@@ -1,3 +1,4 @@
+-- That `merge` may call `merge_state` and leaves a value that is whole.
 use Rattle.std.proofs.Common.{arith, ap, length}
 use Rattle.measure_folds.proofs.RowFacts.{numbers_fit, rows_joined}
 use Rattle.measure_folds.specs.Tallied.{Tallied}

@@ -1,3 +1,4 @@
+-- That `step` may call `add_value` and leaves a value that is whole.
 use Rattle.std.proofs.Common.{arith, ap, length}
 use Rattle.measure_folds.proofs.RowFacts.{numbers_fit, rows_joined, rows_one}
 use Rattle.measure_folds.specs.Tallied.{Tallied}

@@ -1,3 +1,4 @@
+-- That `default_member` ensures `found` and `own`.
 use Rattle.std.proofs.Common.{◌∙◌, Ok, Some, [], ◌∷◌, refl, sym, ap, subst, arith, option_map}
 use Rattle.olap_meaning.specs.declared.cells.LevelRef.TheVariants.{Whole}
 use Rattle.olap_catalog.proofs.OwnFacts.{IsWhole, whole_parts, found_own}

@@ -1,3 +1,4 @@
+-- That `field_of` ensures what it says, may call `unwrap` and stays within its numbers.
 use Rattle.std.proofs.Common.{refl, ◌≡◌, ◌∙◌, ◌<◌, Option, Some, None, List, ℕ, ap, sym, length, slice_get, Bor}
 use Rattle.std.specs.Option.{option_copied, IsSome}
 use Rattle.olap_meaning.specs.declared.tables.Catalog.{Catalog}

@@ -1,7 +1,8 @@
+-- That `find_leaf` ensures `found` and `known`.
 use Rattle.std.proofs.Common.{◌∙◌, ap, sym}
 use Rattle.std.specs.Option.{option_copied}
 use Rattle.olap_meaning.specs.Catalog.{find_leaf}
-use Rattle.olap_catalog.specs.Tables.{find_key}
+use Rattle.catalog_tables.specs.Tables.{find_key}
 use Rattle.olap_catalog.proofs.ValueFacts.{records_here, records_none, leaf_known}
 use Rattle.olap_catalog.proofs.catalog.Catalog.find_leaf.Goals as goal
 

@@ -1,3 +1,4 @@
+-- That `find_root` ensures what it says and may call `root_at`.
 use Rattle.std.proofs.Common.{◌≡◌, ◌∙◌, ◌<◌, ap, length, get_or, option_and_then, slice_get, ◌∷◌, map}
 use Rattle.olap_meaning.specs.declared.tables.Catalog.{Catalog}
 use Rattle.olap_meaning.specs.declared.cells.LevelRef.TheVariants.{Measures, Whole}

@@ -1,3 +1,4 @@
+-- That `first_below` ensures what it says and keeps what holds at each turn.
 use Rattle.std.proofs.Common.{[], true, ◌∙◌, ap, sym, arith}
 use Rattle.std.specs.List.{find, cons_option}
 use Rattle.olap_meaning.specs.Catalog.{paths, path_of}

@@ -1,3 +1,4 @@
+-- What holds at each turn of `first_below`.
 use Rattle.std.proofs.Common.{◌≡◌, None, true, take, filter_map}
 use Rattle.std.specs.List.{find}
 use Rattle.olap_meaning.specs.Catalog.{paths}

@@ -1,3 +1,4 @@
+-- That `first_child` ensures what it says.
 use Rattle.std.proofs.Common.{◌∙◌, ap, sym, true, []}
 use Rattle.std.specs.Option.{option_copied}
 use Rattle.olap_catalog.proofs.HierarchyFacts.{no_children, empty_has_none}

@@ -1,3 +1,4 @@
+-- That `full_name` ensures what it says.
 use Rattle.std.proofs.Common.{◌≡◌, ◌∙◌, ◌<◌, ap, length, get_or}
 use Rattle.olap_meaning.specs.declared.tables.Catalog.{Catalog}
 use Rattle.olap_meaning.specs.declared.cells.LevelRef.TheVariants.{Whole}

@@ -1,3 +1,4 @@
+-- That `hierarchy_at` ensures what it says.
 use Rattle.std.proofs.Common.{◌≡◌, ◌∙◌, ap, sym, slice_get, true}
 use Rattle.std.specs.List.{list_all}
 use Rattle.std.specs.Option.{option_copied}

@@ -1,3 +1,4 @@
+-- That `leaf_count` ensures what it says.
 use Rattle.std.proofs.Common.{◌∙◌, ap, sym, length}
 use Rattle.std.specs.Option.{option_copied}
 use Rattle.olap_meaning.specs.Catalog.{records}

@@ -1,8 +1,9 @@
+-- That `leaf_value` ensures what it says and may call `value_at`.
 use Rattle.std.proofs.Common.{◌∙◌, ◌<◌, ap, sym, length, option_and_then, slice_get, arith}
 use Rattle.olap_meaning.specs.declared.tables.Catalog.{Catalog}
 use Rattle.olap_meaning.specs.Catalog.{leaf_value}
 use Rattle.olap_catalog.specs.Columns.{column_texts, column_leaves}
-use Rattle.olap_catalog.specs.Tables.{number_of}
+use Rattle.catalog_tables.specs.Tables.{number_of}
 use Rattle.olap_catalog.proofs.ValueFacts.{column_known, leaf_is, leaves_are}
 use Rattle.olap_catalog.proofs.catalog.Catalog.leaf_value.Goals as goal
 

@@ -1,3 +1,4 @@
+-- That `measure_named` ensures `err` and `ok` and stays within its numbers.
 use Rattle.std.proofs.Common.{◌≡◌, ◌∙◌, ◌<◌, ap, sym, map, length, get_or, arith, true}
 use Rattle.std.specs.List.{list_all}
 use Rattle.olap_meaning.specs.declared.tables.Catalog.{Catalog}

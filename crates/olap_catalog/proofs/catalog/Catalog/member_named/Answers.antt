@@ -1,3 +1,4 @@
+-- That `member_named` ensures `err` and `ok` and keeps what holds at each turn.
 use Rattle.std.proofs.Common.{◌∙◌, ap, sym, arith, Ok, [], true}
 use Rattle.olap_meaning.specs.Catalog.{named}
 use Rattle.olap_catalog.specs.Members.{members_below}

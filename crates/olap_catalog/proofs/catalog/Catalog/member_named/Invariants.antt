@@ -1,3 +1,4 @@
+-- What holds at each turn of `member_named`.
 use Rattle.std.proofs.Common.{◌≡◌, drop, ℕ, true, []}
 use Rattle.olap_meaning.specs.declared.cells.Member.{Member}
 use Rattle.olap_meaning.specs.Catalog.{named_below, children}

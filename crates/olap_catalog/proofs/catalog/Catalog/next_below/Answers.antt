@@ -1,3 +1,4 @@
+-- That `next_below` ensures what it says.
 use Rattle.std.proofs.Common.{refl, ◌≡◌, ◌∙◌, ap, length, true, false, Bool, not, get_or, arith}
 use Rattle.olap_meaning.specs.Catalog.{path_of, leaf_value}
 use Rattle.olap_catalog.proofs.MemberFacts.{next_none_at, next_some_at, value_within, same_item}

@@ -1,3 +1,4 @@
+-- What holds at each turn of `next_below`.
 use Rattle.std.proofs.Common.{◌≡◌, ◌++◌, take, drop, filter_map}
 use Rattle.olap_meaning.specs.Catalog.{leaf_value, path_of}
 use Rattle.olap_catalog.proofs.catalog.Catalog.next_below.Given as goal

@@ -1,8 +1,9 @@
+-- That `step` ensures `err` and `ok`.
 use Rattle.std.proofs.Common.{◌≡◌, ◌∙◌, ◌⊎◌, ℕ, ap, sym, Ok, Err, option_map, ok_or, inl, inr}
 use Rattle.std.specs.Option.{option_or}
 use Rattle.olap_meaning.specs.Catalog.{named}
 use Rattle.olap_catalog.specs.declared.fault.NameFault.TheVariants.{UnknownMember, OutOfMemory}
-use Rattle.olap_catalog.specs.Names.{is_but_case}
+use Rattle.catalog_tables.specs.Names.{is_but_case}
 use Rattle.olap_catalog.specs.Members.{spot, onward, below_by, members_below}
 use Rattle.std.specs.Str.{bytes_eq}
 use Rattle.olap_catalog.proofs.StepFacts.{step_is}

@@ -1,6 +1,8 @@
+-- That `asks_for` ensures what it says, may call `field` and keeps what holds at each turn.
 use Rattle.std.proofs.Common.{◌≡◌, ◌∙◌, Some, true, false, map, length, sym, ap, arith, bytes_eq}
 use Rattle.olap_meaning.specs.Records.{column_place}
-use Rattle.olap_server.proofs.PlaceFacts.{place_of_item, place_within, asked_from, not_true, not_false}
+use Rattle.csv_records.proofs.PlaceFacts.{place_within}
+use Rattle.olap_server.proofs.PlaceFacts.{place_of_item, asked_from, not_true, not_false}
 use Rattle.olap_server.proofs.bound_query.BoundQuery.asks_for.Goals as goal
 
 pub field-requires : goal.field-requires

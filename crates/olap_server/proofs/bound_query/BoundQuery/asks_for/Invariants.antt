@@ -1,3 +1,4 @@
+-- What holds at each turn of `asks_for`.
 use Rattle.std.proofs.Common.{◌≡◌, drop, bytes_eq}
 use Rattle.std.specs.List.{list_all}
 use Rattle.olap_meaning.specs.Records.{field_in}

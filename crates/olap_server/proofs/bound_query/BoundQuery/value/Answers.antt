@@ -1,6 +1,7 @@
+-- That `value` may call `field`.
 use Rattle.std.proofs.Common.{◌≡◌, true, arith}
 use Rattle.olap_meaning.specs.Records.{is_csv}
-use Rattle.olap_server.proofs.PlaceFacts.{place_within, csv_width}
+use Rattle.csv_records.proofs.PlaceFacts.{place_within, csv_parts}
 use Rattle.olap_server.proofs.bound_query.BoundQuery.value.Goals as goal
 
 pub field-field-requires : goal.field-field-requires
@@ -8,5 +9,5 @@ field-field-requires c =
     let b = c.self.inside in
     let within = place_within b.query.column b.header b.column c.self.invariant.column_found in
     let whole : is_csv b.header c.args.row.now ≡ true = cc in
-    let width = csv_width b.header c.args.row.now whole in
+    let width = (csv_parts b.header c.args.row.now whole).0 in
     omega arith

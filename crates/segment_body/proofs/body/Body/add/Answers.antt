@@ -1,3 +1,4 @@
+-- That `add` ensures `ok`, may call `add_row` and leaves a value that is whole.
 use Rattle.std.proofs.Common.{refl}
 use Rattle.olap_meaning.specs.declared.TheConstants.{ROW_LIMIT}
 use Rattle.segment_body.specs.Groups.{rows_of}

@@ -1,3 +1,4 @@
+-- That `get` ensures `found`, `none` and `tally`.
 use Rattle.std.proofs.Common.{◌∙◌, sym, ap}
 use Rattle.segment_body.specs.declared.group.Group.{Group}
 use Rattle.segment_body.proofs.GroupFacts.{group_found, row_found, row_missed, numbers_missed}

@@ -1,3 +1,4 @@
+-- That `value` ensures what it says.
 use Rattle.std.proofs.Common.{◌∙◌, ℤ, List, Option, sym, ap, map}
 use Rattle.olap_meaning.specs.Values.{aggregate}
 use Rattle.segment_body.specs.declared.group.Group.{Group}

@@ -1,3 +1,4 @@
+-- That `new` leaves a value that is whole.
 use Rattle.std.proofs.Common.{◌∙◌, sym, arith}
 use Rattle.segment_load.proofs.BatchFacts.{length-rows_in}
 use Rattle.segment_load.proofs.job.LoadJob.new.Goals as goal

@@ -1,3 +1,4 @@
+-- That `add_row` may call `add`.
 use Rattle.olap_meaning.specs.Worth.{row_value}
 use Rattle.segment_load.specs.Jobs.{row_at}
 use Rattle.segment_load.proofs.ValueFacts.{are_allowed_of}

@@ -1,3 +1,4 @@
+-- That `add_rows` may call `add_row` and keeps what holds at each turn.
 use Rattle.std.proofs.Common.{◌≡◌, ◌∙◌, ◌<◌, ℕ, ℤ, List, [], Option, Some, ◌++◌, append_assoc, length, length-append, take, slice_get, ap, sym, arith}
 use Rattle.std.specs.Prelude.{option_to_list}
 use Rattle.std.proofs.lemmas.Option.{slice_get-get_or}

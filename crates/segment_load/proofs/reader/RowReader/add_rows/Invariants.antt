@@ -1,3 +1,4 @@
+-- What holds at each turn of `add_rows`.
 use Rattle.std.proofs.Common.{◌≡◌, ◌++◌, take}
 use Rattle.segment_load.specs.Loads.{body_rows}
 use Rattle.segment_load.proofs.reader.RowReader.add_rows.Given as goal

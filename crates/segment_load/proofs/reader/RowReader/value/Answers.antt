@@ -1,3 +1,4 @@
+-- That `value` ensures what it says, may call `leaf` and `leaf_value` and stays within its numbers.
 use Rattle.std.proofs.Common.{◌≡◌, ◌∙◌, ℕ, true, false, Some, ap, sym, arith}
 use Rattle.std.proofs.lemmas.Option.{slice_get_within}
 use Rattle.olap_meaning.specs.Catalog.{leaf_value}

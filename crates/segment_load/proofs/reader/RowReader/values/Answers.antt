@@ -1,3 +1,4 @@
+-- That `values` ensures what it says and keeps what holds at each turn.
 use Rattle.std.proofs.Common.{◌∙◌, ◌<◌, ◌≤◌, length, ap, sym, arith}
 use Rattle.olap_meaning.specs.Worth.{row_value}
 use Rattle.segment_load.specs.Jobs.{ReaderOf, row_at}

@@ -1,3 +1,4 @@
+-- What holds at each turn of `values`.
 use Rattle.std.proofs.Common.{◌≡◌, ◌++◌, drop}
 use Rattle.std.specs.Prelude.{option_map}
 use Rattle.olap_meaning.specs.Worth.{row_value}

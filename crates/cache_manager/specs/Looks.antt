@@ -1,0 +1,16 @@
+-- What a look comes to.
+use Rattle.std.specs.Prelude.{⊤, List, Result, Ok}
+use Rattle.history_core.specs.declared.answers.Answer.{Answer}
+use Rattle.segment_load.specs.Loads.{JobOf}
+use Rattle.cache_manager.specs.declared.outcome.Look.{Look}
+use Rattle.cache_manager.specs.declared.outcome.Look.TheVariants.{Ready, Load}
+
+-- a look is answered, and so
+abbrev pub IfReady : {E : Type 0} → Result Look E → (Answer → Type 0) → Type 0
+IfReady (Ok (Ready answer)) holds = holds answer
+IfReady _ holds = ⊤
+
+-- a look needs loads, and so
+abbrev pub IfLoad : {E : Type 0} → Result Look E → (List JobOf → Type 0) → Type 0
+IfLoad (Ok (Load jobs)) holds = holds jobs
+IfLoad _ holds = ⊤

@@ -1,2 +1,0 @@
-pub mod JobFacts
-pub mod CallFacts

@@ -1,0 +1,4 @@
+pub mod SeenFacts
+pub mod FieldFacts
+pub mod RecordFacts
+pub mod ColumnFacts

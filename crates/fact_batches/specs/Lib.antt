@@ -1,2 +1,0 @@
-pub mod FactRows
-pub mod Columns

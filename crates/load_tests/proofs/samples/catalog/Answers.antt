@@ -1,5 +1,0 @@
-use Rattle.load_tests.proofs.SampleFacts.{sample_of}
-use Rattle.load_tests.proofs.samples.catalog.Goals as goal
-
-pub returns : goal.returns
-returns c = sample_of c.in_ok-catalog.catalog c.in_ok-schema.schema c.in_ok-tables.tables c.in_ok-catalog.ensures c.in_ok-schema.ensures c.in_ok-tables.ensures.records

@@ -1,0 +1,52 @@
+//! The objects in memory around a run.
+use crate::case::Stored;
+use olap_meaning::{List, OutOfMemory, Text};
+use outside::{Calls, MemoryDepot, MemorySink, MemorySource};
+use std::alloc::Global;
+
+// The plan by which the call of this number fails.
+fn calls(alloc: Global, failing: Option<u64>) -> Result<Calls, OutOfMemory> {
+    let mut numbers = List::new(alloc);
+    if let Some(number) = failing {
+        numbers.push(number)?;
+    }
+    Ok(Calls::failing(numbers))
+}
+
+fn copy(alloc: Global, bytes: &[u8]) -> Result<List<u8>, OutOfMemory> {
+    Ok(List::from_vec(Vec::from_slice(alloc, bytes)?))
+}
+
+/// A depot of these files.
+pub(crate) fn depot(
+    alloc: Global,
+    files: &Stored,
+    failing: Option<u64>,
+) -> Result<MemoryDepot, OutOfMemory> {
+    let mut held = List::new(alloc);
+    for (name, bytes) in files {
+        let name = Text::from_str(alloc, name.as_str())?;
+        held.push((name, copy(alloc, bytes.as_slice())?))?;
+    }
+    Ok(MemoryDepot::new(held, calls(alloc, failing)?))
+}
+
+/// A source of these bytes, of which one read gives at most so many, where a number is given.
+pub(crate) fn source(
+    alloc: Global,
+    bytes: &[u8],
+    most: Option<usize>,
+    failing: Option<u64>,
+) -> Result<MemorySource, OutOfMemory> {
+    let bytes = copy(alloc, bytes)?;
+    Ok(MemorySource::new(bytes, calls(alloc, failing)?, None, most))
+}
+
+/// A sink with room for so many bytes, where a number is given.
+pub(crate) fn sink(
+    alloc: Global,
+    room: Option<u64>,
+    failing: Option<u64>,
+) -> Result<MemorySink, OutOfMemory> {
+    Ok(MemorySink::new(alloc, calls(alloc, failing)?, room))
+}

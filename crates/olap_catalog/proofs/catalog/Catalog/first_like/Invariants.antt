@@ -1,8 +1,0 @@
-use Rattle.std.proofs.Common.{◌≡◌, None, take, filter_map}
-use Rattle.std.specs.List.{find}
-use Rattle.olap_meaning.specs.Catalog.{paths}
-use Rattle.olap_catalog.specs.Members.{next_of, is_like}
-use Rattle.olap_catalog.proofs.catalog.Catalog.first_like.Given as goal
-
-abbrev pub invariant-loop-leaf : goal.invariant-loop-leaf
-invariant-loop-leaf l = find (is_like l.self l.column l.name) (filter_map (next_of l.path) (take l.leaf (paths l.self l.hierarchy))) ≡ None

@@ -1,6 +1,0 @@
-use Rattle.std.proofs.Common.{string_bytes}
-use Rattle.olap_server.proofs.WordFacts.{AreRead}
-use Rattle.olap_server.proofs.command.read_pairs.Given as goal
-
-abbrev pub invariant-loop-i : goal.invariant-loop-i
-invariant-loop-i l = AreRead string_bytes l.words l.pairs l.i

@@ -1,5 +1,0 @@
-use Rattle.std.proofs.Common.{◌≤◌, length}
-use Rattle.segment_tests.proofs.bodies.body_of.Given as goal
-
-abbrev pub invariant-loop-year : goal.invariant-loop-year
-invariant-loop-year l = length l.body.rows ≤ l.year-index

@@ -1,0 +1,4 @@
+mod CallFacts
+mod JobFacts
+mod LevelFacts
+mod SampleFacts

@@ -1,0 +1,80 @@
+//! What the files of batches say.
+ghost use Rattle.std.specs.Prelude.{◌≡◌};
+
+use crate::files::{counting_schema, odd_stores, times};
+use crate::lines::{add_line, asked, bytes_of};
+use crate::open_catalog;
+use crate::opened::batch_of;
+use fact_rows::BatchFault;
+use fact_versions::{Batch, Piece, Steps};
+use olap_meaning::OutOfMemory;
+use std::alloc::Global;
+use std::marker::Brand;
+use std::sync::ledger::{Blank, Ledger};
+use std::test::Fail;
+
+/// The batch of a file of the cube with a distinct count, or its fault.
+fn batch(alloc: Global, file: &[u8]) -> Result<Result<Batch, BatchFault>, Fail> {
+    match open_catalog(alloc, counting_schema(), &[times(), odd_stores()]) {
+        Some(catalog) => batch_of(alloc, &catalog, file),
+        None => Err(Fail::from("no catalog")),
+    }
+}
+
+/// A row: its leaves in time and store, its units and its customer.
+pub type Line = (u32, u32, Option<i64>, Option<i64>);
+
+fn lines_of(alloc: Global, piece: &Piece<'_>) -> Result<Vec<Line>, OutOfMemory> {
+    let mut lines = Vec::new(alloc);
+    for i in 0..piece.len() {
+        if piece.dimensions() == 2 && piece.columns() == 2 {
+            lines.push((
+                piece.leaf(i, 0).0,
+                piece.leaf(i, 1).0,
+                piece.value(i, 0),
+                piece.value(i, 1),
+            ))?;
+        }
+    }
+    Ok(lines)
+}
+
+fn read_lines<L: Ledger>(
+    alloc: Global,
+    batch: &Batch,
+    blank: Blank,
+) -> Result<Vec<Line>, OutOfMemory>
+    requires name { blank.name ≡ L.name }
+    requires parts { blank.parts ≡ L.parts }
+    requires one { blank.parts ≡ 1 }
+{
+    let mut steps: Steps<L> = Steps::new(blank);
+    lines_of(alloc, &batch.read(&mut steps))
+}
+
+/// The rows of a file, read by a piece.
+pub fn rows_of(alloc: Global, file: &[u8]) -> Result<Vec<Line>, Fail> {
+    let Ok(batch) = batch(alloc, file)? else {
+        return Err(Fail::from("no batch"));
+    };
+    Ok(read_lines::<Brand>(alloc, &batch, Blank::new(1))?)
+}
+
+// What is said of a file: how many rows it has, or its fault.
+fn said_of(alloc: Global, file: &[u8]) -> Result<String, Fail> {
+    match batch(alloc, file)? {
+        Ok(batch) => Ok(format!(in alloc; "{} rows", batch.len())?),
+        Err(fault) => Ok(fault.to_string(alloc)?),
+    }
+}
+
+/// A table of files, each its bytes, and what is said of each.
+pub fn tell_batches(alloc: Global, table: &str) -> Result<String, Fail> {
+    let mut text = String::new(alloc);
+    for line in table.lines() {
+        let asked = asked(line);
+        let file = bytes_of(alloc, asked)?;
+        add_line(&mut text, asked, said_of(alloc, file.as_slice())?.as_str())?;
+    }
+    Ok(text)
+}

@@ -1,0 +1,113 @@
+//! The entries of a history, as the plain bodies have them.
+ghost use Rattle.std.specs.Prelude.{◌≡◌, ◌<◌, length};
+
+use fact_versions::{Batch, Piece, Steps};
+use history_core::{Entry, History};
+use olap_meaning::{CellSource, List, OutOfMemory, Row};
+use olap_plain::PlainEntry;
+use segment_header::{copy_cell, copy_header};
+use std::alloc::Global;
+use std::marker::Brand;
+use std::sync::ledger::{Blank, Ledger};
+use std::test::Fail;
+
+fn row_of(alloc: Global, piece: &Piece<'_>, i: u64) -> Result<Row, OutOfMemory>
+    requires { i < length piece.now.rows }
+{
+    let mut leaves = List::new(alloc);
+    for dimension in 0..piece.dimensions() {
+        leaves.push(piece.leaf(i, dimension))?;
+    }
+    let mut values = List::new(alloc);
+    for column in 0..piece.columns() {
+        values.push(piece.value(i, column))?;
+    }
+    Ok(Row { leaves, values })
+}
+
+fn rows_in(alloc: Global, piece: &Piece<'_>) -> Result<List<Row>, OutOfMemory> {
+    let mut rows = List::new(alloc);
+    for i in 0..piece.len() {
+        rows.push(row_of(alloc, piece, i)?)?;
+    }
+    Ok(rows)
+}
+
+fn rows_of<L: Ledger>(alloc: Global, batch: &Batch, blank: Blank) -> Result<List<Row>, OutOfMemory>
+    requires name { blank.name ≡ L.name }
+    requires parts { blank.parts ≡ L.parts }
+    requires one { blank.parts ≡ 1 }
+{
+    let mut steps: Steps<L> = Steps::new(blank);
+    rows_in(alloc, &batch.read(&mut steps))
+}
+
+fn copy_source(alloc: Global, source: &CellSource) -> Result<CellSource, OutOfMemory> {
+    let loads = Vec::from_slice(alloc, source.loads.as_slice())?;
+    Ok(CellSource {
+        cell: copy_cell(alloc, &source.cell)?,
+        loads: List::from_vec(loads),
+    })
+}
+
+fn copy_sources(alloc: Global, cells: &[CellSource]) -> Result<List<CellSource>, OutOfMemory> {
+    let mut copies = List::new(alloc);
+    for source in cells {
+        copies.push(copy_source(alloc, source)?)?;
+    }
+    Ok(copies)
+}
+
+fn plain_entry(alloc: Global, entry: &Entry) -> Result<PlainEntry, OutOfMemory> {
+    Ok(match entry {
+        Entry::Append {
+            who,
+            cube,
+            version,
+            batch,
+        } => PlainEntry::Append {
+            who: *who,
+            cube: *cube,
+            version: *version,
+            rows: rows_of::<Brand>(alloc, batch, Blank::new(1))?,
+        },
+        Entry::Start {
+            who,
+            header,
+            version,
+            reason,
+        } => PlainEntry::Start {
+            who: *who,
+            header: copy_header(alloc, header)?,
+            version: *version,
+            reason: copy_cell(alloc, reason)?,
+        },
+        Entry::Done { who, load } => PlainEntry::Done {
+            who: *who,
+            load: *load,
+        },
+        Entry::Drop { who, load } => PlainEntry::Drop {
+            who: *who,
+            load: *load,
+        },
+        Entry::Answer { who, cells } => PlainEntry::Answer {
+            who: *who,
+            cells: copy_sources(alloc, cells.as_slice())?,
+        },
+    })
+}
+
+/// Adds the entries of a history that are not there yet.
+pub(crate) fn add_new(
+    alloc: Global,
+    history: &History,
+    plain: &mut Vec<PlainEntry>,
+) -> Result<(), Fail> {
+    for before in plain.len() as u64..history.len() {
+        match history.entry(before + 1) {
+            Some(entry) => plain.push(plain_entry(alloc, entry)?)?,
+            None => return Err(Fail::from("no entry")),
+        }
+    }
+    Ok(())
+}

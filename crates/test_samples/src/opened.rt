@@ -1,0 +1,62 @@
+//! The catalog of the sample files, and their batches.
+ghost use Rattle.std.specs.Prelude.{◌<◌, IfOk, IsTrue, length};
+ghost use Rattle.fact_rows.specs.BatchFiles.{HasDimensions};
+ghost use Rattle.segment_load.specs.Loads.{is_batch};
+
+use crate::files::{schema, stores, times};
+use crate::open_catalog;
+use fact_rows::{BatchFault, read_batch};
+use fact_versions::Batch;
+use olap_catalog::Catalog;
+use olap_meaning::CubeId;
+use std::alloc::Global;
+use std::sync::Arc;
+use std::test::Fail;
+
+/// The catalog of the sample schema and tables.
+pub(crate) fn open(alloc: Global) -> Result<Arc<Catalog>, Fail> {
+    match open_catalog(alloc, schema(), &[times(), stores()]) {
+        Some(catalog) => Ok(Arc::new(alloc, catalog)?),
+        None => Err(Fail::from("no catalog")),
+    }
+}
+
+/// Whether there is a first cube, and each of its uses has its dimension.
+fn has_cube(catalog: &Catalog) -> bool
+    ensures known { IsTrue result → 0 < length catalog.now.cubes }
+    ensures paired { IsTrue result → HasDimensions catalog.now 0 }
+{
+    if catalog.cube_count() == 0 {
+        return false;
+    }
+    match catalog.schema().cubes.get(0) {
+        Some(parts) => parts.dimensions.len() == catalog.cube(CubeId(0)).dimensions.len(),
+        None => false,
+    }
+}
+
+/// The batch of a file of the first cube, or its fault.
+pub(crate) fn batch_of(
+    alloc: Global,
+    catalog: &Catalog,
+    file: &[u8],
+) -> Result<Result<Batch, BatchFault>, Fail>
+    ensures known { IfOk result (λ batch. 0 < length catalog.now.cubes) }
+    ensures fit { IfOk result (λ read. IfOk read (λ batch. IsTrue (is_batch catalog.now 0 batch))) }
+{
+    if !has_cube(catalog) {
+        return Err(Fail::from("no cube"));
+    }
+    Ok(read_batch(alloc, catalog, CubeId(0), file))
+}
+
+/// The batch of a file of the first cube.
+pub(crate) fn read(alloc: Global, catalog: &Catalog, file: &[u8]) -> Result<Batch, Fail>
+    ensures known { IfOk result (λ batch. 0 < length catalog.now.cubes) }
+    ensures fit { IfOk result (λ batch. IsTrue (is_batch catalog.now 0 batch)) }
+{
+    match batch_of(alloc, catalog, file)? {
+        Ok(batch) => Ok(batch),
+        Err(_) => Err(Fail::from("no batch")),
+    }
+}
