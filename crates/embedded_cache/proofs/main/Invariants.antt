@@ -2,4 +2,4 @@
 use Rattle.embedded_cache.proofs.main.Given as goal
 
 abbrev pub ghosts-run : goal.ghosts-run
-ghosts-run g a = record { name = a.blank.name; parts = a.blank.parts }
+ghosts-run a = record { name = a.blank.name; parts = a.blank.parts }
