@@ -1,7 +1,9 @@
-pub mod ReadingFacts
+pub mod LeadFacts
+pub mod LawFacts
 pub mod PartFacts
 pub mod SchemaFacts
 pub mod TableSteps
+pub mod CatalogSteps
 pub mod BaseFacts
 pub mod BatchSteps
 pub mod OpenSteps

@@ -1,3 +1,4 @@
+pub mod Asking
 pub mod Opening
-pub mod Causes
+pub mod Laws
 pub mod Steps

@@ -1,6 +1,5 @@
--- What the cache is that a schema's file opens, or the first refusal. (Schema Guide)
-use Rattle.std.specs.Prelude.{ℕ, suc, ◌+◌, ◌≡◌, List, [], ◌∷◌, length, Option, Some, None, Result, Ok, Err, nat_lt, IfSome, if◌then◌else◌}
-use Rattle.olap_meaning.specs.declared.TheConstants.{ROW_LIMIT}
+-- What the cache is that a schema's file opens, and which files it takes for that, or the first refusal. (Schema Guide)
+use Rattle.std.specs.Prelude.{ℕ, suc, ◌+◌, ◌≡◌, List, [], ◌∷◌, length, Option, Some, None, Result, Ok, Err, nat_lt, if◌then◌else◌}
 use Rattle.olap_meaning.specs.declared.schema.Schema.{Schema}
 use Rattle.olap_meaning.specs.declared.schema.SchemaCube.{SchemaCube}
 use Rattle.olap_meaning.specs.declared.schema.SchemaDimension.{SchemaDimension}
@@ -8,8 +7,8 @@ use Rattle.olap_meaning.specs.declared.tables.Catalog.{Catalog}
 use Rattle.olap_meaning.specs.declared.tables.Record.{Record}
 use Rattle.olap_meaning.specs.declared.tables.Row.{Row}
 use Rattle.olap_meaning.specs.History.{Entry, Append}
-use Rattle.olap_meaning.specs.Results.{◌>>=◌}
 use Rattle.olap_meaning.specs.Schema.{catalog_of}
+use Rattle.outside.specs.Fetched.{Fetched}
 use Rattle.outside.specs.Told.{Files, file_named}
 use Rattle.cube_schema.specs.Schemas.{schema_of}
 use Rattle.dim_tables.specs.TableFiles.{table_of}
@@ -17,91 +16,101 @@ use Rattle.fact_versions.specs.FactRows.{FactRows}
 use Rattle.fact_rows.specs.BatchFiles.{batch_of}
 use Rattle.history_core.specs.History.{setting_of}
 use Rattle.history_core.specs.Cache.{CacheOf}
-use Rattle.cache_opening.specs.declared.opened.TheConstants.{BUDGET}
+use Rattle.cache_opening.specs.Asking.{Asking, made, refused, ask, ◌>>=◌, Leads, bytes_of, read_by}
 
--- why files open no cache: no file has this name, or this file is refused
-pub data Refusal : Type 0 where
-  NoFile : List ℕ → Refusal
-  Unbuilt : List ℕ → Refusal
+-- the most rows that the cubes of a cache have together
+abbrev pub row_limit : ℕ
+row_limit = 8_000_000
 
--- a file that must be there
-abbrev pub there : List ℕ → Option (List ℕ) → Result (List ℕ) Refusal
-there name None = Err (NoFile name)
-there name (Some bytes) = Ok bytes
-
--- the bytes of the file of this name
-abbrev pub bytes_of : Files → List ℕ → Result (List ℕ) Refusal
-bytes_of files name = there name (file_named files name)
-
--- what a reader makes of a file: it is refused, whatever the fault
-abbrev pub read_by : {A Fault : Type 0} → List ℕ → Result A Fault → Result A Refusal
-read_by file (Ok x) = Ok x
-read_by file (Err fault) = Err (Unbuilt file)
+-- how many groups the kept loads of a cache may hold
+abbrev pub budget : ℕ
+budget = 1_000_000
 
 -- the schema of a file
-unfoldable pub schema_from : Files → List ℕ → Result Schema Refusal
-schema_from files file = do
-  bytes ← bytes_of files file
+unfoldable pub schema_from : List ℕ → Asking Schema
+schema_from file = do
+  bytes ← bytes_of file
   read_by file (schema_of bytes)
 
 -- the records of a dimension's table
-unfoldable pub table_from : Files → SchemaDimension → Result (List Record) Refusal
-table_from files dimension = do
-  bytes ← bytes_of files dimension.table
+unfoldable pub table_from : SchemaDimension → Asking (List Record)
+table_from dimension = do
+  bytes ← bytes_of dimension.table
   read_by dimension.table (table_of dimension bytes)
 
 -- the records of the tables of some dimensions, in order
-unfoldable pub tables_from : Files → List SchemaDimension → Result (List (List Record)) Refusal
-tables_from files [] = Ok []
-tables_from files (dimension ∷ dimensions) = do
-  table ← table_from files dimension
-  tables ← tables_from files dimensions
-  Ok (table ∷ tables)
+unfoldable pub tables_from : List SchemaDimension → Asking (List (List Record))
+tables_from [] = made []
+tables_from (dimension ∷ dimensions) = do
+  table ← table_from dimension
+  tables ← tables_from dimensions
+  made (table ∷ tables)
 
 -- the catalog of a schema's file, with the tables that the schema names
-unfoldable pub catalog_from : Files → List ℕ → Result Catalog Refusal
-catalog_from files file = do
-  schema ← schema_from files file
-  tables ← tables_from files schema.dimensions
-  Ok (catalog_of schema tables)
+unfoldable pub catalog_from : List ℕ → Asking Catalog
+catalog_from file = do
+  schema ← schema_from file
+  tables ← tables_from schema.dimensions
+  made (catalog_of schema tables)
 
 -- rows that must fit beside so many others: a file whose rows are too many is refused
-abbrev pub fitting : List ℕ → ℕ → List Row → Result (List Row) Refusal
+abbrev pub fitting : List ℕ → ℕ → List Row → Asking (List Row)
 fitting file held rows =
-    if nat_lt ROW_LIMIT (held + length rows) then Err (Unbuilt file) else Ok rows
+    if nat_lt row_limit (held + length rows) then refused file else made rows
 
 -- the base batch of the cube of this number
-unfoldable pub facts_from : Files → Catalog → ℕ → SchemaCube → Result FactRows Refusal
-facts_from files catalog cube c = do
-  bytes ← bytes_of files c.fact
+unfoldable pub facts_from : Catalog → ℕ → SchemaCube → Asking FactRows
+facts_from catalog cube c = do
+  bytes ← bytes_of c.fact
   read_by c.fact (batch_of catalog cube bytes)
 
 -- the rows of the base batch of the cube of this number, beside so many others
-unfoldable pub batch_from : Files → Catalog → ℕ → ℕ → SchemaCube → Result (List Row) Refusal
-batch_from files catalog cube held c = do
-  batch ← facts_from files catalog cube c
+unfoldable pub batch_from : Catalog → ℕ → ℕ → SchemaCube → Asking (List Row)
+batch_from catalog cube held c = do
+  batch ← facts_from catalog cube c
   fitting c.fact held batch.rows
 
 -- the rows of the base batches of some cubes, numbered from one on, beside so many others
-unfoldable pub batches_from : Files → Catalog → ℕ → ℕ → List SchemaCube
-    → Result (List (List Row)) Refusal
-batches_from files catalog cube held [] = Ok []
-batches_from files catalog cube held (c ∷ cs) = do
-  rows ← batch_from files catalog cube held c
-  batches ← batches_from files catalog (suc cube) (held + length rows) cs
-  Ok (rows ∷ batches)
+unfoldable pub batches_from : Catalog → ℕ → ℕ → List SchemaCube → Asking (List (List Row))
+batches_from catalog cube held [] = made []
+batches_from catalog cube held (c ∷ cs) = do
+  rows ← batch_from catalog cube held c
+  batches ← batches_from catalog (suc cube) (held + length rows) cs
+  made (rows ∷ batches)
 
 -- what a cache is opened with: its catalog, and the rows of the base batch of each cube
 pub record Opening : Type 0 where
   pub catalog : Catalog
   pub batches : List (List Row)
 
--- what a schema's file opens: first the schema is read, then the tables, then the base batches
-unfoldable pub opening_of : Files → List ℕ → Result Opening Refusal
-opening_of files file = do
-  catalog ← catalog_from files file
-  batches ← batches_from files catalog 0 0 catalog.schema.cubes
-  Ok (record { catalog = catalog; batches = batches })
+-- what a schema's file opens: first the schema is asked for, then the tables, then the base batches
+unfoldable pub opening_from : List ℕ → Asking Opening
+opening_from file = do
+  catalog ← catalog_from file
+  batches ← batches_from catalog 0 0 catalog.schema.cubes
+  made (record { catalog = catalog; batches = batches })
+
+-- why files open no cache: no file has this name, or this file is refused
+pub data Refusal : Type 0 where
+  NoFile : List ℕ → Refusal
+  Unbuilt : List ℕ → Refusal
+
+-- what is made of the file of this name, which must be there
+abbrev pub of_file : {A : Type 0} → List ℕ → (List ℕ → Result A Refusal) → Option (List ℕ)
+    → Result A Refusal
+of_file name rest None = Err (NoFile name)
+of_file name rest (Some bytes) = rest bytes
+
+-- what is made where all files are told: each file that is asked for is the one of its name, and must be there
+abbrev pub in_files : {A : Type 0} → Files → Asking A → Result A Refusal
+in_files files (made x) = Ok x
+in_files files (refused file) = Err (Unbuilt file)
+in_files files (ask name rest) =
+    of_file name (λ bytes. in_files files (rest bytes)) (file_named files name)
+
+-- what a schema's file opens where all files are told, or the first refusal
+abbrev pub opening_of : Files → List ℕ → Result Opening Refusal
+opening_of files file = in_files files (opening_from file)
 
 -- the entries of base batches, from the one of this cube on: each is an append by seat 0, numbered from 1, and makes
 -- its cube's version 1
@@ -110,10 +119,11 @@ base_entries cube [] = []
 base_entries cube (rows ∷ batches) =
     Append (record { seat = 0; call = suc cube }) cube 1 rows ∷ base_entries (suc cube) batches
 
--- a manager is opened from a schema's file: it has the catalog, and in its history just the base batches. Where the
--- files are told, these are what the file opens
-pub record IsOpened (files : Option Files) (file : List ℕ) (manager : CacheOf) : Type 0 where
+-- a manager is opened from a schema's file: between two states of a depot just those answers came that lead to the
+-- opening, the manager has its catalog, and in its history just its base batches
+pub record IsOpened (files : Option Files) (before after : List Fetched) (file : List ℕ)
+    (manager : CacheOf) : Type 0 where
   pub opening : Opening
-  pub read : IfSome files (λ all. opening_of all file ≡ Ok opening)
-  pub setting : manager.setting ≡ setting_of opening.catalog ROW_LIMIT BUDGET
+  pub read : Leads files before after (opening_from file) (Ok opening)
+  pub setting : manager.setting ≡ setting_of opening.catalog row_limit budget
   pub entries : manager.entries ≡ base_entries 0 opening.batches

@@ -1,6 +1,5 @@
 -- What the steps of an opening know of one another.
-use Rattle.std.specs.Prelude.{ℕ, ◌+◌, ◌<◌, ◌≡◌, ◌⊎◌, List, [], ◌∷◌, ◌++◌, length, Option, Some, Result, Err, IsTrue, slice_get}
-use Rattle.olap_meaning.specs.declared.TheConstants.{ROW_LIMIT}
+use Rattle.std.specs.Prelude.{ℕ, ◌+◌, ◌<◌, ◌≡◌, ◌⊎◌, List, [], ◌∷◌, ◌++◌, length, Option, Some, Ok, IsTrue, slice_get}
 use Rattle.olap_meaning.specs.declared.schema.Schema.{Schema}
 use Rattle.olap_meaning.specs.declared.schema.SchemaCube.{SchemaCube}
 use Rattle.olap_meaning.specs.declared.tables.Catalog.{Catalog}
@@ -10,23 +9,16 @@ use Rattle.olap_meaning.specs.Legal.{is_next_call}
 use Rattle.olap_meaning.specs.Schema.{IsWithinLimits, cube_over}
 use Rattle.fact_rows.specs.BatchFiles.{HasDimensions}
 use Rattle.history_core.specs.Cache.{CacheOf}
+use Rattle.outside.specs.Fetched.{Fetched}
 use Rattle.outside.specs.Told.{Files}
 use Rattle.cache_opening.specs.declared.fault.OpenFault.{OpenFault}
-use Rattle.cache_opening.specs.declared.fault.OpenFault.TheVariants.{NoFile, Unbuilt, Source, OutOfMemory}
-use Rattle.cache_opening.specs.Causes.{IsRead}
-use Rattle.cache_opening.specs.Opening as opening
-use Rattle.cache_opening.specs.Opening.{Refusal, base_entries, batches_from}
+use Rattle.cache_opening.specs.declared.fault.OpenFault.TheVariants.{Unbuilt, OutOfMemory}
+use Rattle.cache_opening.specs.Asking.{Asking, Leads}
+use Rattle.cache_opening.specs.Opening.{base_entries, batches_from, row_limit}
 
 -- a fault is that this file is refused, or want of memory
 abbrev pub IsUnbuilt : List ℕ → OpenFault → Type 0
 IsUnbuilt file fault = (fault ≡ Unbuilt file) ⊎ (fault ≡ OutOfMemory)
-
--- a fault of reading a file that is there: the file is refused, or memory is wanting
-abbrev pub IsFileFault : {A : Type 0} → Result A Refusal → OpenFault → Type 0
-IsFileFault reading (NoFile name) = ⊥
-IsFileFault reading (Unbuilt file) = reading ≡ Err (opening.Unbuilt file)
-IsFileFault reading Source = ⊥
-IsFileFault reading OutOfMemory = Unit {0}
 
 -- a schema is whole: it is within the limits, and each use of a cube names a dimension
 pub record IsWholeSchema (schema : Schema) : Type 0 where
@@ -39,30 +31,31 @@ pub record IsWhole (catalog : Catalog) : Type 0 where
   pub cubes : length catalog.cubes ≡ length catalog.schema.cubes
   pub paired : (cube : ℕ) → HasDimensions catalog cube
 
--- rows were read, and appended to a cube by seat 0, as the cube's version 1
-pub record IsAppended (files : Option Files) (reading : Files → Result (List Row) Refusal)
-    (cube : ℕ) (before after : List Entry) : Type 0 where
+-- rows were asked for, and appended to a cube by seat 0, as the cube's version 1
+pub record IsAppended (files : Option Files) (before after : List Fetched)
+    (asking : Asking (List Row)) (cube : ℕ) (entries more : List Entry) : Type 0 where
   pub rows : List Row
-  pub read : IsRead files reading rows
-  pub entry : after ≡ before ++ Append (record { seat = 0; call = cube + 1 }) cube 1 rows ∷ []
+  pub read : Leads files before after asking (Ok rows)
+  pub entry : more ≡ entries ++ Append (record { seat = 0; call = cube + 1 }) cube 1 rows ∷ []
 
 -- nothing has happened in a cache
 pub record IsBegun (cache : CacheOf) : Type 0 where
   pub whole : IsWhole cache.setting.catalog
-  pub limit : cache.setting.row_limit ≡ ROW_LIMIT
+  pub limit : cache.setting.row_limit ≡ row_limit
   pub entries : cache.entries ≡ []
 
 -- this cube is the next to have its base batch
 pub record IsNext (cache : CacheOf) (cube : ℕ) : Type 0 where
   pub whole : IsWhole cache.setting.catalog
-  pub limit : cache.setting.row_limit ≡ ROW_LIMIT
+  pub limit : cache.setting.row_limit ≡ row_limit
   pub known : cube < length cache.setting.catalog.cubes
   pub call : IsTrue (is_next_call cache.entries (record { seat = 0; call = cube + 1 }))
   pub fresh : version cache.entries cube ≡ 0
 
--- each cube has its base batch
-pub record AreOpened (files : Option Files) (cache : CacheOf) : Type 0 where
+-- each cube has its base batch, and just these were asked for
+pub record AreOpened (files : Option Files) (before after : List Fetched) (cache : CacheOf)
+    : Type 0 where
   pub batches : List (List Row)
-  pub read : IsRead files
-      (λ all. batches_from all cache.setting.catalog 0 0 cache.setting.catalog.schema.cubes) batches
+  pub read : Leads files before after
+      (batches_from cache.setting.catalog 0 0 cache.setting.catalog.schema.cubes) (Ok batches)
   pub entries : cache.entries ≡ base_entries 0 batches

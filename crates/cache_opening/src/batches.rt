@@ -1,11 +1,10 @@
 //! The base batch of a cube.
-ghost use Rattle.std.specs.Prelude.{◌≡◌, ◌≤◌, ◌<◌, IfErr, IfOk, IsSomeAnd, IsTrue, Ok, length, slice_get};
+ghost use Rattle.std.specs.Prelude.{◌≡◌, ◌<◌, [], Err, IfErr, IfOk, IsSomeAnd, IsTrue, Ok, length, slice_get};
 ghost use Rattle.fact_rows.specs.BatchFiles.{batch_of};
 ghost use Rattle.segment_load.specs.Loads.{is_batch};
-ghost use Rattle.outside.specs.Told.{shown_of};
-ghost use Rattle.cache_opening.specs.Causes.{HasCause, IsRead};
-ghost use Rattle.cache_opening.specs.Steps.{IsFileFault, IsWhole};
-ghost use Rattle.cache_opening.specs.Opening.{facts_from, read_by};
+ghost use Rattle.cache_opening.specs.Asking.{Comes, Leads, read_by};
+ghost use Rattle.cache_opening.specs.Opening.{facts_from};
+ghost use Rattle.cache_opening.specs.Steps.{IsWhole};
 
 use crate::fault::OpenFault;
 use crate::files::{fetch, unbuilt};
@@ -38,7 +37,7 @@ fn batch_in(
     ensures fit { IfOk result (λ batch. IsTrue (is_batch catalog.now cube batch)) }
     ensures fault { IfErr result (λ fault.
         IsSomeAnd (slice_get catalog.now.schema.cubes cube)
-        (λ c. IsFileFault (read_by c.fact (batch_of catalog.now cube bytes.now)) fault)) }
+        (λ c. Comes (read_by c.fact (batch_of catalog.now cube bytes.now)) [] (Err fault))) }
 {
     match read_batch(alloc, catalog, cube, bytes) {
         Ok(batch) => Ok(batch),
@@ -56,17 +55,11 @@ pub(crate) fn open_batch<D: Depot>(
 ) -> Result<Batch, OpenFault>
     requires known { cube < length catalog.now.cubes }
     requires whole { IsWhole catalog.now }
-    ensures ok { IfOk result (λ batch.
-        IsSomeAnd (slice_get catalog.now.schema.cubes cube)
-        (λ c. IsRead (D.files depot.old) (λ all. facts_from all catalog.now cube c) batch)) }
+    ensures read { IsSomeAnd (slice_get catalog.now.schema.cubes cube)
+        (λ c. Leads (D.files depot.old) (D.answers depot.old) (D.answers depot.new)
+        (facts_from catalog.now cube c) result) }
     ensures fit { IfOk result (λ batch. IsTrue (is_batch catalog.now cube batch)) }
-    ensures fault { IfErr result (λ fault.
-        IsSomeAnd (slice_get catalog.now.schema.cubes cube)
-        (λ c. HasCause (shown_of D.files D.misses D.faults depot.old depot.new)
-        (λ all. facts_from all catalog.now cube c) fault)) }
     ensures same_files { D.files depot.new ≡ D.files depot.old }
-    ensures fault_count { D.faults depot.old ≤ D.faults depot.new }
-    ensures miss_count { D.misses depot.old ≤ D.misses depot.new }
 {
     let bytes = fetch(alloc, depot, fact_file(catalog, cube))?;
     batch_in(alloc, catalog, cube, bytes.as_slice())

@@ -1,13 +1,12 @@
 //! The catalog of a schema's file.
-ghost use Rattle.std.specs.Prelude.{◌≡◌, ◌≤◌, ◌<◌, IfErr, IfOk, IsSomeAnd, Ok, length, map, slice_get};
+ghost use Rattle.std.specs.Prelude.{◌≡◌, ◌<◌, [], Err, IfErr, IfOk, IsSomeAnd, Ok, length, map, slice_get};
 ghost use Rattle.olap_meaning.specs.Schema.{IsWithinLimits, levels_of};
 ghost use Rattle.cube_schema.specs.Schemas.{schema_of};
 ghost use Rattle.dim_tables.specs.TableFiles.{table_of};
 ghost use Rattle.olap_catalog.specs.Parts.{records_in};
-ghost use Rattle.outside.specs.Told.{shown_of};
-ghost use Rattle.cache_opening.specs.Causes.{HasCause, IsRead};
-ghost use Rattle.cache_opening.specs.Steps.{IsFileFault, IsWhole, IsWholeSchema};
-ghost use Rattle.cache_opening.specs.Opening.{catalog_from, read_by, schema_from, table_from, tables_from};
+ghost use Rattle.cache_opening.specs.Asking.{Comes, Leads, read_by};
+ghost use Rattle.cache_opening.specs.Opening.{catalog_from, schema_from, table_from, tables_from};
+ghost use Rattle.cache_opening.specs.Steps.{IsWhole, IsWholeSchema};
 
 use crate::fault::OpenFault;
 use crate::files::{fetch, unbuilt};
@@ -25,7 +24,7 @@ fn schema_in(alloc: Global, file: &str, bytes: &[u8]) -> Result<Schema, OpenFaul
     ensures ok { IfOk result (λ schema. schema_of bytes.now ≡ Ok schema) }
     ensures limits { IfOk result (λ schema. IsWithinLimits schema) }
     ensures fault { IfErr result (λ fault.
-        IsFileFault (read_by file.now (schema_of bytes.now)) fault) }
+        Comes (read_by file.now (schema_of bytes.now)) [] (Err fault)) }
 {
     match read_schema(alloc, bytes) {
         Ok(schema) => Ok(schema),
@@ -36,15 +35,10 @@ fn schema_in(alloc: Global, file: &str, bytes: &[u8]) -> Result<Schema, OpenFaul
 
 // The schema of a file.
 fn open_schema<D: Depot>(alloc: Global, depot: &mut D, file: &str) -> Result<Schema, OpenFault>
-    ensures ok { IfOk result (λ schema.
-        IsRead (D.files depot.old) (λ all. schema_from all file.now) schema) }
+    ensures read { Leads (D.files depot.old) (D.answers depot.old) (D.answers depot.new)
+        (schema_from file.now) result }
     ensures whole { IfOk result (λ schema. IsWholeSchema schema) }
-    ensures fault { IfErr result (λ fault.
-        HasCause (shown_of D.files D.misses D.faults depot.old depot.new)
-        (λ all. schema_from all file.now) fault) }
     ensures same_files { D.files depot.new ≡ D.files depot.old }
-    ensures fault_count { D.faults depot.old ≤ D.faults depot.new }
-    ensures miss_count { D.misses depot.old ≤ D.misses depot.new }
 {
     let bytes = fetch(alloc, depot, file)?;
     schema_in(alloc, file, bytes.as_slice())
@@ -67,7 +61,7 @@ fn table_in(
         (λ d. table.levels ≡ length (levels_of d))) }
     ensures fault { IfErr result (λ fault.
         IsSomeAnd (slice_get schema.now.dimensions dimension)
-        (λ d. IsFileFault (read_by d.table (table_of d bytes.now)) fault)) }
+        (λ d. Comes (read_by d.table (table_of d bytes.now)) [] (Err fault))) }
 {
     match read_table(alloc, schema, dimension, bytes) {
         Ok(table) => Ok(table),
@@ -96,17 +90,16 @@ fn open_table<D: Depot>(
     requires limits { IsWithinLimits schema.now }
     ensures ok { IfOk result (λ table.
         IsSomeAnd (slice_get schema.now.dimensions dimension)
-        (λ d. IsRead (D.files depot.old) (λ all. table_from all d) table.records)) }
+        (λ d. Leads (D.files depot.old) (D.answers depot.old) (D.answers depot.new)
+        (table_from d) (Ok table.records))) }
     ensures levels { IfOk result (λ table.
         IsSomeAnd (slice_get schema.now.dimensions dimension)
         (λ d. table.levels ≡ length (levels_of d))) }
     ensures fault { IfErr result (λ fault.
         IsSomeAnd (slice_get schema.now.dimensions dimension)
-        (λ d. HasCause (shown_of D.files D.misses D.faults depot.old depot.new)
-        (λ all. table_from all d) fault)) }
+        (λ d. Leads (D.files depot.old) (D.answers depot.old) (D.answers depot.new)
+        (table_from d) (Err fault))) }
     ensures same_files { D.files depot.new ≡ D.files depot.old }
-    ensures fault_count { D.faults depot.old ≤ D.faults depot.new }
-    ensures miss_count { D.misses depot.old ≤ D.misses depot.new }
 {
     let bytes = fetch(alloc, depot, table_file(schema, dimension))?;
     table_in(alloc, schema, dimension, bytes.as_slice())
@@ -120,16 +113,14 @@ fn open_tables<D: Depot>(
 ) -> Result<List<Table>, OpenFault>
     requires limits { IsWithinLimits schema.now }
     ensures ok { IfOk result (λ tables.
-        IsRead (D.files depot.old) (λ all. tables_from all schema.now.dimensions)
-        (records_in tables)) }
+        Leads (D.files depot.old) (D.answers depot.old) (D.answers depot.new)
+        (tables_from schema.now.dimensions) (Ok (records_in tables))) }
     ensures levels { IfOk result (λ tables.
         map (λ t. t.levels) tables ≡ map (λ d. length (levels_of d)) schema.now.dimensions) }
     ensures fault { IfErr result (λ fault.
-        HasCause (shown_of D.files D.misses D.faults depot.old depot.new)
-        (λ all. tables_from all schema.now.dimensions) fault) }
+        Leads (D.files depot.old) (D.answers depot.old) (D.answers depot.new)
+        (tables_from schema.now.dimensions) (Err fault)) }
     ensures same_files { D.files depot.new ≡ D.files depot.old }
-    ensures fault_count { D.faults depot.old ≤ D.faults depot.new }
-    ensures miss_count { D.misses depot.old ≤ D.misses depot.new }
 {
     let mut tables = List::new(alloc);
     for dimension in 0..schema.dimensions.len() {
@@ -145,15 +136,10 @@ pub(crate) fn open_catalog<D: Depot>(
     depot: &mut D,
     file: &str,
 ) -> Result<Catalog, OpenFault>
-    ensures ok { IfOk result (λ catalog.
-        IsRead (D.files depot.old) (λ all. catalog_from all file.now) catalog) }
+    ensures read { Leads (D.files depot.old) (D.answers depot.old) (D.answers depot.new)
+        (catalog_from file.now) result }
     ensures whole { IfOk result (λ catalog. IsWhole catalog) }
-    ensures fault { IfErr result (λ fault.
-        HasCause (shown_of D.files D.misses D.faults depot.old depot.new)
-        (λ all. catalog_from all file.now) fault) }
     ensures same_files { D.files depot.new ≡ D.files depot.old }
-    ensures fault_count { D.faults depot.old ≤ D.faults depot.new }
-    ensures miss_count { D.misses depot.old ≤ D.misses depot.new }
 {
     let schema = open_schema(alloc, depot, file)?;
     let tables = open_tables(alloc, depot, &schema)?;

@@ -1,11 +1,10 @@
 //! The base batches of all cubes, appended to a manager.
-ghost use Rattle.std.specs.Prelude.{◌≡◌, ◌≢◌, ◌⊎◌, ◌≤◌, ◌<◌, ◌+◌, ◌++◌, ◌∷◌, [], IfErr, IfOk, IsSomeAnd, IsTrue, Ok, OnOk, length, slice_get};
+ghost use Rattle.std.specs.Prelude.{◌≡◌, ◌≢◌, ◌⊎◌, ◌+◌, ◌++◌, ◌∷◌, [], Err, IfErr, IsSomeAnd, IsTrue, OnOk, slice_get};
 ghost use Rattle.olap_meaning.specs.History.{Append};
 ghost use Rattle.olap_meaning.specs.Legal.{rows_held};
 ghost use Rattle.segment_load.specs.Loads.{is_batch};
-ghost use Rattle.outside.specs.Told.{shown_of};
-ghost use Rattle.cache_opening.specs.Causes.{HasCause};
-ghost use Rattle.cache_opening.specs.Steps.{AreOpened, IsAppended, IsBegun, IsFileFault, IsNext};
+ghost use Rattle.cache_opening.specs.Asking.{Comes, Leads, made};
+ghost use Rattle.cache_opening.specs.Steps.{AreOpened, IsAppended, IsBegun, IsNext};
 ghost use Rattle.cache_opening.specs.Opening.{batch_from, batches_from, fitting};
 
 use crate::batches::{fact_file, open_batch};
@@ -32,10 +31,10 @@ fn append_base(
         (record { seat = 0; call = cube + 1 }) cube 1 batch.rows ∷ []) }
     ensures ok { OnOk result
         (IsSomeAnd (slice_get manager.old.setting.catalog.schema.cubes cube)
-        (λ c. fitting c.fact (rows_held manager.old.entries) batch.rows ≡ Ok batch.rows)) }
+        (λ c. fitting c.fact (rows_held manager.old.entries) batch.rows ≡ made batch.rows)) }
     ensures fault { IfErr result (λ fault.
         IsSomeAnd (slice_get manager.old.setting.catalog.schema.cubes cube)
-        (λ c. IsFileFault (fitting c.fact (rows_held manager.old.entries) batch.rows) fault)) }
+        (λ c. Comes (fitting c.fact (rows_held manager.old.entries) batch.rows) [] (Err fault))) }
 {
     let who = Who {
         seat: 0,
@@ -72,17 +71,15 @@ fn open_cube<D: Depot>(
     ensures setting { manager.new.setting ≡ manager.old.setting }
     ensures ok { OnOk result
         (IsSomeAnd (slice_get manager.old.setting.catalog.schema.cubes cube)
-        (λ c. IsAppended (D.files depot.old)
-        (λ all. batch_from all manager.old.setting.catalog cube (rows_held manager.old.entries) c)
+        (λ c. IsAppended (D.files depot.old) (D.answers depot.old) (D.answers depot.new)
+        (batch_from manager.old.setting.catalog cube (rows_held manager.old.entries) c)
         cube manager.old.entries manager.new.entries)) }
     ensures fault { IfErr result (λ fault.
         IsSomeAnd (slice_get manager.old.setting.catalog.schema.cubes cube)
-        (λ c. HasCause (shown_of D.files D.misses D.faults depot.old depot.new)
-        (λ all. batch_from all manager.old.setting.catalog cube (rows_held manager.old.entries) c)
-        fault)) }
+        (λ c. Leads (D.files depot.old) (D.answers depot.old) (D.answers depot.new)
+        (batch_from manager.old.setting.catalog cube (rows_held manager.old.entries) c)
+        (Err fault))) }
     ensures same_files { D.files depot.new ≡ D.files depot.old }
-    ensures fault_count { D.faults depot.old ≤ D.faults depot.new }
-    ensures miss_count { D.misses depot.old ≤ D.misses depot.new }
 {
     let batch = open_batch(alloc, depot, manager.catalog(), CubeId(cube))?;
     append_base(alloc, manager, cube, batch)
@@ -96,14 +93,13 @@ pub(crate) fn open_cubes<D: Depot>(
 ) -> Result<(), OpenFault>
     requires { IsBegun manager.old }
     ensures setting { manager.new.setting ≡ manager.old.setting }
-    ensures ok { OnOk result (AreOpened (D.files depot.old) manager.new) }
+    ensures ok { OnOk result
+        (AreOpened (D.files depot.old) (D.answers depot.old) (D.answers depot.new) manager.new) }
     ensures fault { IfErr result (λ fault.
-        HasCause (shown_of D.files D.misses D.faults depot.old depot.new)
-        (λ all. batches_from all manager.old.setting.catalog 0 0
-        manager.old.setting.catalog.schema.cubes) fault) }
+        Leads (D.files depot.old) (D.answers depot.old) (D.answers depot.new)
+        (batches_from manager.old.setting.catalog 0 0 manager.old.setting.catalog.schema.cubes)
+        (Err fault)) }
     ensures same_files { D.files depot.new ≡ D.files depot.old }
-    ensures fault_count { D.faults depot.old ≤ D.faults depot.new }
-    ensures miss_count { D.misses depot.old ≤ D.misses depot.new }
 {
     let count = manager.catalog().cube_count();
     for cube in 0..count {

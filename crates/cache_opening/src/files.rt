@@ -1,9 +1,7 @@
 //! Files of a depot, and what is made of them.
-ghost use Rattle.std.specs.Prelude.{◌≡◌, ◌≤◌, IfErr, IfOk};
-ghost use Rattle.outside.specs.Told.{shown_of};
-ghost use Rattle.cache_opening.specs.Causes.{HasCause, IsRead};
+ghost use Rattle.std.specs.Prelude.{◌≡◌};
+ghost use Rattle.cache_opening.specs.Asking.{Leads, bytes_of};
 ghost use Rattle.cache_opening.specs.Steps.{IsUnbuilt};
-ghost use Rattle.cache_opening.specs.Opening.{bytes_of};
 
 use crate::fault::OpenFault;
 use olap_meaning::{List, OutOfMemory, Text};
@@ -16,14 +14,9 @@ pub(crate) fn fetch<D: Depot>(
     depot: &mut D,
     name: &str,
 ) -> Result<List<u8>, OpenFault>
-    ensures ok { IfOk result (λ bytes.
-        IsRead (D.files depot.old) (λ all. bytes_of all name.now) bytes) }
-    ensures fault { IfErr result (λ fault.
-        HasCause (shown_of D.files D.misses D.faults depot.old depot.new)
-        (λ all. bytes_of all name.now) fault) }
+    ensures read { Leads (D.files depot.old) (D.answers depot.old) (D.answers depot.new)
+        (bytes_of name.now) result }
     ensures same_files { D.files depot.new ≡ D.files depot.old }
-    ensures fault_count { D.faults depot.old ≤ D.faults depot.new }
-    ensures miss_count { D.misses depot.old ≤ D.misses depot.new }
 {
     match depot.fetch(alloc, name) {
         Ok(bytes) => Ok(bytes),

@@ -8,6 +8,7 @@ mod catalogs;
 mod cubes;
 mod fault;
 mod files;
+pub mod laws;
 mod opened;
 
 pub use fault::OpenFault;

@@ -1,11 +1,10 @@
 //! Opening a cache.
-ghost use Rattle.std.specs.Prelude.{◌≡◌, ◌≤◌, ◌<◌, [], IfErr, IfOk, IsTrue, ℕ};
+ghost use Rattle.std.specs.Prelude.{◌≡◌, [], Err, IfErr, IfOk, IsTrue, ℕ};
 ghost use Rattle.olap_meaning.specs.Legal.{is_next_call};
 ghost use Rattle.history_core.specs.History.{setting_of};
 ghost use Rattle.cache_manager.specs.Jobs.{NoneFlies};
-ghost use Rattle.outside.specs.Told.{shown_of};
-ghost use Rattle.cache_opening.specs.Causes.{HasCause};
-ghost use Rattle.cache_opening.specs.Opening.{IsOpened, opening_of};
+ghost use Rattle.cache_opening.specs.Asking.{Leads};
+ghost use Rattle.cache_opening.specs.Opening.{IsOpened, budget, opening_from, row_limit};
 
 use crate::catalogs::open_catalog;
 use crate::cubes::open_cubes;
@@ -21,18 +20,18 @@ use std::sync::Arc;
 pub const BUDGET: u64 = 1_000_000;
 
 /// Opens a cache from a schema's file: it reads the schema, the tables of its dimensions and the base batches of its
-/// cubes, each in the schema's order, and appends each base batch to its cube. The first refusal ends it.
+/// cubes, each in the schema's order, and appends each base batch to its cube. There is one fetch for the schema, for each
+/// dimension and for each cube, and no other. The first refusal ends it.
 pub fn open_cache<D: Depot>(alloc: Global, depot: &mut D, file: &str) -> Result<Manager, OpenFault>
-    ensures opened { IfOk result (λ manager. IsOpened (D.files depot.old) file.now manager) }
+    ensures opened { IfOk result (λ manager.
+        IsOpened (D.files depot.old) (D.answers depot.old) (D.answers depot.new) file.now manager) }
     ensures idle { IfOk result (λ manager. NoneFlies manager.entries) }
     ensures by_seat_zero { IfOk result (λ manager.
         (call : ℕ) → IsTrue (is_next_call manager.entries (record { seat = 1; call = call }))) }
     ensures fault { IfErr result (λ fault.
-        HasCause (shown_of D.files D.misses D.faults depot.old depot.new)
-        (λ all. opening_of all file.now) fault) }
+        Leads (D.files depot.old) (D.answers depot.old) (D.answers depot.new)
+        (opening_from file.now) (Err fault)) }
     ensures same_files { D.files depot.new ≡ D.files depot.old }
-    ensures fault_count { D.faults depot.old ≤ D.faults depot.new }
-    ensures miss_count { D.misses depot.old ≤ D.misses depot.new }
 {
     let catalog = open_catalog(alloc, depot, file)?;
     let mut manager = new_manager(alloc, catalog)?;
@@ -43,7 +42,7 @@ pub fn open_cache<D: Depot>(alloc: Global, depot: &mut D, file: &str) -> Result<
 // The manager of a cache in which nothing has happened.
 fn new_manager(alloc: Global, catalog: Catalog) -> Result<Manager, OutOfMemory>
     ensures { IfOk result (λ manager.
-        manager ≡ record { setting = setting_of catalog ROW_LIMIT BUDGET; entries = [] }) }
+        manager ≡ record { setting = setting_of catalog row_limit budget; entries = [] }) }
 {
     let catalog = Arc::new(alloc, catalog)?;
     Manager::new(alloc, catalog, ROW_LIMIT, BUDGET)

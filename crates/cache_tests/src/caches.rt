@@ -1,6 +1,6 @@
 //! What a manager comes to, step by step.
 use std::test::Fail;
-use test_samples::steps::{entries_handed_back, tell_steps};
+use test_plays::steps::{entries_handed_back, tell_steps};
 
 const ONE: &str = "append 1/1 sales => version 1 at 1
 look 1/2 0:0=0 => load 2 of measure 0 by 0=0, 4 rows;

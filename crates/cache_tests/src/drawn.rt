@@ -1,6 +1,6 @@
 //! Calls that are drawn from a seed, compared with the slow bodies of the definitions.
 use std::test::Fail;
-use test_samples::random::play_drawn;
+use test_plays::random::play_drawn;
 
 #[test]
 fn a_manager_does_as_the_slow_bodies_say(rt: HostRuntime) -> Result<(), Fail> {

@@ -1,6 +1,6 @@
 //! A list of calls on a manager of its own.
 use std::test::Fail;
-use test_samples::runs::tell_calls;
+use test_plays::runs::tell_calls;
 
 const CALLS: &str = "append 1 sales => version 1 at 1
 look 2 0:0=0 => loading

@@ -3,7 +3,7 @@ use history_core::Entry;
 use olap_meaning::CubeId;
 use std::alloc::{AllocError, Global};
 use std::test::Fail;
-use test_samples::small::{empty_history, small_history};
+use test_plays::small::{empty_history, small_history};
 
 // An entry in words: its kind, its call, and its numbers.
 fn told(alloc: Global, entry: Option<&Entry>) -> Result<String, AllocError> {

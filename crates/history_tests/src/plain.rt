@@ -7,7 +7,7 @@ use olap_plain::catalogs::{
 use std::alloc::Global;
 use std::process::Abort;
 use std::test::Fail;
-use test_samples::plain::{cell, row, small_setting, tell_cells, tell_steps};
+use test_plays::plain::{cell, row, small_setting, tell_cells, tell_steps};
 
 /// The steps of a small history, and among them steps that are not legal where they stand.
 const STEPS: &str =

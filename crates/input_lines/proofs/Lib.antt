@@ -3,3 +3,4 @@ pub mod Fronts
 pub mod Tells
 pub mod Taking
 pub mod Words
+pub mod Hearing

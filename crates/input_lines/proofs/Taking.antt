@@ -1,12 +1,13 @@
 -- How bytes come from a source behind those that are held.
-use Rattle.std.proofs.Common.{◌≡◌, ℕ, ◌+◌, ◌≤◌, List, ◌++◌, length, take, drop, refl, arith, ap, sym, subst, ◌∙◌, append_assoc}
+use Rattle.std.proofs.Common.{◌≡◌, ℕ, ◌+◌, ◌≤◌, List, [], ◌++◌, append-nil, length, take, drop, refl, arith, ap, sym, subst, ◌∙◌, append_assoc}
 use Rattle.std.specs.Prelude.{Result, Ok, Err, OnErr, Option, Some, None, slice_range}
 use Rattle.std.proofs.lemmas.List.{take_at, length-take, drop-append-le, drop-drop}
 use Rattle.std.proofs.Math.Seq.{take-add}
 use Rattle.std.proofs.lemmas.Slice.{between_is}
+use Rattle.outside.specs.Event.{Event}
 use Rattle.outside.specs.Told.{TakenOff}
 use Rattle.olap_meaning.specs.Lines.{Begins}
-use Rattle.input_lines.specs.Reader.{HasTaken, TellsFront, not_given, front_told}
+use Rattle.input_lines.specs.Reader.{HasReceived, HasTaken, TellsFront, not_given, front_told, received}
 use Rattle.input_lines.specs.declared.next.Next.{Next}
 
 -- some bytes, and then others
@@ -20,6 +21,14 @@ HasTaken-more a b c xs ys zs f g = record {
   taken = TakenOff-more a b c f.bytes g.bytes f.taken g.taken;
   behind = let e = append_assoc xs f.bytes g.bytes in cc;
 }
+
+TakenOff-none : (left : Option (List ℕ)) → TakenOff left left []
+TakenOff-none None = refl
+TakenOff-none (Some bytes) = refl
+
+-- nothing was taken
+pub HasTaken-none : (left : Option (List ℕ)) (held : List ℕ) → HasTaken left left held held
+HasTaken-none left held = record { bytes = []; taken = TakenOff-none left; behind = sym (append-nil held) }
 
 -- a part of a list that agrees up to the part's end
 pub slice_range-same : (xs ys : List ℕ) (i j : ℕ) → take j xs ≡ take j ys → slice_range xs i j ≡ slice_range ys i j
@@ -62,6 +71,14 @@ written_back n new old size = take_at new (drop (length new) old) n size
 pub HasTaken-written : (before after : Option (List ℕ)) (xs ys : List ℕ) (i j n len : ℕ) → length ys ≡ len → i ≤ j → j + n ≤ length ys → take j ys ≡ take j xs → TakenOff before after (take n (drop j ys)) → HasTaken before after (slice_range xs i j) (slice_range (take len (ys ++ drop (length ys) xs)) i (j + n))
 HasTaken-written before after xs ys i j n len size order within same taken =
     rw (written_back len ys xs size) (HasTaken-read before after xs ys i j n order within same taken)
+
+-- the same of what has passed
+pub HasReceived-written : (before after : List Event) (xs ys : List ℕ) (i j n len : ℕ) → length ys ≡ len → i ≤ j → j + n ≤ length ys → take j ys ≡ take j xs → after ≡ before ++ received (take n (drop j ys)) → HasReceived before after (slice_range xs i j) (slice_range (take len (ys ++ drop (length ys) xs)) i (j + n))
+HasReceived-written before after xs ys i j n len size order within same passed = rw (written_back len ys xs size) (record {
+  bytes = take n (drop j ys);
+  behind = slice_range-more ys i j n order within ∙ ap (λ (zs : List ℕ). zs ++ take n (drop j ys)) (slice_range-same ys xs i j same);
+  passed = passed;
+})
 
 -- what stood before the read stays
 pub slice_range-written : (xs ys : List ℕ) (i j len : ℕ) → length ys ≡ len → take j ys ≡ take j xs → slice_range (take len (ys ++ drop (length ys) xs)) i j ≡ slice_range xs i j

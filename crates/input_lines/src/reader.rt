@@ -1,13 +1,14 @@
 //! A reader of lines.
-ghost use Rattle.std.specs.Prelude.{◌≡◌, ◌≢◌, ◌+◌, ◌<◌, ◌≤◌, ◌++◌, ℕ, List, [], IfOk, OnOk, OnErr, IfSome, Err, Ok, length, take, drop, slice_range};
+ghost use Rattle.std.specs.Prelude.{◌≡◌, ◌≢◌, ◌+◌, ◌==◌, ◌<◌, ◌≤◌, ◌++◌, ◌∷◌, false, true, ℕ, List, [], IfOk, OnOk, OnErr, IfSome, Err, Ok, length, take, drop, slice_range};
+ghost use Rattle.outside.specs.Event.{Event, ended, gave, gave_not};
 ghost use Rattle.outside.specs.Told.{TakenOff};
 ghost use Rattle.olap_meaning.specs.Lines.{Begins, HasNoLf};
-ghost use Rattle.input_lines.specs.Reader.{not_given, front_told, line_length, without_cr, HasTaken, NeedsNoMore, Shows, IsFound, TellsFront};
+ghost use Rattle.input_lines.specs.Reader.{not_given, front_told, line_length, received, without_cr, HasHeard, HasReceived, HasTaken, IsAtEnd, NeedsNoMore, IsFound, Tells, TellsFront, heard_of};
 
 use crate::next::{Found, Next};
 use memchr::memchr;
 use olap_meaning::OutOfMemory;
-use outside::{Failed, Source};
+use outside::{Failed, Link};
 use std::alloc::Global;
 use std::marker::Model;
 
@@ -17,7 +18,7 @@ pub const LINE_LIMIT: usize = 65_536;
 /// The most bytes that a reader holds.
 pub const BUFFER_SIZE: usize = 131_072;
 
-/// Reads an input line by line. It holds the bytes that it has taken from its source and not yet given, and the line
+/// Reads an input line by line. It holds the bytes that it has received from its link and not yet given, and the line
 /// that it gave last.
 #[derive(Drop)]
 pub struct LineReader {
@@ -28,6 +29,7 @@ pub struct LineReader {
     // Where the held bytes begin and end.
     start: usize,
     end: usize,
+    ended: bool,
 }
 
 impl Model for LineReader {
@@ -37,7 +39,7 @@ impl Model for LineReader {
 
     ghost Value = { Reading };
 
-    ghost view = { λ r. record { line = slice_range r.bytes.items r.line_start r.line_end; held = slice_range r.bytes.items r.start r.end } };
+    ghost view = { λ r. record { line = slice_range r.bytes.items r.line_start r.line_end; held = slice_range r.bytes.items r.start r.end; ended = r.ended } };
 
     ghost invariant = { λ r. (r.line_start ≤ r.line_end) × (r.line_end ≤ r.bytes.len) × (r.start ≤ r.end) × (r.end ≤ r.bytes.len) × (r.bytes.len ≡ BUFFER_SIZE) };
 }
@@ -68,24 +70,25 @@ fn make_room(bytes: &mut Vec<u8>, start: usize, end: usize) -> (usize, usize)
 }
 
 // Reads bytes to a place on.
-fn read_to<S: Source>(source: &mut S, bytes: &mut [u8], place: usize) -> Result<usize, Failed>
+fn read_to<K: Link>(link: &mut K, bytes: &mut [u8], place: usize) -> Result<usize, Failed>
     requires { place < length bytes.old }
     ensures size { length bytes.new ≡ length bytes.old }
     ensures before { take place bytes.new ≡ take place bytes.old }
     ensures within { IfOk result (λ n. place + n ≤ length bytes.old) }
     ensures taken { IfOk result
-        (λ n. TakenOff (S.left source.old) (S.left source.new) (take n (drop place bytes.new))) }
-    ensures end { IfOk result (λ n. n ≡ 0 → IfSome (S.left source.new) (λ left. left ≡ [])) }
-    ensures untaken { OnErr result (S.left source.new ≡ S.left source.old) }
-    ensures count { S.faults source.old ≤ S.faults source.new }
-    ensures cause { OnErr result (S.faults source.old < S.faults source.new) }
+        (λ n. TakenOff (K.left link.old) (K.left link.new) (take n (drop place bytes.new))) }
+    ensures end { IfOk result (λ n. n ≡ 0 → IfSome (K.left link.new) (λ left. left ≡ [])) }
+    ensures untaken { OnErr result (K.left link.new ≡ K.left link.old) }
+    ensures gave { IfOk result (λ n. K.talk link.new
+        ≡ K.talk link.old ++ received (take n (drop place bytes.new))) }
+    ensures failed { OnErr result (K.talk link.new ≡ K.talk link.old ++ gave_not ∷ []) }
 {
-    source.read(&mut bytes[place..])
+    link.receive(&mut bytes[place..])
 }
 
 // Reads bytes behind those between two places, and gives where they end then: where they did only at the input's end.
-fn read_behind<S: Source>(
-    source: &mut S,
+fn read_behind<K: Link>(
+    link: &mut K,
     bytes: &mut Vec<u8>,
     start: usize,
     end: usize,
@@ -96,17 +99,18 @@ fn read_behind<S: Source>(
     ensures order { IfOk result (λ new_end. end ≤ new_end) }
     ensures within { IfOk result (λ new_end. new_end ≤ bytes.old.len) }
     ensures taken { IfOk result
-        (λ new_end. HasTaken (S.left source.old) (S.left source.new)
+        (λ new_end. HasTaken (K.left link.old) (K.left link.new)
         (slice_range bytes.old.items start end) (slice_range bytes.new.items start new_end)) }
-    ensures untaken { OnErr result (S.left source.new ≡ S.left source.old) }
+    ensures untaken { OnErr result (K.left link.new ≡ K.left link.old) }
     ensures kept { OnErr result
         (slice_range bytes.new.items start end ≡ slice_range bytes.old.items start end) }
     ensures end { IfOk result
-        (λ new_end. new_end ≡ end → IfSome (S.left source.new) (λ left. left ≡ [])) }
-    ensures count { S.faults source.old ≤ S.faults source.new }
-    ensures cause { OnErr result (S.faults source.old < S.faults source.new) }
+        (λ new_end. new_end ≡ end → IfSome (K.left link.new) (λ left. left ≡ [])) }
+    ensures gave { IfOk result (λ new_end. HasReceived (K.talk link.old) (K.talk link.new)
+        (slice_range bytes.old.items start end) (slice_range bytes.new.items start new_end)) }
+    ensures failed { OnErr result (K.talk link.new ≡ K.talk link.old ++ gave_not ∷ []) }
 {
-    let n = read_to(source, bytes, end)?;
+    let n = read_to(link, bytes, end)?;
     Ok(end + n)
 }
 
@@ -150,7 +154,7 @@ fn trimmed(bytes: &[u8]) -> usize
 impl LineReader {
     /// A reader that holds nothing. It takes all the memory that it will need.
     pub fn new(alloc: Global) -> Result<LineReader, OutOfMemory>
-        ensures { IfOk result (λ reader. reader ≡ record { line = []; held = [] }) }
+        ensures { IfOk result (λ reader. reader ≡ record { line = []; held = []; ended = false }) }
     {
         let bytes = room(alloc, BUFFER_SIZE)?;
         Ok(LineReader {
@@ -159,6 +163,7 @@ impl LineReader {
             line_end: 0,
             start: 0,
             end: 0,
+            ended: false,
         })
     }
 
@@ -181,46 +186,52 @@ impl LineReader {
     fn forget(&mut self)
         ensures line { self.new.line ≡ [] }
         ensures held { self.new.held ≡ self.old.held }
+        ensures ended { self.new.ended ≡ self.old.ended }
     {
         self.line_start = 0;
         self.line_end = 0;
     }
 
-    // Takes more bytes of the source, and gives their number: 0 only at its end.
-    fn fill<S: Source>(&mut self, source: &mut S) -> Result<usize, Failed>
+    // Receives more bytes, and gives their number: 0 only at the end.
+    fn fill<K: Link>(&mut self, link: &mut K) -> Result<usize, Failed>
         requires { length self.old.held ≤ LINE_LIMIT }
-        ensures taken { HasTaken (S.left source.old)
-            (S.left source.new) self.old.held self.new.held }
+        ensures taken { HasTaken (K.left link.old)
+            (K.left link.new) self.old.held self.new.held }
         ensures kept { OnErr result (self.new.held ≡ self.old.held) }
         ensures number { IfOk result (λ n. length self.new.held ≡ length self.old.held + n) }
-        ensures end { IfOk result (λ n. n ≡ 0 → IfSome (S.left source.new) (λ left. left ≡ [])) }
+        ensures end { IfOk result (λ n. n ≡ 0 → IfSome (K.left link.new) (λ left. left ≡ [])) }
         ensures line { self.new.line ≡ [] }
         ensures bound { length self.new.held ≤ BUFFER_SIZE }
-        ensures count { S.faults source.old ≤ S.faults source.new }
-        ensures cause { OnErr result (S.faults source.old < S.faults source.new) }
+        ensures gave { IfOk result (λ n. HasReceived (K.talk link.old) (K.talk link.new)
+            self.old.held self.new.held) }
+        ensures failed { OnErr result (K.talk link.new ≡ K.talk link.old ++ gave_not ∷ []) }
+        ensures over { IfOk result (λ n. self.new.ended ≡ (n == 0)) }
+        ensures not_over { OnErr result (self.new.ended ≡ self.old.ended) }
     {
         (self.line_start, self.line_end) = (0, 0);
         (self.start, self.end) = make_room(&mut self.bytes, self.start, self.end);
-        let end = read_behind(source, &mut self.bytes, self.start, self.end)?;
+        let end = read_behind(link, &mut self.bytes, self.start, self.end)?;
         let n = end - self.end;
         self.end = end;
+        self.ended = n == 0;
         Ok(n)
     }
 
-    // Takes bytes of the source until an LF is held, or too many bytes, or until the source's end.
-    fn find<S: Source>(&mut self, source: &mut S) -> Result<Found, Failed>
+    // Receives bytes until an LF is held, or too many bytes, or until the end.
+    fn find<K: Link>(&mut self, link: &mut K) -> Result<Found, Failed>
         requires { self.old.line ≡ [] }
         ensures found { IfOk result (λ found. IsFound found self.new.held) }
-        ensures end { IfOk result
-            (λ found. found ≡ Found.Neither → IfSome (S.left source.new) (λ left. left ≡ [])) }
-        ensures taken { HasTaken (S.left source.old)
-            (S.left source.new) self.old.held self.new.held }
-        ensures unasked { NeedsNoMore self.old.held → source.new ≡ source.old }
+        ensures heard { HasHeard (K.talk link.old) (K.talk link.new) self.old self.new
+            (heard_of result) }
+        ensures end { IsAtEnd self.old.ended (K.left link.old)
+            → IsAtEnd self.new.ended (K.left link.new) }
+        ensures over { IfOk result (λ found. found ≡ Found.Neither → self.new.ended ≡ true) }
+        ensures taken { HasTaken (K.left link.old)
+            (K.left link.new) self.old.held self.new.held }
+        ensures unasked { NeedsNoMore self.old.held → link.new ≡ link.old }
         ensures unready { OnErr result (¬ NeedsNoMore self.new.held) }
         ensures line { self.new.line ≡ [] }
         ensures bound { length self.new.held ≤ BUFFER_SIZE }
-        ensures count { S.faults source.old ≤ S.faults source.new }
-        ensures cause { OnErr result (S.faults source.old < S.faults source.new) }
     {
         let mut looked = 0;
         loop {
@@ -228,8 +239,11 @@ impl LineReader {
                 Found::Neither => {}
                 found => return Ok(found),
             }
+            if self.ended {
+                return Ok(Found::Neither);
+            }
             looked = self.held().len();
-            if self.fill(source)? == 0 {
+            if self.fill(link)? == 0 {
                 return Ok(Found::Neither);
             }
         }
@@ -240,6 +254,7 @@ impl LineReader {
         requires { size < length self.old.held }
         ensures line { self.new.line ≡ without_cr (take size self.old.held) }
         ensures held { self.new.held ≡ drop (size + 1) self.old.held }
+        ensures ended { self.new.ended ≡ self.old.ended }
     {
         self.line_start = self.start;
         self.line_end = self.start + trimmed(&self.bytes[self.start..self.start + size]);
@@ -250,6 +265,7 @@ impl LineReader {
     fn give_all(&mut self)
         ensures line { self.new.line ≡ self.old.held }
         ensures held { self.new.held ≡ [] }
+        ensures ended { self.new.ended ≡ self.old.ended }
     {
         self.line_start = self.start;
         self.line_end = self.end;
@@ -268,6 +284,7 @@ impl LineReader {
         ensures short { length self.new.line ≤ LINE_LIMIT }
         ensures no_lf { HasNoLf self.new.line }
         ensures fewer { length self.new.held ≤ length self.old.held }
+        ensures ended { self.new.ended ≡ self.old.ended }
     {
         match found {
             Found::Lf(size) => {
@@ -283,38 +300,35 @@ impl LineReader {
         }
     }
 
-    /// What comes next of the input. `source` is the same one at each call. A line that is held is given with no read,
-    /// and a failure loses nothing: the next call goes on where this one was.
-    pub fn next<S: Source>(&mut self, source: &mut S) -> Result<Next, Failed>
-        // Where the source tells its bytes, the answer tells what the bytes that were not given begin with.
-        ensures told { IfOk result (λ next. TellsFront
-            (not_given self.old.held (S.left source.old)) next self.new.line
-            (not_given self.new.held (S.left source.new))) }
+    /// What comes next of the input. `link` is the same one at each call. A line that is held is given with no receive,
+    /// nothing is received behind the end, and a failure loses nothing: the next call goes on where this one was.
+    pub fn next<K: Link>(&mut self, link: &mut K) -> Result<Next, Failed>
+        // What has passed for the answer: bytes are received only while more is needed, and the answer is what they
+        // begin with.
+        ensures tells { (events : List Event) × (K.talk link.new ≡ K.talk link.old ++ events)
+            × Tells self.old events self.new result }
 
-        // At each source, the answer tells it of the bytes that were held and then taken.
-        ensures shown { IfOk result
-            (λ next. Shows next (S.left source.old)
-            (S.left source.new) self.old.held self.new.line self.new.held) }
+        // Where the link tells what is left, the answer tells what the bytes that were not given begin with.
+        ensures told { IfOk result (λ next. IsAtEnd self.old.ended (K.left link.old) → TellsFront
+            (not_given self.old.held (K.left link.old)) next self.new.line
+            (not_given self.new.held (K.left link.new))) }
+        ensures end { IsAtEnd self.old.ended (K.left link.old)
+            → IsAtEnd self.new.ended (K.left link.new) }
 
         // All but a line leaves the bytes as they were.
-        ensures kept { result ≢ Ok Next.Line
-            → HasTaken (S.left source.old) (S.left source.new) self.old.held self.new.held }
         ensures same { result ≢ Ok Next.Line
-            → not_given self.new.held (S.left source.new)
-            ≡ not_given self.old.held (S.left source.old) }
+            → not_given self.new.held (K.left link.new)
+            ≡ not_given self.old.held (K.left link.old) }
         ensures no_line { result ≢ Ok Next.Line → self.new.line ≡ [] }
         ensures short { length self.new.line ≤ LINE_LIMIT }
         ensures no_lf { HasNoLf self.new.line }
         ensures bound { length self.new.held ≤ BUFFER_SIZE }
 
-        // No byte is asked for while it is known what comes next, and so a failure comes only where it is not.
-        ensures unasked { NeedsNoMore self.old.held → source.new ≡ source.old }
-        ensures unready { OnErr result (¬ NeedsNoMore self.new.held) }
-        ensures count { S.faults source.old ≤ S.faults source.new }
-        ensures cause { OnErr result (S.faults source.old < S.faults source.new) }
+        // Nothing is asked of the link while it is known what comes next.
+        ensures unasked { NeedsNoMore self.old.held → link.new ≡ link.old }
     {
         self.forget();
-        let found = self.find(source)?;
+        let found = self.find(link)?;
         Ok(self.give(found))
     }
 }

@@ -1,8 +1,8 @@
 -- What an ask adds to a history, part by part.
-use Rattle.std.proofs.Common.{◌≡◌, refl, sym, ◌∙◌, ap, subst, ℕ, zero, suc, ◌+◌, ◌<◌, ◌≤◌, List, [], ◌∷◌, ◌++◌, append_assoc, length, map, filter, take, drop, true, false, ◌==◌, ◌⊎◌, inl, inr, Some, None, slice_get, is_some, arith, All, flat_map, filter_map, Contains}
+use Rattle.std.proofs.Common.{◌≡◌, refl, sym, ◌∙◌, ap, subst, ℕ, suc, ◌+◌, ◌≤◌, List, [], ◌∷◌, ◌++◌, append_assoc, length, map, filter, take, drop, true, false, ◌==◌, ◌⊎◌, inl, inr, Some, None, slice_get, is_some, arith, All, flat_map, filter_map, Contains}
 use Rattle.std.specs.Prelude.{IsTrue, sum_by}
 use Rattle.std.specs.List.{list_all, list_any}
-use Rattle.std.proofs.lemmas.Bool.{and_from, and_parts, both_ways, eqb-true, eq-eqb, false_from_ne_true, not_from_false, or_cases, or_left, or_right}
+use Rattle.std.proofs.lemmas.Bool.{and_parts, both_ways, eq-eqb, false_from_ne_true, or_cases, or_left, or_right}
 use Rattle.std.proofs.lemmas.List.{append-nil, length-append, take-append-le}
 use Rattle.std.proofs.lemmas.List.Elements.{All-cons, All-head, All-nil, All-tail, filter-append, filter_map-append}
 use Rattle.std.proofs.lemmas.List.Folds.{list_any-append}
@@ -21,7 +21,6 @@ use Rattle.segment_load.specs.Loads.{JobOf}
 use Rattle.history_core.specs.Answers.{HasSource, SomeWants}
 use Rattle.history_core.specs.Cache.{CacheOf}
 use Rattle.cache_manager.specs.Jobs.{IsJobOf, NoneFlies, numbers_from}
-use Rattle.cache_manager.specs.Runs.{apart}
 use Rattle.cache_manager.proofs.Pushes.{flying_back, recorded, version-length}
 use Rattle.line_session.specs.Asks.{AreOut, done_of, is_of_load, rows_of_job, rows_read, rows_started}
 

@@ -1,22 +1,18 @@
 -- Jobs that are out, while one after another is ended.
 use Rattle.std.proofs.Common.{◌≡◌, refl, sym, ◌∙◌, ap, ℕ, zero, suc, ◌+◌, ◌<◌, List, [], ◌∷◌, ◌++◌, append_assoc, length, map, drop, Bool, true, false, not, ◌==◌, inl, inr, None, get_or, arith, All, is_some}
-use Rattle.std.specs.List.{list_any}
-use Rattle.std.proofs.lemmas.Bool.{and_from, and_parts, both_ways, eqb-true, eq-eqb, false_from_ne_true, not-true, or_cases, or_left, or_right}
-use Rattle.std.proofs.lemmas.List.{append-nil}
-use Rattle.std.proofs.lemmas.List.Elements.{All-cons, All-head, All-nil, All-tail, filter-append}
+use Rattle.std.proofs.lemmas.Bool.{and_from, and_parts, both_ways, not-true, or_cases}
+use Rattle.std.proofs.lemmas.List.Elements.{All-tail}
 use Rattle.std.proofs.lemmas.List.Folds.{list_all-append}
-use Rattle.olap_meaning.specs.declared.cells.Who.{Who}
-use Rattle.olap_meaning.specs.declared.tables.Setting.{Setting}
 use Rattle.olap_meaning.specs.Covering.{among}
-use Rattle.olap_meaning.specs.History.{Entry, Done, Drop, ends, flying, load_at, rows_of, started}
+use Rattle.olap_meaning.specs.History.{Entry, Done, Drop, ends, flying, started}
 use Rattle.olap_meaning.specs.Legal.{Legal}
 use Rattle.segment_load.specs.Loads.{JobOf}
 use Rattle.history_core.specs.Cache.{CacheOf}
-use Rattle.cache_manager.specs.Jobs.{IsJobOf, actor, entries_of}
+use Rattle.cache_manager.specs.Jobs.{IsJobOf}
 use Rattle.cache_manager.specs.Runs.{apart}
 use Rattle.cache_manager.proofs.JobFacts.{jobs_stay, other_loads}
 use Rattle.cache_manager.proofs.Pushes.{flying_back}
-use Rattle.line_session.specs.Asks.{AreOut, Ends, EndsLoads, is_of_load}
+use Rattle.line_session.specs.Asks.{AreOut, Ends, EndsLoads, is_end}
 
 -- the entry that ends a load
 abbrev pub end_of : JobOf → Bool → Entry
@@ -35,7 +31,7 @@ end_starts : (job : JobOf) (b : Bool) → started (end_of job b) ≡ None
 end_starts job true = refl
 end_starts job false = refl
 
-pub end_part : (job : JobOf) (b : Bool) → is_of_load (end_of job b) ≡ true
+pub end_part : (job : JobOf) (b : Bool) → is_end (end_of job b) ≡ true
 end_part job true = refl
 end_part job false = refl
 
@@ -67,5 +63,5 @@ pub ended_more : (before middle after : List Entry) (job : JobOf) (b : Bool) →
 ended_more before middle after job b so_far end = record {
   loads = so_far.loads ++ end_of job b ∷ [];
   entries = ends_as middle after job b end ∙ ap (λ (es : List Entry). es ++ end_of job b ∷ []) so_far.entries ∙ append_assoc before so_far.loads (end_of job b ∷ []);
-  parts = list_all-append is_of_load so_far.loads (end_of job b ∷ []) ∙ and_from _ _ so_far.parts (and_from _ _ (end_part job b) refl);
+  parts = list_all-append is_end so_far.loads (end_of job b ∷ []) ∙ and_from _ _ so_far.parts (and_from _ _ (end_part job b) refl);
 }

@@ -46,18 +46,18 @@ after_answer n before after cells grown next =
     ∙ list_all-append (is_call_below (n + 1)) (filter (is_call_of 1) before) (Answer (asker n) cells ∷ [])
     ∙ and_from _ _ (weaker n before next) (and_from _ _ (lt-ltb n (n + 1) (omega arith)) refl)
 
-next_loads : (n : ℕ) (before after : CacheOf) (loads : List Entry) → AddsLoads before after loads → is_next_call before.entries (asker n) ≡ true → is_next_call after.entries (asker n) ≡ true
-next_loads n before after loads adds next = still_next before.entries after.entries loads (asker n) adds.entries adds.parts next
+next_loads : (n : ℕ) (before after : CacheOf) (cells : List Cell) (loads : List Entry) → AddsLoads before after (asker n) cells loads → is_next_call before.entries (asker n) ≡ true → is_next_call after.entries (asker n) ≡ true
+next_loads n before after cells loads adds next = still_next before.entries after.entries loads (asker n) adds.entries adds.parts next
 
 next_answer : (n : ℕ) (before after : CacheOf) (cells : List Cell) (answer : Told) → AddsAnswer before after (asker n) cells answer → is_next_call before.entries (asker n) ≡ true → is_next_call after.entries (asker (n + 1)) ≡ true
-next_answer n before after cells answer adds next = after_answer n adds.middle.entries after.entries (map (source_of adds.middle.entries) cells) adds.entries (next_loads n before adds.middle adds.loads adds.loaded next)
+next_answer n before after cells answer adds next = after_answer n adds.middle.entries after.entries (map (source_of adds.middle.entries) cells) adds.entries (next_loads n before adds.middle cells adds.loads adds.loaded next)
 
 next_same : (n : ℕ) (before after : CacheOf) → after ≡ before → is_next_call before.entries (asker n) ≡ true → is_next_call after.entries (asker (n + 1)) ≡ true
 next_same n before after same next = ap (λ (k : CacheOf). is_next_call k.entries (asker (n + 1))) same ∙ weaker n before.entries next
 
 next_meaning : (n : ℕ) (before after : CacheOf) (meaning : Result Meant NoMatch) (reply : List ℕ) → AnswersMeaning before after (asker n) meaning reply → is_next_call before.entries (asker n) ≡ true → is_next_call after.entries (asker (n + 1)) ≡ true
 next_meaning n before after (Ok meant) reply (inl grid) next = next_answer n before after (meant.cell ∷ []) grid.answer grid.adds next
-next_meaning n before after (Ok meant) reply (inr (told, inl (loads, adds))) next = weaker n after.entries (next_loads n before after loads adds next)
+next_meaning n before after (Ok meant) reply (inr (told, inl (loads, adds))) next = weaker n after.entries (next_loads n before after (meant.cell ∷ []) loads adds next)
 next_meaning n before after (Ok meant) reply (inr (told, inr (answer, adds))) next = next_answer n before after (meant.cell ∷ []) answer adds next
 next_meaning n before after (Err none) reply (same, told) next = next_same n before after same next
 
@@ -77,8 +77,8 @@ next_line n before after line reply (inr unread) next = next_same n before after
 pub same_goes_on : (before after : CacheOf) → after ≡ before → GoesOn before after
 same_goes_on before after same = record { more = []; entries = ap (λ (k : CacheOf). k.entries) same ∙ sym (append-nil before.entries) }
 
-loads_go_on : (before after : CacheOf) (loads : List Entry) → AddsLoads before after loads → GoesOn before after
-loads_go_on before after loads adds = record { more = loads; entries = adds.entries }
+loads_go_on : (before after : CacheOf) (who : Who) (cells : List Cell) (loads : List Entry) → AddsLoads before after who cells loads → GoesOn before after
+loads_go_on before after who cells loads adds = record { more = loads; entries = adds.entries }
 
 -- from one to the next, and on
 pub on_and_on : (before middle after : CacheOf) → GoesOn before middle → GoesOn middle after → GoesOn before after
@@ -86,11 +86,11 @@ on_and_on before middle after first then = record { more = first.more ++ then.mo
 
 answer_goes_on : (before after : CacheOf) (who : Who) (cells : List Cell) (answer : Told) → AddsAnswer before after who cells answer → GoesOn before after
 answer_goes_on before after who cells answer adds =
-    on_and_on before adds.middle after (loads_go_on before adds.middle adds.loads adds.loaded) (record { more = Answer who (map (source_of adds.middle.entries) cells) ∷ []; entries = adds.entries })
+    on_and_on before adds.middle after (loads_go_on before adds.middle who cells adds.loads adds.loaded) (record { more = Answer who (map (source_of adds.middle.entries) cells) ∷ []; entries = adds.entries })
 
 pub meaning_goes_on : (before after : CacheOf) (who : Who) (meaning : Result Meant NoMatch) (reply : List ℕ) → AnswersMeaning before after who meaning reply → GoesOn before after
 meaning_goes_on before after who (Ok meant) reply (inl grid) = answer_goes_on before after who (meant.cell ∷ []) grid.answer grid.adds
-meaning_goes_on before after who (Ok meant) reply (inr (told, inl (loads, adds))) = loads_go_on before after loads adds
+meaning_goes_on before after who (Ok meant) reply (inr (told, inl (loads, adds))) = loads_go_on before after who (meant.cell ∷ []) loads adds
 meaning_goes_on before after who (Ok meant) reply (inr (told, inr (answer, adds))) = answer_goes_on before after who (meant.cell ∷ []) answer adds
 meaning_goes_on before after who (Err none) reply (same, told) = same_goes_on before after same
 

@@ -4,3 +4,5 @@ pub mod Parts
 pub mod Handling
 pub mod Turning
 pub mod Quitting
+pub mod Sending
+pub mod Conversing

@@ -1,12 +1,12 @@
 -- One turn of a session after another.
-use Rattle.std.proofs.Common.{◌≡◌, refl, sym, ◌∙◌, ap, subst, ℕ, suc, ◌+◌, ◌-◌, ◌^◌, List, [], ◌∷◌, ◌++◌, append_assoc, length, take, true, false, Bool, inl, inr, ◌⊎◌, Some, None, Option, arith, option_map, flat_map}
+use Rattle.std.proofs.Common.{◌≡◌, refl, sym, ◌∙◌, ap, subst, ℕ, suc, ◌+◌, ◌-◌, ◌^◌, List, [], ◌∷◌, ◌++◌, append_assoc, length, take, true, false, Bool, inl, inr, ◌⊎◌, Some, None, Option, arith, flat_map}
 use Rattle.std.specs.Prelude.{IfSome, MatchOption}
 use Rattle.std.proofs.lemmas.Bool.{and_from, not_from_false}
 use Rattle.std.proofs.lemmas.List.{append-nil}
 use Rattle.std.proofs.Math.Seq.{take-append-add}
 use Rattle.olap_meaning.specs.Lines.{Lines, no_line, line as first_line, broken as broken_lines}
 use Rattle.olap_meaning.specs.Requests.{too_long_reply}
-use Rattle.outside.specs.Told.{TakesFront, with_bytes}
+use Rattle.outside.specs.Told.{TakesFront}
 use Rattle.input_lines.specs.Reader.{TellsFront, not_given}
 use Rattle.input_lines.specs.declared.next.Next.TheVariants.{Line, End, TooLong}
 use Rattle.input_lines.proofs.Fronts.{has_lines}
@@ -16,22 +16,13 @@ use Rattle.line_session.specs.Sessions.{HaveLines, AreAll, AreFirst, AreHandled,
 use Rattle.line_session.specs.declared.session.SessionEnd.{SessionEnd}
 use Rattle.line_session.specs.declared.session.SessionEnd.TheVariants.{Quit, EndOfInput, LongLine, ReceiveFault, SendFault, TooManyLines}
 
--- bytes and then others were taken
-with_both : (taken : Option (List ℕ)) (first more : List ℕ) → with_bytes (with_bytes taken first) more ≡ with_bytes taken (first ++ more)
-with_both None first more = refl
-with_both (Some held) first more = ap Some (append_assoc held first more)
-
-pub with_none : (taken : Option (List ℕ)) → taken ≡ with_bytes taken []
-with_none None = refl
-with_none (Some held) = ap Some (sym (append-nil held))
-
 -- of bytes, and a front of others, a front of both was taken
-front_past : (before middle after : Option (List ℕ)) (first more : List ℕ) → middle ≡ with_bytes before first → TakesFront middle after more → TakesFront before after (first ++ more)
+front_past : (before middle after : List ℕ) (first more : List ℕ) → middle ≡ before ++ first → TakesFront middle after more → TakesFront before after (first ++ more)
 front_past before middle after first more sent front =
-    (length first + front.0, front.1 ∙ ap (λ taken. with_bytes taken (take front.0 more)) sent ∙ with_both before first (take front.0 more) ∙ ap (with_bytes before) (sym (take-append-add first more front.0)))
+    (length first + front.0, front.1 ∙ ap (λ taken. taken ++ take front.0 more) sent ∙ append_assoc before first (take front.0 more) ∙ ap (λ (bs : List ℕ). before ++ bs) (sym (take-append-add first more front.0)))
 
-sent_past : (before middle after : Option (List ℕ)) (first more : List ℕ) → middle ≡ with_bytes before first → after ≡ with_bytes middle more → after ≡ with_bytes before (first ++ more)
-sent_past before middle after first more sent then = then ∙ ap (λ taken. with_bytes taken more) sent ∙ with_both before first more
+sent_past : (before middle after : List ℕ) (first more : List ℕ) → middle ≡ before ++ first → after ≡ middle ++ more → after ≡ before ++ (first ++ more)
+sent_past before middle after first more sent then = then ∙ ap (λ taken. taken ++ more) sent ∙ append_assoc before first more
 
 -- a line that does not end the session before others that do not
 going : (line : List ℕ) (lines : List (List ℕ)) → ends_session line ≡ false → go_on lines ≡ true → go_on (line ∷ lines) ≡ true
@@ -70,12 +61,12 @@ told_then P Q line (Some bytes) None step told holds = absurd told
 told_then P Q line (Some bytes) (Some more) step told (all, are, holds) = (lines_then (line ∷ []) all, first_line line more told are, step all holds)
 
 sent_then :
-    (end : SessionEnd) (left rest : Option (List ℕ)) (line : List ℕ) (lines : List (List ℕ)) (before middle after : Option (List ℕ)) (reply text : List ℕ) → ends_session line ≡ false
-    → TellsFront left Line line rest → middle ≡ with_bytes before reply → AreSent end rest lines middle after text → AreSent end left (line ∷ lines) before after (reply ++ text)
+    (end : SessionEnd) (left rest : Option (List ℕ)) (line : List ℕ) (lines : List (List ℕ)) (before middle after reply text : List ℕ) → ends_session line ≡ false
+    → TellsFront left Line line rest → middle ≡ before ++ reply → AreSent end rest lines middle after text → AreSent end left (line ∷ lines) before after (reply ++ text)
 sent_then Quit left rest line lines before middle after reply text goes first sent then = sent_past before middle after reply text sent then
 sent_then EndOfInput left rest line lines before middle after reply text goes first sent then = sent_past before middle after reply text sent then
 sent_then LongLine left rest line lines before middle after reply text goes first sent then =
-    sent_past before middle after reply (text ++ too_long_reply) sent then ∙ ap (with_bytes before) (sym (append_assoc reply text too_long_reply))
+    sent_past before middle after reply (text ++ too_long_reply) sent then ∙ ap (λ (bs : List ℕ). before ++ bs) (sym (append_assoc reply text too_long_reply))
 sent_then ReceiveFault left rest line lines before middle after reply text goes first sent then = sent_past before middle after reply text sent then
 sent_then SendFault left rest line lines before middle after reply text goes first sent (inl front) = inl (front_past before middle after reply text sent front)
 sent_then SendFault left rest line lines before middle after reply text goes first sent (inr (all, front)) =
@@ -87,7 +78,7 @@ sent_then TooManyLines left rest line lines before middle after reply text goes 
 
 -- a turn, and then a session from the next number on
 pub turn_then :
-    (n : ℕ) (end : SessionEnd) (before middle after : CacheOf) (left rest sent sent_mid sent_last : Option (List ℕ)) → Turns n before middle left rest sent sent_mid → IsServed (n + 1) end middle after rest sent_mid sent_last
+    (n : ℕ) (end : SessionEnd) (before middle after : CacheOf) (left rest : Option (List ℕ)) (sent sent_mid sent_last : List ℕ) → Turns n before middle left rest sent sent_mid → IsServed (n + 1) end middle after rest sent_mid sent_last
     → IsServed n end before after left sent sent_last
 turn_then n end before middle after left rest sent sent_mid sent_last turn served = record {
   lines = turn.line ∷ served.lines;
@@ -124,19 +115,19 @@ first_of_all (Some bytes) = let all = has_lines bytes in (all.0, all.1, (refl, (
 
 -- the line that ends the session was answered
 pub quit_served :
-    (n : ℕ) (before after : CacheOf) (line reply : List ℕ) (left rest sent sent_last : Option (List ℕ)) → Handles before after (asker n) line reply → ends_session line ≡ true
-    → TellsFront left Line line rest → sent_last ≡ with_bytes sent reply → IsServed n Quit before after left sent sent_last
+    (n : ℕ) (before after : CacheOf) (line reply : List ℕ) (left rest : Option (List ℕ)) (sent sent_last : List ℕ) → Handles before after (asker n) line reply → ends_session line ≡ true
+    → TellsFront left Line line rest → sent_last ≡ sent ++ reply → IsServed n Quit before after left sent sent_last
 quit_served n before after line reply left rest sent sent_last handles quits first told = record {
   lines = line ∷ [];
   replies = reply ∷ [];
   session = (after, handles, refl);
   handled = told_line (EndAtLast (line ∷ [])) line left rest (λ more. record { before = []; last = line; are = refl; earlier = refl; quits = quits; rest = more; first = refl }) first;
-  sent = told ∙ ap (with_bytes sent) (sym (append-nil reply));
+  sent = told ∙ ap (λ (bs : List ℕ). sent ++ bs) (sym (append-nil reply));
 }
 
 -- the reply to a line could not be sent whole
 pub cut_off_served :
-    (n : ℕ) (before after : CacheOf) (line reply : List ℕ) (left rest sent sent_last : Option (List ℕ)) → Handles before after (asker n) line reply
+    (n : ℕ) (before after : CacheOf) (line reply : List ℕ) (left rest : Option (List ℕ)) (sent sent_last : List ℕ) → Handles before after (asker n) line reply
     → TellsFront left Line line rest → TakesFront sent sent_last reply → IsServed n SendFault before after left sent sent_last
 cut_off_served n before after line reply left rest sent sent_last handles first front = record {
   lines = line ∷ [];
@@ -151,17 +142,17 @@ cut_off_served n before after line reply left rest sent sent_last handles first 
     by false at all more whole = inl (going line [] at refl, (more, whole))
 
 -- nothing was left of the input
-pub end_served : (n : ℕ) (cache : CacheOf) (line : List ℕ) (left rest sent : Option (List ℕ)) → TellsFront left End line rest → IsServed n EndOfInput cache cache left sent sent
+pub end_served : (n : ℕ) (cache : CacheOf) (line : List ℕ) (left rest : Option (List ℕ)) (sent : List ℕ) → TellsFront left End line rest → IsServed n EndOfInput cache cache left sent sent
 end_served n cache line left rest sent first = record {
   lines = [];
   replies = [];
   session = refl;
   handled = told_end (AreAll [] false) line left rest (refl, refl) first;
-  sent = with_none sent;
+  sent = sym (append-nil sent);
 }
 
 -- too long a line came
-pub long_served : (n : ℕ) (cache : CacheOf) (line : List ℕ) (left rest sent sent_last : Option (List ℕ)) → TellsFront left TooLong line rest → sent_last ≡ with_bytes sent too_long_reply → IsServed n LongLine cache cache left sent sent_last
+pub long_served : (n : ℕ) (cache : CacheOf) (line : List ℕ) (left rest : Option (List ℕ)) (sent sent_last : List ℕ) → TellsFront left TooLong line rest → sent_last ≡ sent ++ too_long_reply → IsServed n LongLine cache cache left sent sent_last
 long_served n cache line left rest sent sent_last first told = record {
   lines = [];
   replies = [];
@@ -172,7 +163,7 @@ long_served n cache line left rest sent sent_last first told = record {
 
 -- and its reply could not be sent whole
 pub long_cut_off :
-    (n : ℕ) (cache : CacheOf) (line : List ℕ) (left rest sent sent_last : Option (List ℕ)) → TellsFront left TooLong line rest → TakesFront sent sent_last too_long_reply
+    (n : ℕ) (cache : CacheOf) (line : List ℕ) (left rest : Option (List ℕ)) (sent sent_last : List ℕ) → TellsFront left TooLong line rest → TakesFront sent sent_last too_long_reply
     → IsServed n SendFault cache cache left sent sent_last
 long_cut_off n cache line left rest sent sent_last first front = record {
   lines = [];
@@ -187,12 +178,12 @@ long_cut_off n cache line left rest sent sent_last first front = record {
     weaker (Some bytes) (all, are, holds) = (all, are, inl holds)
 
 -- the input could not be read
-pub fault_served : (n : ℕ) (cache : CacheOf) (left sent : Option (List ℕ)) → IsServed n ReceiveFault cache cache left sent sent
-fault_served n cache left sent = record { lines = []; replies = []; session = refl; handled = first_of_all left; sent = with_none sent }
+pub fault_served : (n : ℕ) (cache : CacheOf) (left : Option (List ℕ)) (sent : List ℕ) → IsServed n ReceiveFault cache cache left sent sent
+fault_served n cache left sent = record { lines = []; replies = []; session = refl; handled = first_of_all left; sent = sym (append-nil sent) }
 
 -- no number is left
-pub many_served : (n : ℕ) (cache : CacheOf) (left sent : Option (List ℕ)) → n ≡ 2 ^ 64 - 1 → IsServed n TooManyLines cache cache left sent sent
-many_served n cache left sent last = record { lines = []; replies = []; session = refl; handled = by left (first_of_all left); sent = with_none sent }
+pub many_served : (n : ℕ) (cache : CacheOf) (left : Option (List ℕ)) (sent : List ℕ) → n ≡ 2 ^ 64 - 1 → IsServed n TooManyLines cache cache left sent sent
+many_served n cache left sent last = record { lines = []; replies = []; session = refl; handled = by left (first_of_all left); sent = sym (append-nil sent) }
   where
     by : (o : Option (List ℕ)) → IfSome o (HaveLines (AreFirst [])) → IfSome o (HaveLines (AreHandled n TooManyLines []))
     by None holds = tt
@@ -200,7 +191,7 @@ many_served n cache left sent last = record { lines = []; replies = []; session 
 
 -- a line was answered: that is a turn, or ends the session
 pub line_turn :
-    (n : ℕ) (before after : CacheOf) (line : List ℕ) (left rest sent sent_last : Option (List ℕ)) (result : Option SessionEnd) → TellsFront left Line line rest
+    (n : ℕ) (before after : CacheOf) (line : List ℕ) (left rest : Option (List ℕ)) (sent sent_last : List ℕ) (result : Option SessionEnd) → TellsFront left Line line rest
     → IsLineAnswered n before after line sent sent_last result → MatchOption result (Turns n before after left rest sent sent_last) (λ end. IsServed n end before after left sent sent_last)
 line_turn n before after line left rest sent sent_last None first (reply, handles, goes, told) = record { line = line; reply = reply; handles = handles; goes_on = goes; first = first; sent = told }
 line_turn n before after line left rest sent sent_last (Some Quit) first (reply, handles, quits, told) = quit_served n before after line reply left rest sent sent_last handles quits first told
@@ -212,8 +203,8 @@ line_turn n before after line left rest sent sent_last (Some TooManyLines) first
 
 -- too long a line was refused
 pub long_turn :
-    (n : ℕ) (cache : CacheOf) (line : List ℕ) (left rest sent sent_last : Option (List ℕ)) (end : SessionEnd) → TellsFront left TooLong line rest → (end ≡ LongLine) ⊎ (end ≡ SendFault)
-    → (end ≡ LongLine → sent_last ≡ with_bytes sent too_long_reply) → (end ≡ SendFault → TakesFront sent sent_last too_long_reply) → IsServed n end cache cache left sent sent_last
+    (n : ℕ) (cache : CacheOf) (line : List ℕ) (left rest : Option (List ℕ)) (sent sent_last : List ℕ) (end : SessionEnd) → TellsFront left TooLong line rest → (end ≡ LongLine) ⊎ (end ≡ SendFault)
+    → (end ≡ LongLine → sent_last ≡ sent ++ too_long_reply) → (end ≡ SendFault → TakesFront sent sent_last too_long_reply) → IsServed n end cache cache left sent sent_last
 long_turn n cache line left rest sent sent_last end first (inl long) all front = subst (λ (e : SessionEnd). IsServed n e cache cache left sent sent_last) (sym long) (long_served n cache line left rest sent sent_last first (all long))
 long_turn n cache line left rest sent sent_last end first (inr cut) all front = subst (λ (e : SessionEnd). IsServed n e cache cache left sent sent_last) (sym cut) (long_cut_off n cache line left rest sent sent_last first (front cut))
 

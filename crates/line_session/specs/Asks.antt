@@ -1,5 +1,5 @@
 -- What an ask adds to a history.
-use Rattle.std.specs.Prelude.{ℕ, ◌≡◌, List, [], ◌∷◌, ◌++◌, Bool, true, false, drop, map, sum_by, length}
+use Rattle.std.specs.Prelude.{ℕ, ◌≡◌, ◌⊎◌, List, [], ◌∷◌, ◌++◌, Bool, true, false, drop, map, sum_by, length}
 use Rattle.std.specs.List.{list_all}
 use Rattle.olap_meaning.specs.declared.cells.Cell.{Cell}
 use Rattle.olap_meaning.specs.declared.cells.Who.{Who}
@@ -9,6 +9,7 @@ use Rattle.olap_meaning.specs.Worth.{cost}
 use Rattle.segment_load.specs.Loads.{JobOf, rows_in}
 use Rattle.history_core.specs.Answers.{IsAnswer, source_of}
 use Rattle.history_core.specs.Cache.{CacheOf}
+use Rattle.cache_manager.specs.Groups.{loads_for}
 use Rattle.cache_manager.specs.Jobs.{NoneFlies}
 use Rattle.history_core.specs.declared.answers.Answer.{Answer as Told}
 
@@ -19,24 +20,45 @@ is_of_load (Done who load) = true
 is_of_load (Drop who load) = true
 is_of_load _ = false
 
+-- an entry says that a load was delivered
+abbrev pub is_done : Entry → Bool
+is_done (Done who load) = true
+is_done _ = false
+
+-- an entry is the end of a load: it was delivered, or given up
+abbrev pub is_end : Entry → Bool
+is_end (Done who load) = true
+is_end (Drop who load) = true
+is_end _ = false
+
 -- the rows that an entry has read: where it starts a load, those of the load's version
 abbrev pub rows_read : List Entry → Entry → ℕ
 rows_read history (Start load) = cost history load
 rows_read history _ = 0
 
--- parts of loads were added, and none of the loads flies
-pub record AddsLoads (before after : CacheOf) (loads : List Entry) : Type 0 where
+-- entries are none; or they are the starts of just the loads that some cells lack, and then ends of this kind
+abbrev pub AreLoadsFor : CacheOf → Who → List Cell → (Entry → Bool) → List Entry → Type 0
+AreLoadsFor before who cells kind entries =
+    (entries ≡ [])
+    ⊎ ((ends : List Entry) × (entries ≡ map Start (loads_for before who cells) ++ ends)
+    × (list_all kind ends ≡ true))
+
+-- nothing was added, or the loads that some cells lack were started, each once, and ended; none flies
+pub record AddsLoads (before after : CacheOf) (who : Who) (cells : List Cell)
+    (loads : List Entry) : Type 0 where
   pub setting : after.setting ≡ before.setting
   pub entries : after.entries ≡ before.entries ++ loads
+  pub own : AreLoadsFor before who cells is_end loads
   pub parts : list_all is_of_load loads ≡ true
   pub closed : NoneFlies after.entries
 
--- cells were answered: by parts of loads that are all closed, and then by the answer to the cells at that time
+-- cells were answered: by the loads that they lack, each delivered, and then by the answer to the cells at that time
 pub record AddsAnswer (before after : CacheOf) (who : Who) (cells : List Cell)
     (answer : Told) : Type 0 where
   pub loads : List Entry
   pub middle : CacheOf
-  pub loaded : AddsLoads before middle loads
+  pub loaded : AddsLoads before middle who cells loads
+  pub delivered : AreLoadsFor before who cells is_done loads
   pub setting : after.setting ≡ before.setting
   pub entries : after.entries
       ≡ middle.entries ++ Answer who (map (source_of middle.entries) cells) ∷ []
@@ -64,7 +86,7 @@ AreOut entries jobs =
 pub record EndsLoads (before after : List Entry) : Type 0 where
   pub loads : List Entry
   pub entries : after ≡ before ++ loads
-  pub parts : list_all is_of_load loads ≡ true
+  pub parts : list_all is_end loads ≡ true
 
 -- the rows of the loads that were started after a history
 abbrev pub rows_started : List Entry → List Entry → ℕ

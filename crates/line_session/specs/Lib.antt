@@ -1,3 +1,4 @@
 pub mod Asks
 pub mod Replies
 pub mod Sessions
+pub mod Conversations

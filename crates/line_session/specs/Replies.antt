@@ -1,6 +1,7 @@
 -- What a session replies to a line, and what the line adds to the history.
-use Rattle.std.specs.Prelude.{ℕ, ◌≡◌, ◌⊎◌, List, [], ◌∷◌, Result, Ok, Err, codes}
+use Rattle.std.specs.Prelude.{ℕ, ◌≡◌, ◌⊎◌, List, [], ◌∷◌, true, Result, Ok, Err, codes}
 use Rattle.std.specs.Option.{IsSome}
+use Rattle.std.specs.Str.{is_utf8}
 use Rattle.olap_meaning.specs.declared.cells.Who.{Who}
 use Rattle.olap_meaning.specs.declared.tables.Catalog.{Catalog}
 use Rattle.olap_meaning.specs.CellQueries.{Meant, NoMatch, meaning_of}
@@ -30,7 +31,7 @@ pub record GivesGrid (before after : CacheOf) (who : Who) (meant : Meant)
 abbrev pub FindsNoMemory : CacheOf → CacheOf → Who → Meant → List ℕ → Type 0
 FindsNoMemory before after who meant reply =
     (reply ≡ no_memory_reply)
-    × (((loads : List Entry) × AddsLoads before after loads)
+    × (((loads : List Entry) × AddsLoads before after who (meant.cell ∷ []) loads)
     ⊎ ((answer : Answer) × AddsAnswer before after who (meant.cell ∷ []) answer))
 
 -- the reply to a query that means this, and what it adds: the grid of its answer; or to one without a match, which
@@ -56,8 +57,9 @@ pub record AnswersLine (before after : CacheOf) (who : Who) (line reply : List �
   pub asks : IsRequest line request
   pub answers : AnswersRequest before after who request reply
 
--- there was no memory to read a line with the command MDX, which added nothing
+-- there was no memory to read a line of text with the command MDX, which added nothing
 pub record LeavesUnread (before after : CacheOf) (line reply : List ℕ) : Type 0 where
+  pub text : is_utf8 line ≡ true
   pub command : IsSome (argument_of (codes "MDX") line)
   pub nothing : after ≡ before
   pub no_memory : reply ≡ no_memory_reply

@@ -6,7 +6,7 @@ use Rattle.olap_meaning.specs.declared.cells.Who.{Who}
 use Rattle.olap_meaning.specs.Lines.{Lines, AreLines}
 use Rattle.olap_meaning.specs.Requests.{is_quit, too_long_reply}
 use Rattle.olap_meaning.specs.History.{Entry}
-use Rattle.outside.specs.Told.{TakesFront, with_bytes}
+use Rattle.outside.specs.Told.{TakesFront}
 use Rattle.input_lines.specs.Reader.{TellsFront}
 use Rattle.input_lines.specs.declared.next.Next.TheVariants.{Line}
 use Rattle.history_core.specs.Cache.{CacheOf}
@@ -72,7 +72,7 @@ AreHandled number TooManyLines lines all = AreFirst lines all × (number + lengt
 
 -- a write has failed: of the replies joined a front was sent; or too long a line came behind all these lines, and of
 -- the replies and that to it a front was sent
-abbrev pub IsSentInPart : Option (List ℕ) → List (List ℕ) → Option (List ℕ) → Option (List ℕ)
+abbrev pub IsSentInPart : Option (List ℕ) → List (List ℕ) → List ℕ → List ℕ
     → List ℕ → Type 0
 IsSentInPart left lines before after text =
     TakesFront before after text
@@ -81,16 +81,16 @@ IsSentInPart left lines before after text =
 
 -- what was sent, by how the session ended: the replies joined, and that to too long a line; after a failed write a
 -- front of this
-abbrev pub AreSent : SessionEnd → Option (List ℕ) → List (List ℕ) → Option (List ℕ)
-    → Option (List ℕ) → List ℕ → Type 0
-AreSent LongLine left lines before after text = after ≡ with_bytes before (text ++ too_long_reply)
+abbrev pub AreSent : SessionEnd → Option (List ℕ) → List (List ℕ) → List ℕ
+    → List ℕ → List ℕ → Type 0
+AreSent LongLine left lines before after text = after ≡ before ++ (text ++ too_long_reply)
 AreSent SendFault left lines before after text = IsSentInPart left lines before after text
-AreSent end left lines before after text = after ≡ with_bytes before text
+AreSent end left lines before after text = after ≡ before ++ text
 
 -- a session was served from one number on: the lines that were handled are those of the input, each with its reply,
 -- and the replies were sent
 pub record IsServed (number : ℕ) (end : SessionEnd) (before after : CacheOf)
-    (left : Option (List ℕ)) (sent_before sent_after : Option (List ℕ)) : Type 0 where
+    (left : Option (List ℕ)) (sent_before sent_after : List ℕ) : Type 0 where
   pub lines : List (List ℕ)
   pub replies : List (List ℕ)
   pub session : IsSession before number lines replies after
@@ -99,23 +99,23 @@ pub record IsServed (number : ℕ) (end : SessionEnd) (before after : CacheOf)
 
 -- a turn: one line was handled and its reply sent, and the session goes on
 pub record Turns (number : ℕ) (before after : CacheOf)
-    (left_before left_after sent_before sent_after : Option (List ℕ)) : Type 0 where
+    (left_before left_after : Option (List ℕ)) (sent_before sent_after : List ℕ) : Type 0 where
   pub line : List ℕ
   pub reply : List ℕ
   pub handles : Handles before after (asker number) line reply
   pub goes_on : ends_session line ≡ false
   pub first : TellsFront left_before Line line left_after
-  pub sent : sent_after ≡ with_bytes sent_before reply
+  pub sent : sent_after ≡ sent_before ++ reply
 
 -- a line was answered and its reply sent; the session goes on, or ends there, or the reply could not be sent whole
-abbrev pub IsLineAnswered : ℕ → CacheOf → CacheOf → List ℕ → Option (List ℕ) → Option (List ℕ)
+abbrev pub IsLineAnswered : ℕ → CacheOf → CacheOf → List ℕ → List ℕ → List ℕ
     → Option SessionEnd → Type 0
 IsLineAnswered number before after line sent_before sent_after None =
     (reply : List ℕ) × Handles before after (asker number) line reply × (ends_session line ≡ false)
-    × (sent_after ≡ with_bytes sent_before reply)
+    × (sent_after ≡ sent_before ++ reply)
 IsLineAnswered number before after line sent_before sent_after (Some Quit) =
     (reply : List ℕ) × Handles before after (asker number) line reply × (ends_session line ≡ true)
-    × (sent_after ≡ with_bytes sent_before reply)
+    × (sent_after ≡ sent_before ++ reply)
 IsLineAnswered number before after line sent_before sent_after (Some SendFault) =
     (reply : List ℕ) × Handles before after (asker number) line reply
     × TakesFront sent_before sent_after reply

@@ -1,7 +1,7 @@
 //! The objects in memory around a run.
-use crate::case::Stored;
+use crate::case::{Case, Stored};
 use olap_meaning::{List, OutOfMemory, Text};
-use outside::{Calls, MemoryDepot, MemorySink, MemorySource};
+use outside::{Calls, MemoryDepot, MemoryLink, MemorySink, MemorySource, Pair};
 use std::alloc::Global;
 
 // The plan by which the call of this number fails.
@@ -31,8 +31,8 @@ pub(crate) fn depot(
     Ok(MemoryDepot::new(held, calls(alloc, failing)?))
 }
 
-/// A source of these bytes, of which one read gives at most so many, where a number is given.
-pub(crate) fn source(
+// A source of these bytes, of which one read gives at most so many, where a number is given.
+fn source(
     alloc: Global,
     bytes: &[u8],
     most: Option<usize>,
@@ -42,11 +42,25 @@ pub(crate) fn source(
     Ok(MemorySource::new(bytes, calls(alloc, failing)?, None, most))
 }
 
-/// A sink with room for so many bytes, where a number is given.
-pub(crate) fn sink(
+// The most bytes that a sink takes for which no number is given: more than any case writes.
+const ROOM: usize = 1_000_000;
+
+// A sink with room for so many bytes, where a number is given.
+fn sink(alloc: Global, room: Option<u64>, failing: Option<u64>) -> Result<MemorySink, OutOfMemory> {
+    let room = match room {
+        Some(room) => (room as usize).min(ROOM),
+        None => ROOM,
+    };
+    MemorySink::new(alloc, calls(alloc, failing)?, room)
+}
+
+/// The link of a case, of which one receive gives at most so many bytes, where a number is given.
+pub(crate) fn link(
     alloc: Global,
-    room: Option<u64>,
-    failing: Option<u64>,
-) -> Result<MemorySink, OutOfMemory> {
-    Ok(MemorySink::new(alloc, calls(alloc, failing)?, room))
+    case: &Case,
+    most: Option<usize>,
+) -> Result<MemoryLink, OutOfMemory> {
+    let input = source(alloc, case.input.as_slice(), most, case.read)?;
+    let output = sink(alloc, case.room, case.write)?;
+    Ok(Pair::new(input, output))
 }

@@ -2,7 +2,7 @@
 //!
 //! A case file is a list of groups. A group has `files`, an object of contents by the names of the files in the depot, a
 //! list of `cases`, and the `words` of those cases that name none.
-use crate::around::{depot, sink, source};
+use crate::around::{depot, link};
 use crate::case::{Case, Stored, files_of, read_case};
 use crate::difference::difference;
 use crate::fields::{field, items, text};
@@ -30,18 +30,16 @@ fn difference_at(
     let alloc = rt.alloc();
     let most = if most == 0 { None } else { Some(most as usize) };
     let mut depot = depot(alloc, files, case.fetch).map_err(no_memory)?;
-    let mut input = source(alloc, case.input.as_slice(), most, case.read).map_err(no_memory)?;
-    let mut output = sink(alloc, case.room, case.write).map_err(no_memory)?;
-    let ended = carry_out::<_, _, _, Brand>(
+    let mut link = link(alloc, case, most).map_err(no_memory)?;
+    let ended = carry_out::<_, _, Brand>(
         rt,
         alloc,
         &case.words,
         &mut depot,
-        &mut input,
-        &mut output,
+        &mut link,
         Blank::new(1),
     );
-    let found = (outcome_of(&ended), output.taken());
+    let found = (outcome_of(&ended), link.output().taken());
     let wanted = (case.outcome, case.written.as_slice());
     if found == wanted {
         return Ok(None);

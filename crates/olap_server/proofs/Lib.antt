@@ -4,3 +4,4 @@ pub mod WordFacts
 pub mod ReplyFacts
 pub mod RunFacts
 pub mod PartFacts
+pub mod CompleteFacts

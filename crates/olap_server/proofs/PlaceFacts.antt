@@ -1,10 +1,9 @@
 -- Where columns stand, and what stands there.
-use Rattle.std.proofs.Common.{◌≡◌, ◌<◌, ◌+◌, ◌∙◌, ℕ, zero, suc, Bool, true, false, List, [], ◌∷◌, Option, Some, map, length, slice_get, refl, sym, ap, arith, cond, inl, inr, bytes_eq, ◌==◌, get_or, drop, is_some, take, ◌++◌, ◌&&◌, not}
-use Rattle.std.proofs.lemmas.List.{take_more, drop_more, map-append}
-use Rattle.std.proofs.lemmas.Bool.{cases_Bool, eqb-true}
-use Rattle.std.specs.List.{position_from, list_all}
+use Rattle.std.proofs.Common.{◌≡◌, ◌<◌, ◌+◌, ℕ, zero, suc, Bool, true, false, List, [], ◌∷◌, Option, Some, map, length, slice_get, refl, ap, arith, bytes_eq, get_or, drop, take, ◌++◌, ◌&&◌, not}
+use Rattle.std.proofs.lemmas.List.{take_more, map-append}
+use Rattle.std.specs.List.{list_all}
 use Rattle.csv_records.proofs.PlaceFacts.{item_from, field_there}
-use Rattle.olap_meaning.specs.Records.{column_place, field_in, is_csv, missing_column}
+use Rattle.olap_meaning.specs.Records.{column_place, field_in}
 
 -- places that were found one for each item
 pub place_of_item : {A : Type 0} (g : A → Option ℕ) (places : List ℕ) (items : List A) → map (λ place. Some place) places ≡ map g items

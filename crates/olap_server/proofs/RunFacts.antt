@@ -1,15 +1,25 @@
 -- How a run ends, and what it tells.
-use Rattle.std.proofs.Common.{◌≡◌, ◌≢◌, refl, sym, ◌∙◌, ap, subst, ℕ, List, Option, Some, None, IsSome, inl, inr}
+use Rattle.std.proofs.Common.{◌≡◌, ◌≢◌, refl, sym, ◌∙◌, ap, subst, ℕ, List, Option, Some, None, IsSome, inl, inr, [], append-nil}
+use Rattle.std.specs.Prelude.{Err, IfSome, All}
+use Rattle.std.proofs.lemmas.List.Elements.{All-nil}
 use Rattle.olap_meaning.specs.declared.tables.Setting.{Setting}
-use Rattle.olap_meaning.specs.Commands.{CellCommand, Command, Cell, Run}
+use Rattle.olap_meaning.specs.Commands.{Command, Cell, Run}
 use Rattle.olap_meaning.specs.History.{Entry}
-use Rattle.outside.specs.Told.{Shown}
+use Rattle.outside.specs.Event.{Event}
+use Rattle.outside.specs.Fetched.{Fetched}
+use Rattle.outside.specs.Talks.{taken}
+use Rattle.outside.specs.Told.{Files}
+use Rattle.cache_opening.specs.Asking.{Asking, IsOf, Leads, stopped}
+use Rattle.cache_opening.specs.Opening.{opening_from}
+use Rattle.cache_opening.specs.declared.fault.OpenFault.{OpenFault}
+use Rattle.cache_opening.specs.declared.fault.OpenFault.TheVariants as fault
 use Rattle.history_core.specs.History.{HistoryOf}
 use Rattle.history_core.specs.Cache.{CacheOf}
 use Rattle.line_session.specs.declared.session.SessionEnd.{SessionEnd}
+use Rattle.line_session.specs.Conversations.{HasConversed, fresh}
 use Rattle.line_session.specs.Sessions.{IsServed}
 use Rattle.olap_server.specs.Asked.{IsAsked, MayLackMemory}
-use Rattle.olap_server.specs.Run.{AskedTells, CellTells, EndsRun, Flow, IsCutOff, IsLast, IsLastLine, IsTold, OpeningTells, Tells, cache_of}
+use Rattle.olap_server.specs.Run.{Around, AskedTells, EndsRun, IsCutOff, IsLast, IsLastLine, IsTold, OpeningTells, SayTells, Tells, cache_of}
 use Rattle.olap_server.specs.Said.{Said, no_memory}
 use Rattle.olap_server.specs.declared.status.Status.{Status}
 use Rattle.olap_server.specs.declared.status.Status.TheVariants.{Sink}
@@ -24,60 +34,84 @@ cache_is history after same entries =
 
 -- a session was served, and then the last was said
 pub served_run :
-    (opened after : CacheOf) (history : HistoryOf) (start finish : Flow) (sent : Option (List ℕ)) (end : SessionEnd) (status : Status) → history.setting ≡ after.setting → history.entries ≡ after.entries
-    → IsServed 1 end opened after start.left start.sent sent → IsLast end sent finish.sent status → EndsRun opened history start finish status
-served_run opened after history start finish sent end status same entries served last =
-    inl (record { end = end; sent = sent; served = subst (λ (k : CacheOf). IsServed 1 end opened k start.left start.sent sent) (sym (cache_is history after same entries)) served; last = last })
+    (opened after : CacheOf) (history : HistoryOf) (left left_after : Option (List ℕ)) (before talk finish : List Event) (end : SessionEnd) (status : Status) → history.setting ≡ after.setting → history.entries ≡ after.entries
+    → HasConversed before talk fresh 1 opened after end → IsServed 1 end opened after left (taken before) (taken talk) → IsLast end talk finish status → EndsRun opened history left left_after before finish status
+served_run opened after history left left_after before talk finish end status same entries conversed served last =
+    let is = sym (cache_is history after same entries) in
+    inl (record {
+      end = end;
+      talk = talk;
+      conversed = subst (λ (k : CacheOf). HasConversed before talk fresh 1 opened k end) is conversed;
+      served = subst (λ (k : CacheOf). IsServed 1 end opened k left (taken before) (taken talk)) is served;
+      last = last;
+    })
 
 -- there was no memory to begin
 pub unserved_run :
-    (opened after : CacheOf) (history : HistoryOf) (start finish : Flow) (sent : Option (List ℕ)) (status : Status) (said : Said) → history.setting ≡ after.setting → history.entries ≡ after.entries
-    → after ≡ opened → finish.left ≡ start.left → sent ≡ start.sent → said ≡ no_memory → IsLastLine said.status said.text sent finish.sent status → EndsRun opened history start finish status
-unserved_run opened after history start finish sent status said same entries unserved untaken unsent is last =
+    (opened after : CacheOf) (history : HistoryOf) (left left_after : Option (List ℕ)) (before talk finish : List Event) (status : Status) (said : Said) → history.setting ≡ after.setting → history.entries ≡ after.entries
+    → after ≡ opened → talk ≡ before → said ≡ no_memory → IsLastLine said.status said.text talk finish status → left_after ≡ left → EndsRun opened history left left_after before finish status
+unserved_run opened after history left left_after before talk finish status said same entries unserved unsent is last unread =
     inr (record {
       same = cache_is history after same entries ∙ unserved;
-      untaken = untaken;
-      last = subst (λ (o : Option (List ℕ)). IsLastLine no_memory.status no_memory.text o finish.sent status) unsent (subst (λ (s : Said). IsLastLine s.status s.text sent finish.sent status) is last);
+      last = subst (λ (t : List Event). IsLastLine no_memory.status no_memory.text t finish status) unsent (subst (λ (s : Said). IsLastLine s.status s.text talk finish status) is last);
+      unread = unread;
     })
 
--- no command, and nothing else that is told, has the status of a failed write
-asked_never : (command : Option Command) (shown : Shown) (text : List ℕ) → AskedTells command shown Sink text → ⊥
-asked_never None shown text h = absurd (cc (h.0))
-asked_never (Some (Cell command)) shown text h = h
-asked_never (Some (Run file)) shown text h = h
+none_asked : (files : Option Files) → IfSome files (λ all. All (IsOf all) [])
+none_asked None = tt
+none_asked (Some all) = All-nil (IsOf all)
+
+-- nothing was asked for, since there was no memory
+leads_nowhere : {A : Type 0} (files : Option Files) (answers : List Fetched) (asking : Asking A) → Leads files answers answers asking (Err fault.OutOfMemory)
+leads_nowhere files answers asking = record { answers = []; added = sym (append-nil answers); comes = stopped; theirs = none_asked files }
+
+-- what is said of a fault of the opening has its cause
+pub opening_tells : (file : List ℕ) (files : Option Files) (before after : List Fetched) (f : OpenFault) (said : Said) → Leads files before after (opening_from file) (Err f) → SayTells f said → OpeningTells file files before after said.status said.text
+opening_tells file files before after (fault.NoFile name) said leads (inl is) = subst (λ (s : Said). OpeningTells file files before after s.status s.text) (sym is) (fault.NoFile name, (λ e. absurd (cc e)), (leads, refl))
+opening_tells file files before after (fault.NoFile name) said leads (inr (free, is)) = subst (λ (s : Said). OpeningTells file files before after s.status s.text) (sym is) (name, (leads, refl))
+opening_tells file files before after (fault.Unbuilt name) said leads (inl is) = subst (λ (s : Said). OpeningTells file files before after s.status s.text) (sym is) (fault.Unbuilt name, (λ e. absurd (cc e)), (leads, refl))
+opening_tells file files before after (fault.Unbuilt name) said leads (inr (free, is)) = subst (λ (s : Said). OpeningTells file files before after s.status s.text) (sym is) (name, (leads, refl))
+opening_tells file files before after fault.Source said leads is = subst (λ (s : Said). OpeningTells file files before after s.status s.text) (sym is) (leads, refl)
+opening_tells file files before after fault.OutOfMemory said leads is = subst (λ (s : Said). OpeningTells file files before after s.status s.text) (sym is) (fault.OutOfMemory, (λ e. absurd (cc e)), (leads, refl))
+
+-- no command, and nothing else that is told, has the status of a failed send
+asked_never : (command : Option Command) (files : Option Files) (before after : List Fetched) (text : List ℕ) → AskedTells command files before after Sink text → ⊥
+asked_never None files before after text h = absurd (cc (h.1))
+asked_never (Some (Cell command)) files before after text h = h
+asked_never (Some (Run file)) files before after text h = h
 
 -- what is told of words has a cause by what they ask for
-pub by_asked : (words : Words) (command : Option Command) (shown : Shown) (status : Status) (text : List ℕ) → IsAsked words command → AskedTells command shown status text → Tells words shown status text
-by_asked (Read given) command shown status text asked tells = subst (λ (o : Option Command). AskedTells o shown status text) asked tells
-by_asked NotText command shown status text asked tells = subst (λ (o : Option Command). AskedTells o shown status text) asked tells
-by_asked OutOfMemory command shown status text asked tells = absurd asked
+pub by_asked : (words : Words) (command : Option Command) (files : Option Files) (before after : List Fetched) (status : Status) (text : List ℕ) → IsAsked words command → AskedTells command files before after status text → Tells words files before after status text
+by_asked (Read given) command files before after status text asked tells = subst (λ (o : Option Command). AskedTells o files before after status text) asked tells
+by_asked NotText command files before after status text asked tells = subst (λ (o : Option Command). AskedTells o files before after status text) asked tells
+by_asked OutOfMemory command files before after status text asked tells = absurd asked
 
 -- that there was no memory may be told of words that are a command line, or for which there was none
-pub by_memory : (words : Words) (shown : Shown) → MayLackMemory words → Tells words shown no_memory.status no_memory.text
-by_memory (Read given) shown may = of _ may
+pub by_memory : (words : Words) (files : Option Files) (answers : List Fetched) → MayLackMemory words → Tells words files answers answers no_memory.status no_memory.text
+by_memory (Read given) files answers may = of _ may
   where
-    of : (command : Option Command) → IsSome command → AskedTells command shown no_memory.status no_memory.text
+    of : (command : Option Command) → IsSome command → AskedTells command files answers answers no_memory.status no_memory.text
     of None some = absurd (cc some)
-    of (Some (Cell command)) some = refl
-    of (Some (Run file)) some = refl
-by_memory NotText shown may = absurd may
-by_memory OutOfMemory shown may = (refl, refl)
+    of (Some (Cell command)) some = record { asked = inl refl; line_is = refl }
+    of (Some (Run file)) some = (fault.OutOfMemory, (λ e. absurd (cc e)), (leads_nowhere files answers (opening_from file), refl))
+by_memory NotText files answers may = absurd may
+by_memory OutOfMemory files answers may = (refl, refl, refl)
 
--- whatever has a cause, it is not the status of a failed write
-never_sink : (words : Words) (shown : Shown) (text : List ℕ) → Tells words shown Sink text → ⊥
-never_sink (Read given) shown text tells = asked_never _ shown text tells
-never_sink NotText shown text tells = asked_never None shown text tells
-never_sink OutOfMemory shown text tells = absurd (cc (tells.0))
+-- whatever has a cause, it is not the status of a failed send
+never_sink : (words : Words) (files : Option Files) (before after : List Fetched) (text : List ℕ) → Tells words files before after Sink text → ⊥
+never_sink (Read given) files before after text tells = asked_never _ files before after text tells
+never_sink NotText files before after text tells = asked_never None files before after text tells
+never_sink OutOfMemory files before after text tells = absurd (cc (tells.1))
 
-pub no_sink : (words : Words) (shown : Shown) (said : Said) → Tells words shown said.status said.text → said.status ≢ Sink
-no_sink words shown said tells sink = never_sink words shown said.text (subst (λ (s : Status). Tells words shown s said.text) sink tells)
+no_sink : (words : Words) (files : Option Files) (before after : List Fetched) (said : Said) → Tells words files before after said.status said.text → said.status ≢ Sink
+no_sink words files before after said tells sink = never_sink words files before after said.text (subst (λ (s : Status). Tells words files before after s said.text) sink tells)
 
 -- what was to be said was said
-pub is_told : (words : Words) (shown : Shown) (before after : Option (List ℕ)) (status : Status) (said : Said) → Tells words shown said.status said.text → IsLastLine said.status said.text before after status → status ≢ Sink → IsTold words shown before after status
-is_told words shown before after status said tells (inl (same, written)) whole = record { text = said.text; cause = subst (λ (s : Status). Tells words shown s said.text) (sym same) tells; written = written }
-is_told words shown before after status said tells (inr (sink, front)) whole = absurd (whole sink)
+pub is_told : (words : Words) (files : Option Files) (start finish : Around) (status : Status) (said : Said) → Tells words files start.answers finish.answers said.status said.text → IsLastLine said.status said.text start.talk finish.talk status → finish.left ≡ start.left → status ≢ Sink → IsTold words files start finish status
+is_told words files start finish status said tells (inl (same, written)) unread whole = record { text = said.text; cause = subst (λ (s : Status). Tells words files start.answers finish.answers s said.text) (sym same) tells; written = written; unread = unread }
+is_told words files start finish status said tells (inr (sink, front)) unread whole = absurd (whole sink)
 
 -- or only a front of it
-pub is_cut_off : (words : Words) (shown : Shown) (before after : Option (List ℕ)) (status : Status) (said : Said) → Tells words shown said.status said.text → IsLastLine said.status said.text before after status → status ≡ Sink → IsCutOff words shown before after
-is_cut_off words shown before after status said tells (inl (same, written)) sink = absurd (no_sink words shown said tells (sym same ∙ sink))
-is_cut_off words shown before after status said tells (inr (failed, front)) sink = record { status = said.status; text = said.text; cause = tells; written = front }
+pub is_cut_off : (words : Words) (files : Option Files) (start finish : Around) (status : Status) (said : Said) → Tells words files start.answers finish.answers said.status said.text → IsLastLine said.status said.text start.talk finish.talk status → finish.left ≡ start.left → status ≡ Sink → IsCutOff words files start finish
+is_cut_off words files start finish status said tells (inl (same, written)) unread sink = absurd (no_sink words files start.answers finish.answers said tells (sym same ∙ sink))
+is_cut_off words files start finish status said tells (inr (failed, front)) unread sink = record { status = said.status; text = said.text; cause = tells; written = front; unread = unread }

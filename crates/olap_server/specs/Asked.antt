@@ -1,5 +1,5 @@
 -- What the words of a command line ask for, as they were given.
-use Rattle.std.specs.Prelude.{◌≡◌, ⊤, List, Option, None, IsSome, map, string_bytes}
+use Rattle.std.specs.Prelude.{◌≡◌, ⊤, Option, None, IsSome, map, string_bytes}
 use Rattle.olap_meaning.specs.Commands.{Command, Cell, Run, command_of}
 use Rattle.olap_server.specs.declared.command.Command.{Command as Read}
 use Rattle.olap_server.specs.declared.command.Command.TheVariants as read

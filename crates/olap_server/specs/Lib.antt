@@ -4,3 +4,4 @@ pub mod Parted
 pub mod Said
 pub mod Asked
 pub mod Run
+pub mod Complete

@@ -1,27 +1,25 @@
 //! The top call with a counter of its own.
-ghost use Rattle.std.specs.Prelude.{◌≡◌, ◌≢◌, ◌<◌, ℕ, IfSome, None};
+ghost use Rattle.std.specs.Prelude.{◌≡◌, ◌≢◌, ℕ, IfSome, None};
 ghost use Rattle.olap_meaning.specs.Legal.{Legal};
-ghost use Rattle.outside.specs.Told.{shown_of};
-ghost use Rattle.olap_server.specs.Run.{IsCutOff, IsTold, RunsSession, flow_of};
+ghost use Rattle.olap_server.specs.Run.{IsCutOff, IsTold, RunsSession, around_of};
 
 use crate::sessions::Ended;
 use crate::status::Status;
 use crate::top_call::run;
 use crate::words::Words;
 use fact_versions::Steps;
-use outside::{Depot, Sink, Source};
+use outside::{Depot, Link};
 use std::alloc::Global;
 use std::sync::ledger::{Blank, Ledger};
 use std::thread::Threads;
 
-/// Carries out a command line as `run` does, with a counter of steps that begins at 0.
-pub fn carry_out<D: Depot, S: Source, O: Sink, L: Ledger>(
+/// Carries out a command line as `run` does, with a counter of steps of its own, which begins at 0.
+pub fn carry_out<D: Depot, K: Link, L: Ledger>(
     rt: &(impl Threads + Sync),
     alloc: Global,
     words: &Words,
     depot: &mut D,
-    input: &mut S,
-    output: &mut O,
+    link: &mut K,
     blank: Blank,
 ) -> Ended
     requires name { blank.name ≡ L.name }
@@ -29,20 +27,18 @@ pub fn carry_out<D: Depot, S: Source, O: Sink, L: Ledger>(
     requires one { blank.parts ≡ 1 }
     ensures session { IfSome result.history
         (λ history. (steps : ℕ) × RunsSession words.now (D.files depot.old)
-        (flow_of S.left O.taken input.old output.old 0)
-        (flow_of S.left O.taken input.new output.new steps) history result.status) }
+        (around_of D.answers K.talk K.left depot.old link.old)
+        (around_of D.answers K.talk K.left depot.new link.new) 0 steps history result.status) }
     ensures legal { IfSome result.history (λ history. Legal history.setting history.entries) }
-    ensures receive { IfSome result.history (λ _.
-        result.status ≡ Status.Source → S.faults input.old < S.faults input.new) }
-    ensures told { result.history ≡ None → result.status ≢ Status.Sink → IsTold words.now
-        (shown_of D.files D.misses D.faults depot.old depot.new)
-        (O.taken output.old) (O.taken output.new) result.status }
-    ensures cut_off { result.history ≡ None → result.status ≡ Status.Sink → IsCutOff words.now
-        (shown_of D.files D.misses D.faults depot.old depot.new)
-        (O.taken output.old) (O.taken output.new) }
-    ensures failed { result.status ≡ Status.Sink → O.faults output.old < O.faults output.new }
-    ensures untaken { result.history ≡ None → input.new ≡ input.old }
+    ensures told { result.history ≡ None → result.status ≢ Status.Sink
+        → IsTold words.now (D.files depot.old)
+        (around_of D.answers K.talk K.left depot.old link.old)
+        (around_of D.answers K.talk K.left depot.new link.new) result.status }
+    ensures cut_off { result.history ≡ None → result.status ≡ Status.Sink
+        → IsCutOff words.now (D.files depot.old)
+        (around_of D.answers K.talk K.left depot.old link.old)
+        (around_of D.answers K.talk K.left depot.new link.new) }
 {
     let mut steps: Steps<L> = Steps::new(blank);
-    run(rt, alloc, words, depot, input, output, &mut steps)
+    run(rt, alloc, words, depot, link, &mut steps)
 }

@@ -7,6 +7,7 @@ mod cell_command;
 mod command;
 mod counted;
 mod fault;
+pub mod laws;
 mod part;
 mod query;
 mod reply;

@@ -1,11 +1,11 @@
 //! What a run has to say.
-ghost use Rattle.std.specs.Prelude.{◌≡◌, ◌≤◌, ◌<◌, ◌⊎◌, MatchResult};
+ghost use Rattle.std.specs.Prelude.{◌≡◌, MatchResult};
 ghost use Rattle.olap_server.specs.Said.{no_memory};
 ghost use Rattle.olap_server.specs.Run.{IsLastLine};
 
 use crate::status::Status;
 use olap_meaning::{OutOfMemory, Text, Written};
-use outside::{Failed, Sink};
+use outside::Link;
 use std::marker::Model;
 
 /// What a run has to say: how it ended, and the text that it writes.
@@ -57,17 +57,15 @@ impl Reply {
         }
     }
 
-    /// Writes what is to be said, and gives its status, or that of a failed write.
-    pub(crate) fn say<O: Sink>(&self, output: &mut O) -> Status
-        ensures last { IsLastLine self.now.status self.now.text (O.taken output.old)
-            (O.taken output.new) result }
-        ensures count { O.faults output.old ≤ O.faults output.new }
-        ensures cause { result ≡ Status.Sink → (self.now.status ≡ Status.Sink)
-            ⊎ (O.faults output.old < O.faults output.new) }
+    /// Sends what is to be said, and gives its status, or that of a failed send.
+    pub(crate) fn say<K: Link>(&self, link: &mut K) -> Status
+        ensures last { IsLastLine self.now.status self.now.text (K.talk link.old) (K.talk link.new)
+            result }
+        ensures unread { K.left link.new ≡ K.left link.old }
     {
-        match output.write(self.text.as_str().as_bytes()) {
+        match link.send(self.text.as_str().as_bytes()) {
             Ok(()) => self.status,
-            Err(Failed) => Status::Sink,
+            Err(_) => Status::Sink,
         }
     }
 }

@@ -1,9 +1,9 @@
 //! The command `run`: a cache is opened, and a session served over it.
-ghost use Rattle.std.specs.Prelude.{◌≡◌, ◌≤◌, ◌<◌, ◌≢◌, ◌⊎◌, IfSome, IsTrue, None};
+ghost use Rattle.std.specs.Prelude.{◌≢◌, IfSome, IsTrue, None};
 ghost use Rattle.cache_manager.specs.Jobs.{NoneFlies};
 ghost use Rattle.line_session.specs.Sessions.{asker};
 ghost use Rattle.olap_meaning.specs.Legal.{Legal, is_next_call};
-ghost use Rattle.olap_server.specs.Run.{EndsRun, IsLast, IsWithin, SayTells, flow_of};
+ghost use Rattle.olap_server.specs.Run.{EndsRun, IsLast, IsWithin, SayTells};
 
 use crate::reply::Reply;
 use crate::status::Status;
@@ -13,7 +13,7 @@ use fact_versions::Steps;
 use history_core::History;
 use line_session::{SessionEnd, serve};
 use olap_meaning::{OutOfMemory, named_line};
-use outside::{Sink, Source};
+use outside::Link;
 use std::alloc::Global;
 use std::sync::ledger::Ledger;
 
@@ -43,43 +43,36 @@ pub(crate) fn reply_to_opening(alloc: Global, fault: &OpenFault) -> Reply
 }
 
 // What is said at the end of a session, and the status.
-fn last_word<O: Sink>(output: &mut O, end: SessionEnd) -> Status
-    ensures last { IsLast end (O.taken output.old) (O.taken output.new) result }
-    ensures count { O.faults output.old ≤ O.faults output.new }
-    ensures cause { result ≡ Status.Sink → (end ≡ SessionEnd.SendFault)
-        ⊎ (O.faults output.old < O.faults output.new) }
+fn last_word<K: Link>(link: &mut K, end: SessionEnd) -> Status
+    ensures { IsLast end (K.talk link.old) (K.talk link.new) result }
 {
     match end {
         SessionEnd::Quit | SessionEnd::EndOfInput | SessionEnd::LongLine => Status::Done,
-        SessionEnd::ReceiveFault => Reply::fixed(Status::Source, "SOURCE\n").say(output),
+        SessionEnd::ReceiveFault => Reply::fixed(Status::Source, "SOURCE\n").say(link),
         SessionEnd::SendFault => Status::Sink,
-        SessionEnd::TooManyLines => Reply::no_memory().say(output),
+        SessionEnd::TooManyLines => Reply::no_memory().say(link),
     }
 }
 
 /// Serves a session over a cache that was opened.
-pub(crate) fn serve_opened<S: Source, O: Sink, L: Ledger>(
+pub(crate) fn serve_opened<K: Link, L: Ledger>(
     alloc: Global,
     opened: Manager,
-    input: &mut S,
-    output: &mut O,
+    link: &mut K,
     steps: &mut Steps<L>,
 ) -> Ended
     requires call { IsTrue (is_next_call opened.entries (asker 1)) }
     requires idle { NoneFlies opened.entries }
-    ensures served { IfSome result.history (λ history. EndsRun opened history
-        (flow_of S.left O.taken input.old output.old steps.old)
-        (flow_of S.left O.taken input.new output.new steps.new) result.status) }
+    ensures served { IfSome result.history (λ history. EndsRun opened history (K.left link.old)
+        (K.left link.new) (K.talk link.old) (K.talk link.new) result.status) }
     ensures there { result.history ≢ None }
     ensures legal { IfSome result.history (λ history. Legal history.setting history.entries) }
     ensures cost { IfSome result.history (λ history. IsWithin opened history steps.old steps.new) }
-    ensures receive { result.status ≡ Status.Source → S.faults input.old < S.faults input.new }
-    ensures send { result.status ≡ Status.Sink → O.faults output.old < O.faults output.new }
 {
     let mut manager = opened;
-    let status = match serve(alloc, &mut manager, input, output, steps) {
-        Ok(end) => last_word(output, end),
-        Err(OutOfMemory) => Reply::no_memory().say(output),
+    let status = match serve(alloc, &mut manager, link, steps) {
+        Ok(end) => last_word(link, end),
+        Err(OutOfMemory) => Reply::no_memory().say(link),
     };
     manager.steps_are_legal();
     Ended {

@@ -1,15 +1,14 @@
 //! The top call: from the words of a command line to the bytes that are written.
-ghost use Rattle.std.specs.Prelude.{◌≡◌, ◌≢◌, ◌<◌, ◌++◌, ◌⊎◌, IfOk, IfSome, None, codes};
+ghost use Rattle.std.specs.Prelude.{◌≡◌, ◌≢◌, ◌++◌, ◌⊎◌, IfOk, IfSome, None, codes};
 ghost use Rattle.history_core.specs.Cache.{CacheOf};
 ghost use Rattle.cache_opening.specs.Opening.{IsOpened};
 ghost use Rattle.csv_records.specs.Files.{file_records};
 ghost use Rattle.olap_meaning.specs.Texts.{line, plain_text, name_text};
 ghost use Rattle.olap_meaning.specs.FileQuery.{answer_of};
 ghost use Rattle.olap_meaning.specs.Legal.{Legal};
-ghost use Rattle.outside.specs.Told.{shown_of};
 ghost use Rattle.olap_server.specs.Faults.{refusal_text};
 ghost use Rattle.olap_server.specs.Said.{IsSaid, Said, no_memory};
-ghost use Rattle.olap_server.specs.Run.{AnswerTells, CellTells, EndsRun, IsCutOff, IsLastLine, IsTold, IsWithin, OpeningTells, RunsSession, flow_of};
+ghost use Rattle.olap_server.specs.Run.{AnswerTells, CellTells, EndsRun, IsCutOff, IsLastLine, IsTold, IsWithin, OpeningTells, RunsSession, around_of};
 
 use crate::cell::cell_of_csv;
 use crate::cell_command::CellCommand;
@@ -22,102 +21,97 @@ use crate::words::Words;
 use cache_opening::open_cache;
 use fact_versions::Steps;
 use olap_meaning::{CellValue, OutOfMemory, Text, name_text, named_line, plain_text};
-use outside::{Depot, DepotRefusal, Sink, Source};
+use outside::{Depot, DepotRefusal, Link};
 use std::alloc::Global;
 use std::sync::ledger::Ledger;
 use std::thread::Threads;
 
 /// Carries out a command line: its words are those behind the program's name. Where it opens a cache, it serves a session
-/// from the input to the output over it, and gives the cache's history.
+/// over it on a link, and gives the cache's history.
 ///
-/// Threads of the runtime read the parts of a large file for `cell`, and end before the call does.
-pub fn run<D: Depot, S: Source, O: Sink, L: Ledger>(
+/// It takes one link, and no input and output apart, since what is promised of the order of what is received and what is
+/// sent is said of one object. Threads of the runtime read the parts of a large file for `cell`, and end before the call
+/// does.
+pub fn run<D: Depot, K: Link, L: Ledger>(
     rt: &(impl Threads + Sync),
     alloc: Global,
     words: &Words,
     depot: &mut D,
-    input: &mut S,
-    output: &mut O,
+    link: &mut K,
     steps: &mut Steps<L>,
 ) -> Ended
     // Where a cache was opened, a session was served over it.
     ensures session { IfSome result.history (λ history. RunsSession words.now (D.files depot.old)
-        (flow_of S.left O.taken input.old output.old steps.old)
-        (flow_of S.left O.taken input.new output.new steps.new) history result.status) }
+        (around_of D.answers K.talk K.left depot.old link.old)
+        (around_of D.answers K.talk K.left depot.new link.new)
+        steps.old steps.new history result.status) }
     ensures legal { IfSome result.history (λ history. Legal history.setting history.entries) }
-    ensures receive { IfSome result.history (λ _.
-        result.status ≡ Status.Source → S.faults input.old < S.faults input.new) }
 
-    // Where none was, the status has its cause, and its text was written.
-    ensures told { result.history ≡ None → result.status ≢ Status.Sink → IsTold words.now
-        (shown_of D.files D.misses D.faults depot.old depot.new)
-        (O.taken output.old) (O.taken output.new) result.status }
+    // Where none was, the status has its cause, and just its text was sent.
+    ensures told { result.history ≡ None → result.status ≢ Status.Sink
+        → IsTold words.now (D.files depot.old)
+        (around_of D.answers K.talk K.left depot.old link.old)
+        (around_of D.answers K.talk K.left depot.new link.new) result.status }
 
-    // Only the output's own failure cuts a text off.
-    ensures cut_off { result.history ≡ None → result.status ≡ Status.Sink → IsCutOff words.now
-        (shown_of D.files D.misses D.faults depot.old depot.new)
-        (O.taken output.old) (O.taken output.new) }
-    ensures failed { result.status ≡ Status.Sink → O.faults output.old < O.faults output.new }
+    // Only the link's own failure cuts a text off.
+    ensures cut_off { result.history ≡ None → result.status ≡ Status.Sink
+        → IsCutOff words.now (D.files depot.old)
+        (around_of D.answers K.talk K.left depot.old link.old)
+        (around_of D.answers K.talk K.left depot.new link.new) }
 
-    // Then nothing was taken from the input, and no row was read.
-    ensures untaken { result.history ≡ None → input.new ≡ input.old }
+    // Then no row was read.
     ensures no_step { result.history ≡ None → steps.new ≡ steps.old }
 {
     match read_words(alloc, words) {
-        Ok(Some(Command::Run(file))) => run_session(alloc, file, depot, input, output, steps),
+        Ok(Some(Command::Run(file))) => run_session(alloc, file, depot, link, steps),
         Ok(Some(Command::Cell(command))) => {
             let reply = reply_to_command(rt, alloc, &command, depot);
-            without_cache(output, &reply)
+            without_cache(link, &reply)
         }
-        Ok(None) => without_cache(output, &Reply::fixed(Status::Usage, "USAGE\n")),
-        Err(OutOfMemory) => without_cache(output, &Reply::no_memory()),
+        Ok(None) => without_cache(link, &Reply::fixed(Status::Usage, "USAGE\n")),
+        Err(OutOfMemory) => without_cache(link, &Reply::no_memory()),
     }
 }
 
 // Says how a command ended that opened no cache.
-fn without_cache<O: Sink>(output: &mut O, reply: &Reply) -> Ended
-    ensures last { IsLastLine reply.now.status reply.now.text (O.taken output.old)
-        (O.taken output.new) result.status }
+fn without_cache<K: Link>(link: &mut K, reply: &Reply) -> Ended
+    ensures last { IsLastLine reply.now.status reply.now.text (K.talk link.old) (K.talk link.new)
+        result.status }
     ensures none { result.history ≡ None }
-    ensures cause { result.status ≡ Status.Sink → (reply.now.status ≡ Status.Sink)
-        ⊎ (O.faults output.old < O.faults output.new) }
+    ensures unread { K.left link.new ≡ K.left link.old }
 {
     Ended {
-        status: reply.say(output),
+        status: reply.say(link),
         history: None,
     }
 }
 
 // The command `run`, by its schema's file.
-fn run_session<D: Depot, S: Source, O: Sink, L: Ledger>(
+fn run_session<D: Depot, K: Link, L: Ledger>(
     alloc: Global,
     file: &str,
     depot: &mut D,
-    input: &mut S,
-    output: &mut O,
+    link: &mut K,
     steps: &mut Steps<L>,
 ) -> Ended
     ensures session { IfSome result.history (λ history. (opened : CacheOf)
-        × IsOpened (D.files depot.old) file.now opened
-        × EndsRun opened history
-        (flow_of S.left O.taken input.old output.old steps.old)
-        (flow_of S.left O.taken input.new output.new steps.new) result.status
+        × IsOpened (D.files depot.old) (D.answers depot.old) (D.answers depot.new) file.now opened
+        × EndsRun opened history (K.left link.old) (K.left link.new) (K.talk link.old)
+        (K.talk link.new) result.status
         × IsWithin opened history steps.old steps.new) }
     ensures legal { IfSome result.history (λ history. Legal history.setting history.entries) }
-    ensures receive { IfSome result.history
-        (λ _. result.status ≡ Status.Source → S.faults input.old < S.faults input.new) }
     ensures told { result.history ≡ None → (said : Said)
-        × OpeningTells file.now (shown_of D.files D.misses D.faults depot.old depot.new) said.status said.text
-        × IsLastLine said.status said.text (O.taken output.old) (O.taken output.new) result.status }
-    ensures failed { result.status ≡ Status.Sink → O.faults output.old < O.faults output.new }
-    ensures untaken { result.history ≡ None → input.new ≡ input.old }
+        × OpeningTells file.now (D.files depot.old) (D.answers depot.old) (D.answers depot.new)
+        said.status said.text
+        × IsLastLine said.status said.text (K.talk link.old) (K.talk link.new) result.status }
+    ensures unread { result.history ≡ None → K.left link.new ≡ K.left link.old }
     ensures no_step { result.history ≡ None → steps.new ≡ steps.old }
 {
     match open_cache(alloc, depot, file) {
-        Ok(manager) => serve_opened(alloc, manager, input, output, steps),
+        Ok(manager) => serve_opened(alloc, manager, link, steps),
         Err(fault) => {
             let reply = reply_to_opening(alloc, &fault);
-            without_cache(output, &reply)
+            without_cache(link, &reply)
         }
     }
 }
@@ -129,8 +123,8 @@ fn reply_to_command<D: Depot>(
     command: &CellCommand<'_>,
     depot: &mut D,
 ) -> Reply
-    ensures { CellTells command.now
-        (shown_of D.files D.misses D.faults depot.old depot.new) result.status result.text }
+    ensures { CellTells command.now (D.files depot.old) (D.answers depot.old)
+        (D.answers depot.new) result.status result.text }
 {
     match depot.fetch(alloc, command.file()) {
         Ok(bytes) => reply_to_file(rt, alloc, command, bytes.as_slice()),

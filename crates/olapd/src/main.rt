@@ -2,7 +2,7 @@
 #![tactic(auto)]
 
 use olap_server::{Words, carry_out};
-use outside::{FolderDepot, StdSink, StdSource};
+use outside::{FolderDepot, Pair, StdSink, StdSource};
 use std::io::ErrorKind;
 use std::marker::Brand;
 use std::process::ExitCode;
@@ -26,16 +26,14 @@ fn given(words: io::Result<Vec<String>>) -> Words {
 
 fn main(rt: HostRuntime) -> ExitCode {
     let mut depot = FolderDepot::new(&rt);
-    let mut input = StdSource::new(&rt);
-    let mut output = StdSink::new(&rt);
+    let mut link = Pair::new(StdSource::new(&rt), StdSink::new(&rt));
     let words = given(words(&rt));
-    let ended = carry_out::<_, _, _, Brand>(
+    let ended = carry_out::<_, _, Brand>(
         &rt,
         rt.alloc(),
         &words,
         &mut depot,
-        &mut input,
-        &mut output,
+        &mut link,
         Blank::new(1),
     );
     ExitCode::from(ended.status.number())

@@ -1,2 +1,7 @@
+pub mod Event
+pub mod Noted
+pub mod Talks
+pub mod Fetched
+pub mod Asked
 pub mod Told
 pub mod Memory

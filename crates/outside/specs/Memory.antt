@@ -1,6 +1,8 @@
 -- What the objects in memory hold, and which of their calls are to fail.
-use Rattle.std.specs.Prelude.{ℕ, ◌==◌, ◌+◌, ◌-◌, ◌^◌, List, Bool, true, Option, None, Some, nat_le, not, ◌&&◌, length, min, max}
+use Rattle.std.specs.Prelude.{ℕ, ◌==◌, ◌+◌, ◌-◌, ◌^◌, List, Bool, true, Option, None, Some, nat_le, not, ◌&&◌, length, min, max, if◌then◌else◌}
 use Rattle.std.specs.List.{list_any}
+use Rattle.outside.specs.Event.{Event}
+use Rattle.outside.specs.Fetched.{Fetched}
 
 -- the number of the next call, from 0, and the numbers of those that are to fail
 pub record Planned : Type 0 where
@@ -15,30 +17,33 @@ fails_next plan = list_any (λ n. n == plan.next) plan.failing
 abbrev pub counted : Planned → Planned
 counted plan = record { next = min (plan.next + 1) (2 ^ 64 - 1); failing = plan.failing }
 
--- what a sink in memory has taken, its plan, how many bytes it still takes where that is limited, and its faults
+-- what has passed of a sink in memory, its plan, and how many bytes it still takes
 pub record Filled : Type 0 where
-  pub taken : List ℕ
+  pub talk : List Event
   pub plan : Planned
-  pub room : Option ℕ
-  pub faults : ℕ
+  pub room : ℕ
 
--- a sink has room for so many bytes
-abbrev pub has_room : Option ℕ → ℕ → Bool
-has_room None size = true
-has_room (Some room) size = nat_le size room
-
--- the plan lets the next write pass
+-- the plan lets the next write pass, and there is room for its bytes
 abbrev pub lets_pass : Filled → List ℕ → Bool
-lets_pass sink bytes = not (fails_next sink.plan) && has_room sink.room (length bytes)
+lets_pass sink bytes = not (fails_next sink.plan) && nat_le (length bytes) sink.room
+
+-- how many of so many bytes the next write takes: none where it is to fail
+abbrev pub fits : Filled → ℕ → ℕ
+fits sink size = if fails_next sink.plan then 0 else min size sink.room
 
 -- what a source in memory has left, its plan, how many bytes it still gives, and how many one call gives at most,
--- where those are limited, and its faults
+-- where those are limited, and what has passed
 pub record Supplied : Type 0 where
   pub left : List ℕ
   pub plan : Planned
   pub room : Option ℕ
   pub most : Option ℕ
-  pub faults : ℕ
+  pub talk : List Event
+
+-- there is room for so many bytes
+abbrev pub has_room : Option ℕ → ℕ → Bool
+has_room None size = true
+has_room (Some room) size = nat_le size room
 
 -- as many as this, or the limit where that is less
 abbrev pub at_most : Option ℕ → ℕ → ℕ
@@ -63,9 +68,8 @@ abbrev pub lets_read : Supplied → ℕ → Bool
 lets_read source size =
     not (fails_next source.plan) && has_room source.room (min 1 (wanted source size))
 
--- what a depot in memory holds, its plan, and its counts
+-- what a depot in memory holds, its plan, and what it was asked for
 pub record Stored : Type 0 where
   pub files : List (List ℕ × List ℕ)
   pub plan : Planned
-  pub faults : ℕ
-  pub misses : ℕ
+  pub answers : List Fetched

@@ -1,5 +1,6 @@
 //! Where files come from.
-ghost use Rattle.std.specs.Prelude.{◌≡◌, ◌<◌, ◌≤◌, IfOk, IfSome, IsErrOf, Some, None, ℕ, List, Option};
+ghost use Rattle.std.specs.Prelude.{◌≡◌, ◌++◌, ◌∷◌, [], IfOk, IfSome, IsErrOf, Some, None, ℕ, List, Option};
+ghost use Rattle.outside.specs.Fetched.{Fetched};
 ghost use Rattle.outside.specs.Told.{file_named};
 
 use olap_meaning::List;
@@ -21,24 +22,18 @@ pub enum DepotRefusal {
 
 /// Where files come from, as a folder.
 pub trait Depot {
+    // Each name that it was asked for so far, with what came: known of every object.
+    ghost answers: { Self → List Fetched };
+
     // The files, each with its name, where it tells them.
     ghost files: { Self → Option (List (List ℕ × List ℕ)) };
 
-    // How often a read has failed.
-    ghost faults: { Self → ℕ };
-
-    // How often a file was asked for that is not there.
-    ghost misses: { Self → ℕ };
-
     /// The bytes of the file of this name.
     fn fetch(&mut self, alloc: Global, name: &str) -> Result<List<u8>, DepotRefusal>
+        ensures answered { answers self.new ≡ answers self.old ++ (name.now, result) ∷ [] }
+        ensures same_files { files self.new ≡ files self.old }
         ensures file { IfOk result
             (λ bytes. IfSome (files self.old) (λ all. file_named all name.now ≡ Some bytes)) }
-        ensures same_files { files self.new ≡ files self.old }
-        ensures fault_count { faults self.old ≤ faults self.new }
-        ensures miss_count { misses self.old ≤ misses self.new }
-        ensures failed { IsErrOf result DepotRefusal.Failed → faults self.old < faults self.new }
-        ensures missing { IsErrOf result DepotRefusal.Missing → misses self.old < misses self.new }
         ensures not_there { IsErrOf result DepotRefusal.Missing
             → IfSome (files self.old) (λ all. file_named all name.now ≡ None) };
 }

@@ -1,26 +1,25 @@
 //! Where bytes go.
-ghost use Rattle.std.specs.Prelude.{◌≡◌, ◌<◌, ◌≤◌, OnOk, OnErr, ℕ, List, Option};
-ghost use Rattle.outside.specs.Told.{with_bytes, TakesFront};
+ghost use Rattle.std.specs.Prelude.{◌≡◌, ◌≤◌, ◌++◌, ◌∷◌, [], OnOk, IfErr, List, length};
+ghost use Rattle.outside.specs.Event.{Event, took};
+ghost use Rattle.outside.specs.Talks.{cut};
 
 use thiserror::Error;
 
-/// A call on an object outside has failed.
+/// A write has failed, and so many of its bytes were taken before.
 #[derive(Clone, Copy, Debug, PartialEq, Eq, Error)]
-#[error("a call on an object outside has failed")]
-pub struct Failed;
+#[error("a write has failed behind {taken} bytes")]
+pub struct CutOff {
+    pub taken: usize,
+}
 
 /// Where bytes go, as the standard output.
 pub trait Sink {
-    // The bytes that it has taken, where it tells them.
-    ghost taken: { Self → Option (List ℕ) };
+    // All that it has taken so far, and its failures: known of every object.
+    ghost talk: { Self → List Event };
 
-    // How often it has failed.
-    ghost faults: { Self → ℕ };
-
-    /// Sends bytes. A failure may come after some of them were taken.
-    fn write(&mut self, bytes: &[u8]) -> Result<(), Failed>
-        ensures all { OnOk result (taken self.new ≡ with_bytes (taken self.old) bytes.now) }
-        ensures front { OnErr result (TakesFront (taken self.old) (taken self.new) bytes.now) }
-        ensures count { faults self.old ≤ faults self.new }
-        ensures cause { OnErr result (faults self.old < faults self.new) };
+    /// Takes all the bytes, or a front of them and fails.
+    fn write(&mut self, bytes: &[u8]) -> Result<(), CutOff>
+        ensures took { OnOk result (talk self.new ≡ talk self.old ++ took bytes.now ∷ []) }
+        ensures within { IfErr result (λ e. e.taken ≤ length bytes.now) }
+        ensures cut { IfErr result (λ e. talk self.new ≡ talk self.old ++ cut e.taken bytes.now) };
 }

@@ -1,132 +1,176 @@
 //! The real outside: a folder's files, and the standard input and output. These few lines are the trusted edge: a
 //! contract can not say what a file or the input holds, or where printed bytes go.
+ghost use Rattle.std.specs.Prelude.{◌≡◌, ◌≤◌, [], IfSome, length};
 
 use crate::depot::{Depot, DepotRefusal};
-use crate::fault_count::FaultCount;
-use crate::sink::{Failed, Sink};
-use crate::source::Source;
+use crate::fetches::{Fetches, noted};
+use crate::sink::{CutOff, Sink};
+use crate::source::{Failed, Source};
+use crate::talk::{Note, Talk, note_cut, note_read};
 use olap_meaning::List;
 use std::alloc::Global;
-use std::io::{ErrorKind, Input, Read, Write};
+use std::io::{ErrorKind, Input, Print, Read, Write};
 use std::rt::Files;
 use std::{fs, io};
 
-/// The standard output. It tells nothing of what it has taken.
+/// The standard input. It does not tell what is left.
 #[derive(Drop)]
-pub struct StdSink<'a, R> {
+pub struct StdSource<'a, R> {
     rt: &'a R,
-    faults: FaultCount,
+    talk: Talk,
 }
 
-impl<'a, R: Print> StdSink<'a, R> {
-    pub fn new(rt: &'a R) -> StdSink<'a, R> {
-        StdSink {
+impl<'a, R: Input> StdSource<'a, R> {
+    pub fn new(rt: &'a R) -> StdSource<'a, R>
+        ensures { result.talk.events ≡ [] }
+    {
+        StdSource {
             rt,
-            faults: FaultCount::new(),
+            talk: Talk::new(),
         }
     }
 }
 
-impl<'a, R: Print> Sink for StdSink<'a, R> {
+// How often a call is tried that a signal cuts short each time.
+const TRIES: u32 = 64;
+
+// Reads once, and again where a signal cut it short.
+fn read_once<R: Input>(rt: &R, into: &mut [u8]) -> Option<usize>
+    ensures size { length into.new ≡ length into.old }
+    ensures within { IfSome result (λ n. n ≤ length into.old) }
+{
+    let mut reader = rt.reader();
+    for _ in 0..TRIES {
+        match reader.read(into) {
+            Ok(n) => return Some(n),
+            Err(e) if e.kind() == ErrorKind::Interrupted => {}
+            Err(_) => return None,
+        }
+    }
+    None
+}
+
+impl<'a, R: Input> Source for StdSource<'a, R> {
     ghost use Rattle.std.specs.Prelude.{None};
 
-    ghost taken = { λ _. None };
+    ghost talk = { λ s. s.talk.events };
 
-    ghost faults = { λ s. s.faults };
+    ghost left = { λ _. None };
 
-    fn write(&mut self, bytes: &[u8]) -> Result<(), Failed> {
-        match io::writer(self.rt).write_all(bytes) {
-            Ok(()) => Ok(()),
-            Err(_) => {
-                self.faults = self.faults.risen();
+    fn read(&mut self, into: &mut [u8]) -> Result<usize, Failed> {
+        match read_once(self.rt, into) {
+            Some(n) => {
+                note_read(&mut self.talk, n, into);
+                Ok(n)
+            }
+            None => {
+                self.talk = self.talk.and(&Note::GaveNot);
                 Err(Failed)
             }
         }
     }
 }
 
-/// The standard input. It tells nothing of what is left.
+/// The standard output.
 #[derive(Drop)]
-pub struct StdSource<'a, R> {
+pub struct StdSink<'a, R> {
     rt: &'a R,
-    faults: FaultCount,
+    talk: Talk,
 }
 
-impl<'a, R: Input> StdSource<'a, R> {
-    pub fn new(rt: &'a R) -> StdSource<'a, R> {
-        StdSource {
+impl<'a, R: Print> StdSink<'a, R> {
+    pub fn new(rt: &'a R) -> StdSink<'a, R>
+        ensures { result.talk.events ≡ [] }
+    {
+        StdSink {
             rt,
-            faults: FaultCount::new(),
+            talk: Talk::new(),
         }
     }
 }
 
-// How often a read is tried that a signal cuts short each time.
-const TRIES: u32 = 64;
-
-impl<'a, R: Input> Source for StdSource<'a, R> {
-    ghost use Rattle.std.specs.Prelude.{None};
-
-    ghost left = { λ _. None };
-
-    ghost faults = { λ s. s.faults };
-
-    fn read(&mut self, into: &mut [u8]) -> Result<usize, Failed> {
-        let mut reader = self.rt.reader();
-        for _ in 0..TRIES {
-            match reader.read(into) {
-                Ok(n) => return Ok(n),
-                Err(e) if e.kind() == ErrorKind::Interrupted => {}
-                Err(_) => break,
-            }
+// Writes some of the bytes, and again where a signal cut it short. Gives their number: 0 where none could be written.
+fn write_some<R: Print>(rt: &R, bytes: &[u8]) -> usize
+    ensures { result ≤ length bytes.now }
+{
+    for _ in 0..TRIES {
+        match io::writer(rt).write(bytes) {
+            Ok(n) => return n,
+            Err(e) if e.kind() == ErrorKind::Interrupted => {}
+            Err(_) => return 0,
         }
-        self.faults = self.faults.risen();
-        Err(Failed)
+    }
+    0
+}
+
+// Writes the bytes piece by piece, and gives how many were written before one could not be.
+fn write_front<R: Print>(rt: &R, bytes: &[u8]) -> usize
+    ensures { result ≤ length bytes.now }
+{
+    let mut done = 0;
+    for _ in 0..bytes.len() {
+        let n = write_some(rt, &bytes[done..]);
+        if n == 0 {
+            break;
+        }
+        done += n;
+    }
+    done
+}
+
+impl<'a, R: Print> Sink for StdSink<'a, R> {
+    ghost talk = { λ s. s.talk.events };
+
+    fn write(&mut self, bytes: &[u8]) -> Result<(), CutOff> {
+        let taken = write_front(self.rt, bytes);
+        if taken < bytes.len() {
+            note_cut(&mut self.talk, taken, bytes);
+            return Err(CutOff { taken });
+        }
+        self.talk = self.talk.and(&Note::Took(bytes));
+        Ok(())
     }
 }
 
-/// The files of the working folder; a name may be any path. It tells nothing of them.
+/// The files of the working folder; a name may be any path. It tells nothing of them beforehand.
 #[derive(Drop)]
 pub struct FolderDepot<'a, R> {
     rt: &'a R,
-    faults: FaultCount,
-    misses: FaultCount,
+    fetches: Fetches,
 }
 
 impl<'a, R: Files + AllocGlobal> FolderDepot<'a, R> {
-    pub fn new(rt: &'a R) -> FolderDepot<'a, R> {
+    pub fn new(rt: &'a R) -> FolderDepot<'a, R>
+        ensures { result.fetches.answers ≡ [] }
+    {
         FolderDepot {
             rt,
-            faults: FaultCount::new(),
-            misses: FaultCount::new(),
+            fetches: Fetches::new(),
         }
+    }
+}
+
+// The bytes of a file, or why they are not given.
+fn read_file<R: Files + AllocGlobal>(rt: &R, name: &str) -> Result<List<u8>, DepotRefusal> {
+    match fs::read(rt, name) {
+        Ok(bytes) => Ok(List::from_vec(bytes)),
+        Err(e) => Err(match e.kind() {
+            ErrorKind::OutOfMemory => DepotRefusal::OutOfMemory,
+            ErrorKind::NotFound => DepotRefusal::Missing,
+            _ => DepotRefusal::Failed,
+        }),
     }
 }
 
 impl<'a, R: Files + AllocGlobal> Depot for FolderDepot<'a, R> {
     ghost use Rattle.std.specs.Prelude.{None};
 
+    ghost answers = { λ d. d.fetches.answers };
+
     ghost files = { λ _. None };
 
-    ghost faults = { λ d. d.faults };
-
-    ghost misses = { λ d. d.misses };
-
     fn fetch(&mut self, _alloc: Global, name: &str) -> Result<List<u8>, DepotRefusal> {
-        let refusal = match fs::read(self.rt, name) {
-            Ok(bytes) => return Ok(List::from_vec(bytes)),
-            Err(e) => e.kind(),
-        };
-        match refusal {
-            ErrorKind::OutOfMemory => Err(DepotRefusal::OutOfMemory),
-            ErrorKind::NotFound => {
-                self.misses = self.misses.risen();
-                Err(DepotRefusal::Missing)
-            }
-            _ => {
-                self.faults = self.faults.risen();
-                Err(DepotRefusal::Failed)
-            }
-        }
+        let came = read_file(self.rt, name);
+        noted(&mut self.fetches, name, came)
     }
 }

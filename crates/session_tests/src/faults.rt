@@ -1,7 +1,7 @@
 //! What faults say of themselves.
 use olap_meaning::Text;
 use olap_server::CellFault;
-use outside::{DepotRefusal, Failed};
+use outside::{CutOff, DepotRefusal, Failed};
 use std::test::Fail;
 
 #[test]
@@ -31,6 +31,10 @@ fn faults_say_what_they_are(rt: HostRuntime) -> Result<(), Fail> {
     assert_eq!(rt;
         Failed.to_string(alloc)?.as_str(),
         "a call on an object outside has failed"
+    );
+    assert_eq!(rt;
+        CutOff { taken: 3 }.to_string(alloc)?.as_str(),
+        "a write has failed behind 3 bytes"
     );
     Ok(())
 }

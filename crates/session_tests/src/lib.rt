@@ -5,12 +5,18 @@
 #[cfg(test)]
 mod faults;
 #[cfg(test)]
+mod links;
+#[cfg(test)]
 mod long_lines;
 #[cfg(test)]
 mod queries;
+#[cfg(test)]
+mod recorded;
 #[cfg(test)]
 mod short_lines;
 #[cfg(test)]
 mod sources;
 #[cfg(test)]
 mod standard;
+#[cfg(test)]
+mod talks;

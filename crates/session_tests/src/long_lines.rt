@@ -1,31 +1,30 @@
 //! Lines near the limit, and inputs longer than what a reader holds.
+use crate::links::receiving;
 use input_lines::{LineReader, Next};
 use olap_meaning::{List, OutOfMemory};
-use outside::{Calls, MemorySource};
+use outside::{Calls, MemoryLink, MemorySource};
 use std::alloc::Global;
 use std::test::Fail;
 
-// Pieces one behind the other, each so many times the same byte and then an end.
-fn source(
+// A link over which pieces come, one behind the other, each so many times the same byte and then an end.
+fn link(
     alloc: Global,
     pieces: &[(u8, usize, &[u8])],
     most: Option<usize>,
-) -> Result<MemorySource, OutOfMemory> {
+) -> Result<MemoryLink, OutOfMemory> {
     let mut bytes = Vec::new(alloc);
     for (byte, size, end) in pieces {
         let piece = vec![in alloc; *byte; *size]?;
         bytes.extend_from_slice(piece.as_slice())?;
         bytes.extend_from_slice(*end)?;
     }
-    Ok(MemorySource::new(List::from_vec(bytes), Calls::passing(alloc), None, most))
+    let source = MemorySource::new(List::from_vec(bytes), Calls::passing(alloc), None, most);
+    receiving(alloc, source)
 }
 
 // What a reader answers next, the length of the line, and the byte that stands at each of its places.
-fn next_line(
-    reader: &mut LineReader,
-    source: &mut MemorySource,
-) -> (Option<Next>, usize, Option<u8>) {
-    let next = reader.next(source).ok();
+fn next_line(reader: &mut LineReader, link: &mut MemoryLink) -> (Option<Next>, usize, Option<u8>) {
+    let next = reader.next(link).ok();
     let line = reader.line();
     let same = line
         .first()
@@ -53,10 +52,10 @@ fn a_line_has_65_536_bytes_before_its_lf(rt: HostRuntime) -> Result<(), Fail> {
     let alloc = rt.alloc();
     for (size, end, length) in &LIMITS {
         for most in [None, Some(1_000)] {
-            let mut source = source(alloc, &[(b'x', *size, *end)], most)?;
+            let mut link = link(alloc, &[(b'x', *size, *end)], most)?;
             let mut reader = LineReader::new(alloc)?;
-            let (first, given, _) = next_line(&mut reader, &mut source);
-            let (second, _, _) = next_line(&mut reader, &mut source);
+            let (first, given, _) = next_line(&mut reader, &mut link);
+            let (second, _, _) = next_line(&mut reader, &mut link);
             match length {
                 Some(length) => {
                     assert_eq!(rt; first, Some(Next::Line));
@@ -88,15 +87,15 @@ const PIECES: [(u8, usize, &[u8]); 6] = [
 fn a_long_input_is_given_line_by_line(rt: HostRuntime) -> Result<(), Fail> {
     let alloc = rt.alloc();
     for most in [None, Some(70_000), Some(4_096), Some(7)] {
-        let mut source = source(alloc, &PIECES, most)?;
+        let mut link = link(alloc, &PIECES, most)?;
         let mut reader = LineReader::new(alloc)?;
         for (byte, size, _) in &PIECES {
-            let (next, given, same) = next_line(&mut reader, &mut source);
+            let (next, given, same) = next_line(&mut reader, &mut link);
             assert_eq!(rt; next, Some(Next::Line));
             assert_eq!(rt; given, *size);
             assert_eq!(rt; same, Some(*byte));
         }
-        let (last, _, _) = next_line(&mut reader, &mut source);
+        let (last, _, _) = next_line(&mut reader, &mut link);
         assert_eq!(rt; last, Some(Next::End));
     }
     Ok(())

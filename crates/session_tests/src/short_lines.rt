@@ -1,7 +1,8 @@
 //! Short inputs, cut in many ways.
+use crate::links::{numbered, receiving};
 use input_lines::{LineReader, Next};
 use olap_meaning::{List, OutOfMemory};
-use outside::{Calls, Failed, MemorySource, Source};
+use outside::{Failed, MemoryLink, MemorySource};
 use std::alloc::{AllocError, Global};
 use std::test::Fail;
 
@@ -9,14 +10,14 @@ use std::test::Fail;
 const MOST_ANSWERS: u32 = 20;
 
 // What a reader answers: each line with a bar behind it, an exclamation mark for a failure, a dot at the end.
-fn answers<S: Source>(
+fn answers(
     alloc: Global,
     reader: &mut LineReader,
-    source: &mut S,
+    link: &mut MemoryLink,
 ) -> Result<Vec<u8>, AllocError> {
     let mut told = Vec::new(alloc);
     for _ in 0..MOST_ANSWERS {
-        match reader.next(source) {
+        match reader.next(link) {
             Ok(Next::Line) => {
                 told.extend_from_slice(reader.line())?;
                 told.push(b'|')?;
@@ -32,19 +33,16 @@ fn answers<S: Source>(
     Ok(told)
 }
 
-// A source of these bytes, of which one read gives at most so many, and one call fails.
-fn source(
+// A link over which these bytes come, of which one receive gives at most so many, and one fails.
+fn link(
     alloc: Global,
     bytes: &[u8],
     most: Option<usize>,
     failing: Option<u64>,
-) -> Result<MemorySource, OutOfMemory> {
+) -> Result<MemoryLink, OutOfMemory> {
     let bytes = List::from_vec(Vec::from_slice(alloc, bytes)?);
-    let mut numbers = List::new(alloc);
-    if let Some(number) = failing {
-        numbers.push(number)?;
-    }
-    Ok(MemorySource::new(bytes, Calls::failing(numbers), None, most))
+    let source = MemorySource::new(bytes, numbered(alloc, failing)?, None, most);
+    receiving(alloc, source)
 }
 
 // An input, and what a reader of it answers.
@@ -71,8 +69,8 @@ fn lines_are_the_same_however_the_input_is_cut(rt: HostRuntime) -> Result<(), Fa
     for (input, told) in &INPUTS {
         for most in 0..15 {
             let mut reader = LineReader::new(alloc)?;
-            let mut source = source(alloc, *input, Some(most), None)?;
-            let given = answers(alloc, &mut reader, &mut source)?;
+            let mut link = link(alloc, *input, Some(most), None)?;
+            let given = answers(alloc, &mut reader, &mut link)?;
             assert_eq!(rt; given.as_slice(), *told);
         }
     }
@@ -100,8 +98,8 @@ fn a_failure_loses_nothing(rt: HostRuntime) -> Result<(), Fail> {
     let alloc = rt.alloc();
     for (input, most, failing, told) in &FAILURES {
         let mut reader = LineReader::new(alloc)?;
-        let mut source = source(alloc, *input, *most, Some(*failing))?;
-        let given = answers(alloc, &mut reader, &mut source)?;
+        let mut link = link(alloc, *input, *most, Some(*failing))?;
+        let given = answers(alloc, &mut reader, &mut link)?;
         assert_eq!(rt; given.as_slice(), *told);
     }
     Ok(())

@@ -1,4 +1,2 @@
-mod CallFacts
-mod JobFacts
 mod LevelFacts
 mod SampleFacts

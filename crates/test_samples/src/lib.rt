@@ -1,29 +1,20 @@
-//! For tests: the sample files and catalogs, and what plays on them. It stands apart from the tests, since a crate with
-//! tests is proved twice.
+//! For tests: the sample files and catalogs, and readers of tables of what is asked of them and said. It stands apart
+//! from the tests, since a crate with tests is proved twice.
 #![tactic(auto)]
 
 ghost use Rattle.std.specs.Prelude.{◌≡◌, length, map, IfSome};
 ghost use Rattle.olap_meaning.specs.Schema.{IsWithinLimits, levels_of};
 
 pub mod batches;
-mod checks;
 pub mod files;
 mod jobs;
-mod lines;
+pub mod lines;
 pub mod loads;
 pub mod members;
-mod mirror;
-mod opened;
-pub mod plain;
-mod played;
-pub mod random;
+pub mod opened;
 pub mod requests;
-pub mod runs;
 mod samples;
-pub mod small;
-pub mod steps;
 pub mod tables;
-mod told;
 
 use catalog_tables::Table;
 use cube_schema::read_schema;

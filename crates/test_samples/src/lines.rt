@@ -6,7 +6,7 @@ use std::alloc::{AllocError, Global};
 use std::test::Fail;
 
 /// What a line asks.
-pub(crate) fn asked(line: &str) -> &str {
+pub fn asked(line: &str) -> &str {
     match line.split_once(" => ") {
         Some((asked, _)) => asked,
         None => line,
@@ -14,7 +14,7 @@ pub(crate) fn asked(line: &str) -> &str {
 }
 
 /// Adds a line of a table.
-pub(crate) fn add_line(table: &mut String, asked: &str, said: &str) -> Result<(), AllocError> {
+pub fn add_line(table: &mut String, asked: &str, said: &str) -> Result<(), AllocError> {
     table.push_str(asked)?;
     table.push_str(" => ")?;
     table.push_str(said)?;
@@ -22,12 +22,12 @@ pub(crate) fn add_line(table: &mut String, asked: &str, said: &str) -> Result<()
 }
 
 /// The words of a text, parted at white space.
-pub(crate) fn words(alloc: Global, text: &str) -> Result<Vec<&str>, AllocError> {
+pub fn words(alloc: Global, text: &str) -> Result<Vec<&str>, AllocError> {
     text.split_whitespace().collect(alloc)
 }
 
 /// A number of 32 bits.
-pub(crate) fn number(word: &str) -> Result<u32, Fail> {
+pub fn number(word: &str) -> Result<u32, Fail> {
     match word.parse::<u32>() {
         Ok(number) => Ok(number),
         Err(_) => Err(Fail::from("no number")),
@@ -35,7 +35,7 @@ pub(crate) fn number(word: &str) -> Result<u32, Fail> {
 }
 
 /// A number of 16 bits.
-pub(crate) fn place(word: &str) -> Result<u16, Fail> {
+pub fn place(word: &str) -> Result<u16, Fail> {
     match word.parse::<u16>() {
         Ok(number) => Ok(number),
         Err(_) => Err(Fail::from("no place")),
@@ -43,7 +43,7 @@ pub(crate) fn place(word: &str) -> Result<u16, Fail> {
 }
 
 /// A column with its value, or with any.
-pub(crate) type Only = (u16, Option<u32>);
+pub type Only = (u16, Option<u32>);
 
 fn only(word: &str) -> Result<Only, Fail> {
     let Some((column, value)) = word.split_once('=') else {
@@ -57,7 +57,7 @@ fn only(word: &str) -> Result<Only, Fail> {
 }
 
 /// A measure, and columns with their values: `1:0=0,1=*`.
-pub(crate) fn measured(alloc: Global, word: &str) -> Result<(u16, Vec<Only>), Fail> {
+pub fn measured(alloc: Global, word: &str) -> Result<(u16, Vec<Only>), Fail> {
     let Some((measure, columns)) = word.split_once(':') else {
         return Err(Fail::from("no measure"));
     };

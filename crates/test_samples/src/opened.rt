@@ -14,7 +14,7 @@ use std::sync::Arc;
 use std::test::Fail;
 
 /// The catalog of the sample schema and tables.
-pub(crate) fn open(alloc: Global) -> Result<Arc<Catalog>, Fail> {
+pub fn open(alloc: Global) -> Result<Arc<Catalog>, Fail> {
     match open_catalog(alloc, schema(), &[times(), stores()]) {
         Some(catalog) => Ok(Arc::new(alloc, catalog)?),
         None => Err(Fail::from("no catalog")),
@@ -51,7 +51,7 @@ pub(crate) fn batch_of(
 }
 
 /// The batch of a file of the first cube.
-pub(crate) fn read(alloc: Global, catalog: &Catalog, file: &[u8]) -> Result<Batch, Fail>
+pub fn read(alloc: Global, catalog: &Catalog, file: &[u8]) -> Result<Batch, Fail>
     ensures known { IfOk result (λ batch. 0 < length catalog.now.cubes) }
     ensures fit { IfOk result (λ batch. IsTrue (is_batch catalog.now 0 batch)) }
 {

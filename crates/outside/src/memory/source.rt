@@ -1,12 +1,13 @@
 //! A source in memory.
-ghost use Rattle.std.specs.Prelude.{◌≡◌, ◌+◌, ◌-◌, ◌<◌, ◌≤◌, ◌++◌, ◌↔◌, [], IsTrue, IsOk, OnErr, IfOk, Some, length, take, drop, is_ok, option_map, if◌then◌else◌};
+ghost use Rattle.std.specs.Prelude.{◌≡◌, ◌+◌, ◌-◌, ◌<◌, ◌≤◌, ◌++◌, ◌∷◌, ◌↔◌, [], IsTrue, IsOk, OnErr, IfOk, Some, length, take, drop, option_map};
+ghost use Rattle.outside.specs.Event.{gave_not};
+ghost use Rattle.outside.specs.Talks.{shown};
 ghost use Rattle.outside.specs.Memory.{counted, given, in_one, lets_read};
 ghost use Rattle.outside.specs.Told.{TakenOff};
 
 use super::{Calls, fitting, left};
-use crate::fault_count::FaultCount;
-use crate::sink::Failed;
-use crate::source::Source;
+use crate::source::{Failed, Source};
+use crate::talk::{Note, Talk, note_read};
 use olap_meaning::List;
 use std::marker::Model;
 
@@ -19,7 +20,7 @@ pub struct MemorySource {
     calls: Calls,
     room: Option<u64>,
     most: Option<usize>,
-    faults: FaultCount,
+    talk: Talk,
 }
 
 impl Model for MemorySource {
@@ -28,7 +29,7 @@ impl Model for MemorySource {
 
     ghost Value = { Supplied };
 
-    ghost view = { λ s. record { left = drop s.place s.bytes; plan = s.calls; room = s.room; most = s.most; faults = s.faults } };
+    ghost view = { λ s. record { left = drop s.place s.bytes; plan = s.calls; room = s.room; most = s.most; talk = s.talk.events } };
 
     ghost invariant = { λ s. s.place ≤ length s.bytes };
 }
@@ -44,7 +45,7 @@ impl MemorySource {
         most: Option<usize>,
     ) -> MemorySource
         ensures { result
-            ≡ record { left = bytes; plan = calls; room = room; most = most; faults = 0 } }
+            ≡ record { left = bytes; plan = calls; room = room; most = most; talk = [] } }
     {
         MemorySource {
             bytes,
@@ -52,7 +53,7 @@ impl MemorySource {
             calls,
             room,
             most,
-            faults: FaultCount::new(),
+            talk: Talk::new(),
         }
     }
 }
@@ -82,37 +83,37 @@ impl Source for MemorySource {
 
     ghost left = { λ s. Some s.left };
 
-    ghost faults = { λ s. s.faults };
+    ghost talk = { λ s. s.talk };
 
     fn read(&mut self, into: &mut [u8]) -> Result<usize, Failed>
+        requires room { 0 < length into.old }
         ensures size { length into.new ≡ length into.old }
         ensures within { IfOk result (λ n. n ≤ length into.old) }
+        ensures gave { IfOk result (λ n. self.new.talk ≡ self.old.talk ++ shown n into.new) }
+        ensures failed { OnErr result (self.new.talk ≡ self.old.talk ++ gave_not ∷ []) }
         ensures front { IfOk result
             (λ n. TakenOff (Some self.old.left) (Some self.new.left) (take n into.new)) }
         ensures rest { IfOk result (λ n. drop n into.new ≡ drop n into.old) }
-        ensures end { IfOk result (λ n. n ≡ 0 → 0 < length into.old → self.old.left ≡ []) }
+        ensures end { IfOk result (λ n. n ≡ 0 → self.old.left ≡ []) }
         ensures untaken { OnErr result (self.new.left ≡ self.old.left) }
         ensures untouched { OnErr result (into.new ≡ into.old) }
-        ensures count { self.old.faults ≤ self.new.faults }
-        ensures cause { OnErr result (self.old.faults < self.new.faults) }
         ensures given { IfOk result (λ n. n ≡ given self.old (length into.old)) }
         ensures planned { IsOk result ↔ IsTrue (lets_read self.old (length into.old)) }
         ensures plan { self.new.plan ≡ counted self.old.plan }
         ensures room { IfOk result (λ n. self.new.room ≡ option_map (λ r. r - n) self.old.room) }
         ensures same_room { OnErr result (self.new.room ≡ self.old.room) }
         ensures most { self.new.most ≡ self.old.most }
-        ensures fault { self.new.faults
-            ≡ (if is_ok result then self.old.faults else self.old.faults + 1) }
     {
         let wanted = piece(self.most, into.len().min(self.bytes.len() - self.place));
         let size = fitting(self.room, wanted);
         if self.calls.fails() || (size == 0 && wanted > 0) {
-            self.faults = self.faults.risen();
+            self.talk = self.talk.and(&Note::GaveNot);
             return Err(Failed);
         }
         copy_front(into, self.bytes.as_slice(), self.place, size);
         self.place += size;
         self.room = left(self.room, size);
+        note_read(&mut self.talk, size, into);
         Ok(size)
     }
 }

@@ -1,5 +1,5 @@
--- That `open_cubes` ensures `setting`, `fault`, `same_files`, `fault_count`, `miss_count` and `ok`, may call
--- `open_cube` and keeps what holds at each turn.
+-- That `open_cubes` ensures `setting`, `ok`, `fault` and `same_files`, may call `open_cube`, and keeps what holds at
+-- each turn.
 use Rattle.std.proofs.Common.{◌≤◌, ◌<◌, ◌∙◌, ap, arith, length, refl}
 use Rattle.std.proofs.lemmas.Result.{err_from_is_err_and}
 use Rattle.cache_opening.proofs.BatchSteps.{all_appended, batch_fails, more_appended, next_cube, none_appended}
@@ -8,17 +8,15 @@ use Rattle.cache_opening.proofs.cubes.open_cubes.Goals as goal
 pub loop-cube-init : goal.loop-cube-init
 loop-cube-init g c = record {
   same = refl;
-  misses = omega arith;
-  faults = omega arith;
   setting = refl;
-  are = none_appended (g.D.Depot.files c.args.depot.now) c.args.manager.now c.requires;
+  are = none_appended (g.D.Depot.files c.args.depot.now) (g.D.Depot.answers c.args.depot.now) c.args.manager.now c.requires;
 }
 
 pub open_cube-requires : goal.open_cube-requires
 open_cube-requires g c =
     let same = c.deref.ensures ∙ c.catalog.ensures in
     let below : c.loop-cube.cube < length c.args.manager.now.setting.catalog.cubes = omega (arith, c.loop-cube-test.true, c.cube_count-count.ensures.count, ap (λ k. length k.cubes) same) in
-    record { next = next_cube (g.D.Depot.files c.args.depot.now) c.args.manager.now.setting c.loop-cube.manager c.loop-cube.cube c.loop-cube.invariant.setting c.requires.whole c.requires.limit below c.loop-cube.invariant.are }
+    record { next = next_cube (g.D.Depot.files c.args.depot.now) (g.D.Depot.answers c.args.depot.now) (g.D.Depot.answers c.loop-cube.depot) c.args.manager.now.setting c.loop-cube.manager c.loop-cube.cube c.loop-cube.invariant.setting c.requires.whole c.loop-cube.invariant.are c.requires.limit below }
 
 pub returns-in_err-open_cube-clause-setting : goal.returns-in_err-open_cube-clause-setting
 returns-in_err-open_cube-clause-setting g c = c.open_cube.ensures.setting ∙ c.loop-cube.invariant.setting
@@ -26,27 +24,19 @@ returns-in_err-open_cube-clause-setting g c = c.open_cube.ensures.setting ∙ c.
 pub returns-in_err-open_cube-clause-fault : goal.returns-in_err-open_cube-clause-fault
 returns-in_err-open_cube-clause-fault g c =
     let p = err_from_is_err_and c.from_residual.result c.from_residual.ensures.1 in rw (p.1, p.2)
-    (batch_fails (g.D.Depot.files c.args.depot.now) (g.D.Depot.files c.loop-cube.depot) (g.D.Depot.misses c.args.depot.now) (g.D.Depot.misses c.loop-cube.depot) (g.D.Depot.misses c.open_cube.new.depot) (g.D.Depot.faults c.args.depot.now) (g.D.Depot.faults c.loop-cube.depot) (g.D.Depot.faults c.open_cube.new.depot) c.args.manager.now.setting.catalog c.loop-cube.cube c.loop-cube.manager.entries c.in_err-open_cube.field-0.0
-    c.loop-cube.invariant.same c.loop-cube.invariant.misses c.loop-cube.invariant.faults c.loop-cube.invariant.are (rw c.loop-cube.invariant.setting at c.in_err-open_cube.ensures.fault))
+    (batch_fails (g.D.Depot.files c.args.depot.now) (g.D.Depot.answers c.args.depot.now) (g.D.Depot.answers c.loop-cube.depot) (g.D.Depot.answers c.open_cube.new.depot) c.args.manager.now.setting.catalog c.loop-cube.cube c.loop-cube.manager.entries
+    c.loop-cube.invariant.are c.in_err-open_cube.field-0.0 (rw (c.loop-cube.invariant.same, c.loop-cube.invariant.setting) at c.in_err-open_cube.ensures.fault))
 
 pub returns-in_err-open_cube-clause-same_files : goal.returns-in_err-open_cube-clause-same_files
 returns-in_err-open_cube-clause-same_files g c = c.open_cube.ensures.same_files ∙ c.loop-cube.invariant.same
 
-pub returns-in_err-open_cube-clause-fault_count : goal.returns-in_err-open_cube-clause-fault_count
-returns-in_err-open_cube-clause-fault_count g c = omega (arith, c.open_cube.ensures.fault_count, c.loop-cube.invariant.faults)
-
-pub returns-in_err-open_cube-clause-miss_count : goal.returns-in_err-open_cube-clause-miss_count
-returns-in_err-open_cube-clause-miss_count g c = omega (arith, c.open_cube.ensures.miss_count, c.loop-cube.invariant.misses)
-
 pub loop-cube-preserved : goal.loop-cube-preserved
 loop-cube-preserved g c = record {
   same = c.open_cube.ensures.same_files ∙ c.loop-cube.invariant.same;
-  misses = omega (arith, c.open_cube.ensures.miss_count, c.loop-cube.invariant.misses);
-  faults = omega (arith, c.open_cube.ensures.fault_count, c.loop-cube.invariant.faults);
   setting = c.open_cube.ensures.setting ∙ c.loop-cube.invariant.setting;
   are =
-      more_appended (g.D.Depot.files c.args.depot.now) c.args.manager.now.setting.catalog c.loop-cube.cube c.loop-cube.manager.entries c.open_cube.new.manager.entries c.loop-cube.invariant.are
-      (rw (← c.loop-cube.invariant.same, ← c.loop-cube.invariant.setting) c.in_ok-open_cube.ensures.ok);
+      more_appended (g.D.Depot.files c.args.depot.now) (g.D.Depot.answers c.args.depot.now) (g.D.Depot.answers c.loop-cube.depot) (g.D.Depot.answers c.open_cube.new.depot) c.args.manager.now.setting.catalog c.loop-cube.cube c.loop-cube.manager.entries
+      c.loop-cube.invariant.are c.open_cube.new.manager.entries (rw (c.loop-cube.invariant.same, c.loop-cube.invariant.setting) at c.in_ok-open_cube.ensures.ok);
 }
 
 pub returns-clause-setting : goal.returns-clause-setting
@@ -56,13 +46,7 @@ pub returns-clause-ok : goal.returns-clause-ok
 returns-clause-ok g c =
     let same = c.deref.ensures ∙ c.catalog.ensures in
     let end : length c.args.manager.now.setting.catalog.cubes ≤ c.loop-cube.cube = omega (arith, c.loop-cube-test.false, c.cube_count-count.ensures.count, ap (λ k. length k.cubes) same) in
-    all_appended (g.D.Depot.files c.args.depot.now) c.args.manager.now.setting c.loop-cube.manager c.loop-cube.cube c.loop-cube.invariant.setting c.requires.whole end c.loop-cube.invariant.are
+    all_appended (g.D.Depot.files c.args.depot.now) (g.D.Depot.answers c.args.depot.now) (g.D.Depot.answers c.loop-cube.depot) c.args.manager.now.setting c.loop-cube.manager c.loop-cube.cube c.loop-cube.invariant.setting c.requires.whole c.loop-cube.invariant.are end
 
 pub returns-clause-same_files : goal.returns-clause-same_files
 returns-clause-same_files g c = c.loop-cube.invariant.same
-
-pub returns-clause-fault_count : goal.returns-clause-fault_count
-returns-clause-fault_count g c = c.loop-cube.invariant.faults
-
-pub returns-clause-miss_count : goal.returns-clause-miss_count
-returns-clause-miss_count g c = c.loop-cube.invariant.misses

@@ -1,5 +1,5 @@
 -- An ask adds loads that are all ended and then the answer, and reads the rows of the loads that it starts.
-use Rattle.std.proofs.Common.{◌≡◌, ◌∙◌, ◌+◌, ◌++◌, ◌∷◌, [], List, ap, sym, refl, subst, arith, length, map}
+use Rattle.std.proofs.Common.{◌≡◌, ◌∙◌, ◌+◌, ◌++◌, ◌∷◌, [], List, ap, sym, refl, subst, arith, inl, length, map}
 use Rattle.std.proofs.lemmas.List.{append-nil}
 use Rattle.olap_meaning.specs.History.{Answer, Entry}
 use Rattle.history_core.specs.Answers.{source_of}
@@ -9,7 +9,7 @@ use Rattle.cache_manager.specs.Runs.{apart}
 use Rattle.line_session.specs.Asks.{AddsLoads}
 use Rattle.cache_manager.proofs.JobFacts.{apart_numbers}
 use Rattle.line_session.proofs.Asking.{only_started, source_or_none, still_idle, still_next}
-use Rattle.line_session.proofs.Parts.{adds_loads, read_by_starts, read_in_all, ready_again}
+use Rattle.line_session.proofs.Parts.{adds_loads, all_delivered, read_by_starts, read_in_all, ready_again}
 use Rattle.line_session.proofs.desk.ask.Goals as goal
 
 pub end_loads-requires-clause-different : goal.end_loads-requires-clause-different
@@ -21,7 +21,7 @@ end_loads-requires-clause-complete g c = only_started c.args.manager.now.entries
 
 pub returns-then-not-end_loads-clause-err : goal.returns-then-not-end_loads-clause-err
 returns-then-not-end_loads-clause-err g c =
-    adds_loads c.args.manager.now c.look.new.self c.end_loads.new.manager (loads_for c.args.manager.now c.args.who c.args.cells.now) c.look.ensures.setting (rw c.in-Load.is at c.in_ok-answer.ensures.load_entries) c.end_loads.ensures.setting c.end_loads.ensures.ended c.end_loads.ensures.closed
+    adds_loads c.args.manager.now c.look.new.self c.end_loads.new.manager c.args.who c.args.cells.now c.look.ensures.setting (rw c.in-Load.is at c.in_ok-answer.ensures.load_entries) c.end_loads.ensures.setting c.end_loads.ensures.ended c.end_loads.ensures.closed
 
 pub returns-then-not-end_loads-clause-at_most : goal.returns-then-not-end_loads-clause-at_most
 returns-then-not-end_loads-clause-at_most g c =
@@ -31,7 +31,7 @@ returns-then-not-end_loads-clause-at_most g c =
 
 pub look-requires-in-Load-clause-call : goal.look-requires-in-Load-clause-call
 look-requires-in-Load-clause-call g c =
-    let adds = adds_loads c.args.manager.now c.look.new.self c.end_loads.new.manager (loads_for c.args.manager.now c.args.who c.args.cells.now) c.look.ensures.setting (rw c.in-Load.is at c.in_ok-answer.ensures.load_entries) c.end_loads.ensures.setting c.end_loads.ensures.ended c.end_loads.ensures.closed in
+    let adds = adds_loads c.args.manager.now c.look.new.self c.end_loads.new.manager c.args.who c.args.cells.now c.look.ensures.setting (rw c.in-Load.is at c.in_ok-answer.ensures.load_entries) c.end_loads.ensures.setting c.end_loads.ensures.ended c.end_loads.ensures.closed in
     still_next c.args.manager.now.entries c.end_loads.new.manager.entries adds.0 c.args.who adds.1.entries adds.1.parts c.requires.call
 
 pub unreachable-requires : goal.unreachable-requires
@@ -44,7 +44,8 @@ pub returns-in-Ready-clause-answered : goal.returns-in-Ready-clause-answered
 returns-in-Ready-clause-answered g c = record {
   loads = [];
   middle = c.args.manager.now;
-  loaded = record { setting = refl; entries = sym (append-nil c.args.manager.now.entries); parts = refl; closed = c.requires.idle };
+  loaded = record { setting = refl; entries = sym (append-nil c.args.manager.now.entries); own = inl refl; parts = refl; closed = c.requires.idle };
+  delivered = inl refl;
   setting = c.look.ensures.setting;
   entries = rw c.in-Ready.is at c.in_ok-answer.ensures.answer_entry;
   answered = rw c.in-Ready.is at c.in_ok-answer.ensures.answer;
@@ -55,11 +56,12 @@ returns-in-Ready-clause-idle g c = still_idle c.args.manager.now.entries c.look.
 
 pub returns-in-Ok-Ready-clause-answered : goal.returns-in-Ok-Ready-clause-answered
 returns-in-Ok-Ready-clause-answered g c =
-    let adds = adds_loads c.args.manager.now c.look.new.self c.end_loads.new.manager (loads_for c.args.manager.now c.args.who c.args.cells.now) c.look.ensures.setting (rw c.in-Load.is at c.in_ok-answer.ensures.load_entries) c.end_loads.ensures.setting c.end_loads.ensures.ended c.end_loads.ensures.closed in
+    let adds = adds_loads c.args.manager.now c.look.new.self c.end_loads.new.manager c.args.who c.args.cells.now c.look.ensures.setting (rw c.in-Load.is at c.in_ok-answer.ensures.load_entries) c.end_loads.ensures.setting c.end_loads.ensures.ended c.end_loads.ensures.closed in
     record {
       loads = adds.0;
       middle = c.end_loads.new.manager;
       loaded = adds.1;
+      delivered = all_delivered c.args.manager.now c.look.new.self c.end_loads.new.manager c.args.who c.args.cells.now c.in-Load.jobs adds.0 (rw c.in-Load.is at c.in_ok-answer.ensures.load_entries) (c.end_loads.ensures.delivered c.if-not-end_loads.false) adds.1.entries;
       setting = c.look-in-Load.ensures.setting ∙ (c.end_loads.ensures.setting ∙ c.look.ensures.setting);
       entries = rw c.in-Ok-Ready.field-0-is at c.in-Ok-Ready.ensures.answer_entry;
       answered = rw c.in-Ok-Ready.field-0-is at c.in-Ok-Ready.ensures.answer;
@@ -87,8 +89,8 @@ returns-in-Ok-Ready-clause-at_most g c =
 
 pub returns-in-Err-clause-err : goal.returns-in-Err-clause-err
 returns-in-Err-clause-err g c =
-    let adds = adds_loads c.args.manager.now c.look.new.self c.end_loads.new.manager (loads_for c.args.manager.now c.args.who c.args.cells.now) c.look.ensures.setting (rw c.in-Load.is at c.in_ok-answer.ensures.load_entries) c.end_loads.ensures.setting c.end_loads.ensures.ended c.end_loads.ensures.closed in
-    (adds.0, subst (λ (m : CacheOf). AddsLoads c.args.manager.now m adds.0) (sym c.in-Err.ensures.unchanged) adds.1)
+    let adds = adds_loads c.args.manager.now c.look.new.self c.end_loads.new.manager c.args.who c.args.cells.now c.look.ensures.setting (rw c.in-Load.is at c.in_ok-answer.ensures.load_entries) c.end_loads.ensures.setting c.end_loads.ensures.ended c.end_loads.ensures.closed in
+    (adds.0, subst (λ (m : CacheOf). AddsLoads c.args.manager.now m c.args.who c.args.cells.now adds.0) (sym c.in-Err.ensures.unchanged) adds.1)
 
 pub returns-in-Err-clause-at_most : goal.returns-in-Err-clause-at_most
 returns-in-Err-clause-at_most g c =

@@ -1,0 +1,72 @@
+-- What a depot is asked for, one file after another, and what comes of its answers.
+use Rattle.std.specs.Prelude.{◌≡◌, ◌++◌, ℕ, List, [], ◌∷◌, All, Option, Some, None, Result, Ok, Err, IfSome, ⊤}
+use Rattle.outside.specs.Fetched.{Fetched}
+use Rattle.outside.specs.Told.{Files, file_named}
+use Rattle.outside.specs.declared.depot.DepotRefusal.TheVariants as depot
+use Rattle.cache_opening.specs.declared.fault.OpenFault.{OpenFault}
+use Rattle.cache_opening.specs.declared.fault.OpenFault.TheVariants.{NoFile, Unbuilt, Source, OutOfMemory}
+
+-- what is still to be asked for: nothing, where a value is made or a file is refused; or the file of this name, and then
+-- what its bytes call for
+pub data Asking (A : Type 0) : Type 0 where
+  made : A → Asking A
+  refused : List ℕ → Asking A
+  ask : List ℕ → (List ℕ → Asking A) → Asking A
+
+infixl 10 ◌>>=◌
+-- one asking and then the next, which follows from the value that the first has made; a refusal ends both
+abbrev pub ◌>>=◌ : {A B : Type 0} → Asking A → (A → Asking B) → Asking B
+(made x) >>= next = next x
+(refused file) >>= next = refused file
+(ask name rest) >>= next = ask name (λ bytes. rest bytes >>= next)
+
+-- the file of this name is asked for, and its bytes are the value
+abbrev pub bytes_of : List ℕ → Asking (List ℕ)
+bytes_of name = ask name (λ bytes. made bytes)
+
+-- what a reader makes of the bytes of a file; whatever the fault that it finds, the file is refused
+abbrev pub read_by : {A Fault : Type 0} → List ℕ → Result A Fault → Asking A
+read_by file (Ok x) = made x
+read_by file (Err fault) = refused file
+
+-- Comes asking answers outcome: just these names were asked for, in this order, these answers came, and this is the
+-- outcome
+pub data Comes {A : Type 0} : Asking A → List Fetched → Result A OpenFault → Type 0 where
+  -- a value is made, and nothing more is asked for
+  value : {x : A} → Comes (made x) [] (Ok x)
+  -- a file is refused, and nothing more is asked for
+  unbuilt : {file : List ℕ} → Comes (refused file) [] (Err (Unbuilt file))
+  -- the bytes of a file came, and then what they call for
+  found : {name bytes : List ℕ} {rest : List ℕ → Asking A} {answers : List Fetched} {outcome : Result A OpenFault}
+      → Comes (rest bytes) answers outcome → Comes (ask name rest) ((name, Ok bytes) ∷ answers) outcome
+  -- no file has the name
+  missing : {name : List ℕ} {rest : List ℕ → Asking A}
+      → Comes (ask name rest) ((name, Err depot.Missing) ∷ []) (Err (NoFile name))
+  -- the file could not be read
+  failed : {name : List ℕ} {rest : List ℕ → Asking A}
+      → Comes (ask name rest) ((name, Err depot.Failed) ∷ []) (Err Source)
+  -- the depot had no memory for the file
+  wanting : {name : List ℕ} {rest : List ℕ → Asking A}
+      → Comes (ask name rest) ((name, Err depot.OutOfMemory) ∷ []) (Err OutOfMemory)
+  -- no file has the name, and there was no memory to tell which
+  unnamed : {name : List ℕ} {rest : List ℕ → Asking A}
+      → Comes (ask name rest) ((name, Err depot.Missing) ∷ []) (Err OutOfMemory)
+  -- there was no memory to go on, and nothing more is asked for
+  stopped : {asking : Asking A} → Comes asking [] (Err OutOfMemory)
+
+-- an answer is that of these files: the bytes are those of the file of this name, or no file has this name. A failure
+-- and want of memory say nothing of the files
+abbrev pub IsOf : Files → Fetched → Type 0
+IsOf all (name, Ok bytes) = file_named all name ≡ Some bytes
+IsOf all (name, Err depot.Missing) = file_named all name ≡ None
+IsOf all (name, Err depot.Failed) = ⊤
+IsOf all (name, Err depot.OutOfMemory) = ⊤
+
+-- between two states of a depot just those answers came that lead to this outcome. Where the depot tells its files,
+-- each answer is theirs
+pub record Leads {A : Type 0} (files : Option Files) (before after : List Fetched)
+    (asking : Asking A) (outcome : Result A OpenFault) : Type 0 where
+  pub answers : List Fetched
+  pub added : after ≡ before ++ answers
+  pub comes : Comes asking answers outcome
+  pub theirs : IfSome files (λ all. All (IsOf all) answers)

@@ -1,0 +1,2 @@
+mod CallFacts
+mod JobFacts

@@ -1,0 +1,146 @@
+//! A manager with the jobs of its loads in flight.
+ghost use Rattle.std.specs.Prelude.{◌≡◌, ◌≤◌, IfOk, Some};
+ghost use Rattle.segment_load.specs.Loads.{body_of, rows_in};
+
+use crate::checks::{are_known, is_next};
+use cache_manager::{Look, Manager};
+use fact_versions::{AppendFault, Snapshot, Steps};
+use history_core::{Answer, Appended, History};
+use olap_meaning::{Cell, CubeId, ROW_LIMIT, Who};
+use segment_load::{Delivery, LoadJob, run_load};
+use std::alloc::Global;
+use std::marker::{Brand, Model};
+use std::sync::ledger::{Blank, Ledger};
+use std::test::Fail;
+use test_samples::opened::{open, read};
+
+/// A manager over the sample catalog, and the jobs of its loads in flight, oldest first.
+#[derive(Drop)]
+pub(crate) struct Played {
+    alloc: Global,
+    manager: Manager,
+    jobs: Vec<LoadJob>,
+}
+
+impl Model for Played {
+    ghost use Rattle.history_core.specs.Cache.{CacheOf};
+    ghost use Rattle.test_plays.specs.Played.{AreJobsOf};
+
+    ghost Value = { CacheOf };
+
+    ghost view = { λ a. a.manager };
+
+    ghost invariant = { λ a. AreJobsOf a.manager a.jobs.items };
+}
+
+fn run<L: Ledger>(alloc: Global, job: LoadJob, blank: Blank) -> Result<Delivery, LoadJob>
+    requires name { blank.name ≡ L.name }
+    requires parts { blank.parts ≡ L.parts }
+    requires one { blank.parts ≡ 1 }
+    ensures load { IfOk result (λ delivery. delivery.load ≡ job.load) }
+    ensures who { IfOk result (λ delivery. delivery.who ≡ job.who) }
+    ensures body { IfOk result (λ delivery. Some delivery.body ≡ body_of job.catalog job.header (rows_in job.snapshot)) }
+{
+    let mut steps: Steps<L> = Steps::new(blank);
+    run_load(alloc, job, &mut steps)
+}
+
+impl Played {
+    pub(crate) fn new(alloc: Global, row_limit: u32) -> Result<Played, Fail>
+        requires { row_limit ≤ ROW_LIMIT }
+    {
+        match Manager::new(alloc, open(alloc)?, row_limit, 0) {
+            Ok(manager) => Ok(Played {
+                alloc,
+                manager,
+                jobs: Vec::new(alloc),
+            }),
+            Err(_) => Err(Fail::from("no memory")),
+        }
+    }
+
+    pub(crate) fn history(&self) -> &History {
+        self.manager.history()
+    }
+
+    pub(crate) fn into_history(self) -> History {
+        self.manager.into_history()
+    }
+
+    pub(crate) fn snapshot(&self) -> Result<Snapshot, Fail> {
+        if self.manager.catalog().cube_count() == 0 {
+            return Err(Fail::from("no cube"));
+        }
+        match self.manager.snapshot(CubeId(0)) {
+            Ok(snapshot) => Ok(snapshot),
+            Err(_) => Err(Fail::from("no memory")),
+        }
+    }
+
+    pub(crate) fn is_idle(&self) -> bool {
+        self.manager.is_idle()
+    }
+
+    pub(crate) fn jobs(&self) -> &[LoadJob] {
+        self.jobs.as_slice()
+    }
+
+    pub(crate) fn append(
+        &mut self,
+        who: Who,
+        file: &[u8],
+    ) -> Result<Result<Appended, AppendFault>, Fail> {
+        if !is_next(self.manager.history(), who) {
+            return Err(Fail::from("not the next call"));
+        }
+        let batch = read(self.alloc, self.manager.catalog(), file)?;
+        self.manager.steps_are_legal();
+        Ok(self.manager.append(who, CubeId(0), batch))
+    }
+
+    /// The answer to cells, none where loads are to be run, whose jobs are kept.
+    pub(crate) fn look(&mut self, who: Who, cells: &[Cell]) -> Result<Option<Answer>, Fail> {
+        if !is_next(self.manager.history(), who) || !self.manager.is_idle() {
+            return Err(Fail::from("no call for now"));
+        }
+        if !are_known(self.manager.catalog(), cells) {
+            return Err(Fail::from("an unknown cell"));
+        }
+        self.manager.steps_are_legal();
+        match self.manager.look(who, cells) {
+            Ok(Look::Ready(answer)) => Ok(Some(answer)),
+            Ok(Look::Load(jobs)) => {
+                self.jobs = jobs.into_vec();
+                Ok(None)
+            }
+            Err(_) => Err(Fail::from("no memory")),
+        }
+    }
+
+    /// Runs and delivers the oldest load in flight.
+    pub(crate) fn deliver(&mut self) -> Result<(), Fail> {
+        if self.jobs.is_empty() {
+            return Err(Fail::from("no job"));
+        }
+        let job = self.jobs.remove(0);
+        self.manager.steps_are_legal();
+        match run::<Brand>(self.alloc, job, Blank::new(1)) {
+            Ok(delivery) => {
+                self.manager.deliver(delivery);
+                Ok(())
+            }
+            Err(_job) => Err(Fail::from("no memory")),
+        }
+    }
+
+    /// Gives the oldest load in flight up.
+    pub(crate) fn abandon(&mut self) -> Result<(), Fail> {
+        if self.jobs.is_empty() {
+            return Err(Fail::from("no job"));
+        }
+        let job = self.jobs.remove(0);
+        self.manager.steps_are_legal();
+        self.manager.abandon(job);
+        Ok(())
+    }
+}

@@ -1,0 +1,114 @@
+//! Whole lists of calls on a manager of their own.
+ghost use Rattle.std.specs.Prelude.{◌≡◌, ◌≤◌, All, IfOk};
+ghost use Rattle.cache_manager.specs.Runs.{MayCall};
+
+use crate::checks::are_known;
+use crate::steps::{cells_of, file_of};
+use crate::told::told_reply;
+use cache_manager::{Call, Run, run_calls};
+use fact_versions::Steps;
+use olap_catalog::Catalog;
+use olap_meaning::{CubeId, List, OutOfMemory, ROW_LIMIT};
+use std::alloc::Global;
+use std::marker::Brand;
+use std::sync::Arc;
+use std::sync::ledger::{Blank, Ledger};
+use std::test::Fail;
+use test_samples::lines::{add_line, asked, number, words};
+use test_samples::opened::{open, read};
+
+fn append(alloc: Global, catalog: &Catalog, seat: &str, file: &str) -> Result<Call, Fail>
+    ensures { IfOk result (λ call. MayCall catalog.now call) }
+{
+    let seat = number(seat)?;
+    let file = file_of(file)?;
+    Ok(Call::Append {
+        seat,
+        cube: CubeId(0),
+        batch: read(alloc, catalog, file)?,
+    })
+}
+
+fn look(alloc: Global, catalog: &Catalog, seat: &str, cells: &[&str]) -> Result<Call, Fail>
+    ensures { IfOk result (λ call. MayCall catalog.now call) }
+{
+    let seat = number(seat)?;
+    let cells = cells_of(alloc, cells)?;
+    if !are_known(catalog, cells.as_slice()) {
+        return Err(Fail::from("an unknown cell"));
+    }
+    Ok(Call::Look { seat, cells })
+}
+
+fn call_of(alloc: Global, catalog: &Catalog, asked: &str) -> Result<Call, Fail>
+    ensures { IfOk result (λ call. MayCall catalog.now call) }
+{
+    let words = words(alloc, asked)?;
+    let [first, second, rest @ ..] = words.as_slice() else {
+        return Err(Fail::from("no call"));
+    };
+    match (*first, rest) {
+        ("append", [file]) => append(alloc, catalog, second, file),
+        ("look", cells) => look(alloc, catalog, second, cells),
+        ("deliver", []) => Ok(Call::Deliver {
+            job: number(second)? as usize,
+        }),
+        ("abandon", []) => Ok(Call::Abandon {
+            job: number(second)? as usize,
+        }),
+        _ => Err(Fail::from("no call")),
+    }
+}
+
+fn calls_of(alloc: Global, catalog: &Catalog, table: &str) -> Result<List<Call>, Fail>
+    ensures { IfOk result (λ calls. All (MayCall catalog.now) calls) }
+{
+    let mut calls = List::new(alloc);
+    for line in table.lines() {
+        let call = call_of(alloc, catalog, asked(line))?;
+        let Ok(()) = calls.push(call) else {
+            return Err(Fail::from("no memory"));
+        };
+    }
+    Ok(calls)
+}
+
+fn run<L: Ledger>(
+    alloc: Global,
+    catalog: Arc<Catalog>,
+    calls: List<Call>,
+    blank: Blank,
+) -> Result<Run, OutOfMemory>
+    requires name { blank.name ≡ L.name }
+    requires parts { blank.parts ≡ L.parts }
+    requires one { blank.parts ≡ 1 }
+    requires may { All (MayCall catalog.value) calls }
+{
+    let mut steps: Steps<L> = Steps::new(blank);
+    run_calls(alloc, catalog, ROW_LIMIT, 0, calls, &mut steps)
+}
+
+// The calls once more, each with its reply.
+fn told(alloc: Global, run: &Run, table: &str) -> Result<String, Fail> {
+    let mut text = String::new(alloc);
+    for (place, line) in table.lines().enumerate() {
+        let Some(reply) = run.replies.get(place) else {
+            return Err(Fail::from("no reply"));
+        };
+        let said = told_reply(alloc, reply)?;
+        add_line(&mut text, asked(line), said.as_str())?;
+    }
+    Ok(text)
+}
+
+/// A table of calls, and what each is answered; and how many replies and entries there are then. A call is `append SEAT
+/// FILE`, `look SEAT CELL ..`, or `deliver JOB` or `abandon JOB` by the place of a job.
+pub fn tell_calls(alloc: Global, table: &str) -> Result<(String, usize, u64), Fail> {
+    let catalog = open(alloc)?;
+    let calls = calls_of(alloc, &catalog, table)?;
+    let Ok(run) = run::<Brand>(alloc, catalog, calls, Blank::new(1)) else {
+        return Err(Fail::from("no memory"));
+    };
+    let text = told(alloc, &run, table)?;
+    Ok((text, run.replies.len(), run.manager.history().len()))
+}
