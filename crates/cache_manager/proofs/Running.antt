@@ -1,7 +1,8 @@
 -- Where a run stands after one more call.
-use Rattle.std.proofs.Common.{◌≡◌, refl, sym, ◌∙◌, ap, ℕ, zero, suc, ◌+◌, ◌<◌, List, [], ◌∷◌, ◌++◌, length, map, filter, Bool, true, false, not, ◌==◌, inl, inr, Option, Some, None, get_or, arith, All, nat_lt}
+use Rattle.std.proofs.Common.{◌≡◌, refl, sym, ◌∙◌, ap, subst, ℕ, zero, suc, ◌+◌, ◌<◌, ◌≤◌, drop, take, List, [], ◌∷◌, ◌++◌, length, map, filter, Bool, true, false, not, ◌==◌, inl, inr, Option, Some, None, get_or, arith, All, nat_lt}
 use Rattle.std.specs.Prelude.{insert, option_map, option_to_list, remove}
 use Rattle.std.specs.List.{list_all}
+use Rattle.std.specs.Option.{option_map_or}
 use Rattle.std.proofs.lemmas.Bool.{and_from, and_parts, both_ways, eqb-true, eq-eqb, false_from_ne_true, lt-ltb, ltb-true, not-true, not_from_false, or_cases, or_left, or_right}
 use Rattle.std.proofs.lemmas.List.{append-nil}
 use Rattle.std.proofs.lemmas.List.Elements.{All-cons, All-head, All-tail}
@@ -11,10 +12,11 @@ use Rattle.olap_meaning.specs.declared.tables.Setting.{Setting}
 use Rattle.olap_meaning.specs.Covering.{among}
 use Rattle.olap_meaning.specs.History.{Entry, Start, Load, ends, is_some_and}
 use Rattle.olap_meaning.specs.Legal.{Legal, caller, is_call_below, is_call_of, is_next_call}
-use Rattle.segment_load.specs.Loads.{JobOf}
+use Rattle.olap_meaning.specs.Worth.{cost}
+use Rattle.segment_load.specs.Loads.{JobOf, rows_in}
 use Rattle.history_core.specs.Cache.{CacheOf}
 use Rattle.cache_manager.specs.Jobs.{IsJobOf, numbers_from}
-use Rattle.cache_manager.specs.Runs.{IsRun, MayReply, MayReplyAll, Stage, apart, ending, is_below, next_stage, stage_after, stage_of}
+use Rattle.cache_manager.specs.Runs.{IsRun, IsStopped, MayReply, MayReplyAll, Stage, apart, ending, first_stage, is_below, next_stage, rows_of_job, rows_over, rows_tried, stage_after, stage_of}
 use Rattle.cache_manager.specs.declared.calls.Call.{Call}
 use Rattle.cache_manager.specs.declared.calls.Reply.{Reply}
 use Rattle.cache_manager.proofs.JobFacts.{apart_numbers, jobs_stay, other_loads}
@@ -160,6 +162,24 @@ ending_is cache (x ∷ xs) n zero job end all l at =
     ∙ ap (λ (w : Who). end w x.load ∷ []) is.flies.own ∙ ap (λ (j : JobOf). end j.who j.load ∷ []) (sym at)
 ending_is cache (x ∷ xs) n (suc i) job end all l at = ending_is cache xs n i job end (All-tail (IsJobOf cache) x xs all) (omega (arith, l)) at
 
+-- the rows of the load of a job that is out
+pub rows_are : (cache : CacheOf) (jobs : List JobOf) (n i : ℕ) (job : JobOf) → All (IsJobOf cache) jobs → i < length jobs → job ≡ get_or jobs i job → rows_of_job (stage_of cache jobs n) i ≡ length (rows_in job.snapshot)
+rows_are cache [] n i job all l at = absurd (omega (arith, l))
+rows_are cache (x ∷ xs) n zero job all l at =
+    let is : IsJobOf cache x = All-head (IsJobOf cache) x xs all in
+    ap (λ (o : Option Load). option_map_or (cost cache.entries) o 0) is.flies.started ∙ sym is.costs ∙ ap (λ (j : JobOf). length (rows_in j.snapshot)) (sym at)
+rows_are cache (x ∷ xs) n (suc i) job all l at = rows_are cache xs n i job (All-tail (IsJobOf cache) x xs all) (omega (arith, l)) at
+
+-- the rows of calls, and those of one more
+pub rows_more : (rows : Stage → Call → Reply → ℕ) (stage : Stage) (calls : List Call) (replies : List Reply) (call : Call) (reply : Reply) → MayReplyAll stage calls replies
+    → rows_over rows stage (calls ++ call ∷ []) (replies ++ reply ∷ []) ≡ rows_over rows stage calls replies + rows (stage_after stage calls replies) call reply
+rows_more rows stage [] [] call reply all = omega arith
+rows_more rows stage [] (r ∷ rs) call reply all = absurd all
+rows_more rows stage (c ∷ cs) [] call reply all = absurd all
+rows_more rows stage (c ∷ cs) (r ∷ rs) call reply all =
+    let rest = rows_more rows (next_stage stage c r) cs rs call reply all.1 in
+    omega (arith, rest)
+
 -- replies that may be, and one more
 pub replies_more : (stage : Stage) (calls : List Call) (replies : List Reply) (call : Call) (reply : Reply) → MayReplyAll stage calls replies → MayReply (stage_after stage calls replies) call reply
     → MayReplyAll stage (calls ++ call ∷ []) (replies ++ reply ∷ []) × (stage_after stage (calls ++ call ∷ []) (replies ++ reply ∷ []) ≡ next_stage (stage_after stage calls replies) call reply)
@@ -169,3 +189,36 @@ replies_more stage (c ∷ cs) [] call reply all may = absurd all
 replies_more stage (c ∷ cs) (r ∷ rs) call reply all may =
     let rest = replies_more (next_stage stage c r) cs rs call reply all.1 may in
     ((all.0, rest.0), rest.1)
+
+-- what has come so far, the one that comes now, and the others
+front_turn : {A : Type 0} (all xs : List A) (x : A) → xs ≡ take (length xs) all → length xs < length all → x ≡ get_or all (length xs) x → all ≡ (xs ++ x ∷ []) ++ drop (suc (length xs)) all
+front_turn [] xs x e l here = absurd (omega (arith, l))
+front_turn (y ∷ ys) [] x e l here = ap (λ z. z ∷ ys) (sym here)
+front_turn (y ∷ ys) (z ∷ zs) x e l here =
+    let first : y ≡ z = cc in
+    let rest : zs ≡ take (length zs) ys = cc in
+    rw (← first) (ap (λ vs. y ∷ vs) (front_turn ys zs x rest (omega (arith, l)) here))
+
+map_same : {A : Type 0} (xs : List A) → map (λ x. x) xs ≡ xs
+map_same [] = refl
+map_same (x ∷ xs) = ap (λ ys. x ∷ ys) (map_same xs)
+
+-- a run stops behind a call, of which the reply is lost
+pub stopped : (s t : Setting) (calls made : List Call) (replies : List Reply) (call : Call) (reply : Reply) (stage : Stage) (before middle after : ℕ) → t ≡ s → map (λ (k : Call). k) made ≡ take (length made) calls → length made < length calls → call ≡ get_or calls (length made) call
+    → MayReplyAll (first_stage t) made replies → stage ≡ stage_after (first_stage t) made replies → MayReply stage call reply → middle ≤ before + rows_over rows_tried (first_stage t) made replies → after ≤ middle + rows_tried stage call reply
+    → IsStopped (first_stage s) calls before after
+stopped s t calls made replies call reply stage before middle after same front within here all placed may most more =
+    let P : Stage → Type 0 = λ st. MayReply st call reply in
+    let next = replies_more (first_stage t) made replies call reply all (subst P placed may) in
+    let rows = rows_more rows_tried (first_stage t) made replies call reply all in
+    let one = ap (λ (st : Stage). rows_tried st call reply) placed in
+    let Q : Setting → Type 0 = λ k. IsStopped (first_stage k) calls before after in
+    subst Q same
+    (record {
+      made = made ++ call ∷ [];
+      left = drop (suc (length made)) calls;
+      replies = replies ++ reply ∷ [];
+      front = front_turn calls made call (sym (map_same made) ∙ front) within here;
+      may = next.0;
+      at_most = omega (arith, rows, one, most, more);
+    })

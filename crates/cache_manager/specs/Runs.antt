@@ -1,7 +1,7 @@
 -- Whole runs: lists of calls on one manager, and what they are answered.
 use Rattle.std.specs.Prelude.{ℕ, ◌≡◌, ◌<◌, ◌≤◌, ◌+◌, ◌⊎◌, ⊤, List, [], ◌∷◌, ◌++◌, Bool, true, not, ◌&&◌, Option, Some, None, All, IsTrue, length, map, nat_lt, option_map, option_to_list, remove, slice_get}
 use Rattle.std.specs.List.{list_all}
-use Rattle.std.specs.Option.{option_and_then}
+use Rattle.std.specs.Option.{option_and_then, option_map_or}
 use Rattle.olap_meaning.specs.declared.cells.Who.{Who}
 use Rattle.olap_meaning.specs.declared.tables.Catalog.{Catalog}
 use Rattle.olap_meaning.specs.declared.tables.Setting.{Setting}
@@ -9,6 +9,7 @@ use Rattle.olap_meaning.specs.Covering.{among}
 use Rattle.olap_meaning.specs.History as history
 use Rattle.olap_meaning.specs.History.{Entry, load_at, version}
 use Rattle.olap_meaning.specs.Legal.{caller, is_cell}
+use Rattle.olap_meaning.specs.Worth.{cost}
 use Rattle.fact_versions.specs.Facts.{append_fault}
 use Rattle.fact_versions.specs.declared.faults.AppendFault.TheVariants as fault
 use Rattle.segment_load.specs.Loads.{JobOf, is_batch}
@@ -122,6 +123,40 @@ abbrev pub stage_after : Stage → List Call → List Reply → Stage
 stage_after stage (call ∷ calls) (reply ∷ replies) =
     stage_after (next_stage stage call reply) calls replies
 stage_after stage calls replies = stage
+
+-- the rows of the load of a job that is out, by its place: what the load costs
+abbrev pub rows_of_job : Stage → ℕ → ℕ
+rows_of_job stage job =
+    option_map_or
+    (cost stage.cache.entries)
+    (option_and_then (load_at stage.cache.entries) (slice_get stage.out job)) 0
+
+-- the least rows that a call which has this reply has looked at: those of a load that it delivers, each once
+abbrev pub rows_delivered : Stage → Call → Reply → ℕ
+rows_delivered stage (Deliver job) Ended = rows_of_job stage job
+rows_delivered stage call reply = 0
+
+-- the most rows that it has looked at: where memory was wanting for a load, some of the load's may be among them
+abbrev pub rows_tried : Stage → Call → Reply → ℕ
+rows_tried stage (Deliver job) Ended = rows_of_job stage job
+rows_tried stage (Deliver job) OutOfMemory = rows_of_job stage job
+rows_tried stage call reply = 0
+
+-- the rows of calls that had these replies, by those of one call
+abbrev pub rows_over : (Stage → Call → Reply → ℕ) → Stage → List Call → List Reply → ℕ
+rows_over rows stage (call ∷ calls) (reply ∷ replies) =
+    rows stage call reply + rows_over rows (next_stage stage call reply) calls replies
+rows_over rows stage calls replies = 0
+
+-- some first ones of some calls were made, each with a reply that it may have, and no more rows than these allow were
+-- looked at
+pub record IsStopped (stage : Stage) (calls : List Call) (before after : ℕ) : Type 0 where
+  pub made : List Call
+  pub left : List Call
+  pub replies : List Reply
+  pub front : calls ≡ made ++ left
+  pub may : MayReplyAll stage made replies
+  pub at_most : after ≤ before + rows_over rows_tried stage made replies
 
 -- numbers that are all different
 abbrev pub apart : List ℕ → Bool

@@ -1,11 +1,11 @@
 //! Whole runs of calls on one manager.
-ghost use Rattle.std.specs.Prelude.{◌≡◌, ◌≤◌, ◌<◌, ◌+◌, ℕ, All, IfOk, IsTrue, length};
+ghost use Rattle.std.specs.Prelude.{◌≡◌, ◌≤◌, ◌<◌, ◌+◌, ℕ, All, IfOk, IsTrue, OnErr, length};
 ghost use Rattle.std.specs.List.{list_all};
 ghost use Rattle.olap_meaning.specs.Legal.{Legal, is_cell};
 ghost use Rattle.history_core.specs.History.{setting_of};
 ghost use Rattle.segment_load.specs.Loads.{is_batch};
 ghost use Rattle.cache_manager.specs.Jobs.{IsJobOf};
-ghost use Rattle.cache_manager.specs.Runs.{IsRun, MayCall, MayReply, MayReplyAll, first_stage, next_stage, stage_after, stage_of};
+ghost use Rattle.cache_manager.specs.Runs.{IsRun, IsStopped, MayCall, MayReply, MayReplyAll, first_stage, next_stage, rows_delivered, rows_over, rows_tried, stage_after, stage_of};
 
 use crate::look::next;
 use crate::manager::Manager;
@@ -129,6 +129,11 @@ fn run_delivery<L: Ledger>(
         → MayReply (stage_of manager.old jobs.old.items n) (Call.Deliver job) result }
     ensures next { (n : ℕ) → stage_of manager.new jobs.new.items (n + 1)
         ≡ next_stage (stage_of manager.old jobs.old.items n) (Call.Deliver job) result }
+    ensures at_least { (n : ℕ) → steps.old
+        + rows_delivered (stage_of manager.old jobs.old.items n) (Call.Deliver job) result
+        ≤ steps.new }
+    ensures at_most { (n : ℕ) → steps.new ≤ steps.old
+        + rows_tried (stage_of manager.old jobs.old.items n) (Call.Deliver job) result }
 {
     if job >= jobs.len() {
         return Reply::NoJob;
@@ -178,6 +183,10 @@ fn run_call<L: Ledger>(
     ensures reply { MayReply (stage_of manager.old jobs.old.items number) call result }
     ensures next { stage_of manager.new jobs.new.items (number + 1)
         ≡ next_stage (stage_of manager.old jobs.old.items number) call result }
+    ensures at_least { steps.old
+        + rows_delivered (stage_of manager.old jobs.old.items number) call result ≤ steps.new }
+    ensures at_most { steps.new
+        ≤ steps.old + rows_tried (stage_of manager.old jobs.old.items number) call result }
 {
     match call {
         Call::Append { seat, cube, batch } => {
@@ -198,6 +207,10 @@ fn run_call<L: Ledger>(
 ///
 /// The history after them is legal. It has just the entries that the calls and their replies give, one after another,
 /// and each reply has its cause where its call was made.
+///
+/// The steps are those of the loads that are delivered, and no others: each load looks once at each row of its version.
+/// A load that memory was wanting for has looked at some of its rows, at most. Where the run itself stops for want of
+/// memory, that is so of the calls that were made.
 pub fn run_calls<L: Ledger>(
     alloc: Global,
     catalog: Arc<Catalog>,
@@ -218,6 +231,17 @@ pub fn run_calls<L: Ledger>(
         (λ run. run.manager
         ≡ (stage_after
         (first_stage (setting_of catalog.value row_limit budget)) calls run.replies).cache) }
+    ensures at_least { IfOk result (λ run. steps.old
+        + rows_over rows_delivered
+        (first_stage (setting_of catalog.value row_limit budget)) calls run.replies
+        ≤ steps.new) }
+    ensures at_most { IfOk result (λ run. steps.new ≤ steps.old
+        + rows_over rows_tried
+        (first_stage (setting_of catalog.value row_limit budget)) calls run.replies) }
+    ensures rise { steps.old ≤ steps.new }
+    ensures stopped { OnErr result
+        (IsStopped (first_stage (setting_of catalog.value row_limit budget)) calls
+        steps.old steps.new) }
 {
     let mut manager = Manager::new(alloc, catalog, row_limit, budget)?;
     let mut jobs = Vec::new(alloc);

@@ -10,6 +10,7 @@ use Rattle.olap_meaning.specs.declared.tables.Row.{Row}
 use Rattle.olap_meaning.specs.declared.tables.Setting.{Setting}
 use Rattle.olap_meaning.specs.History.{Entry, Append}
 use Rattle.olap_meaning.specs.Legal.{rows_held}
+use Rattle.olap_meaning.specs.Limits.{row_limit}
 use Rattle.csv_records.proofs.FieldFacts.{drop_at}
 use Rattle.fact_versions.specs.FactRows.{FactRows}
 use Rattle.fact_versions.specs.declared.faults.AppendFault.{AppendFault}
@@ -22,10 +23,10 @@ use Rattle.cache_manager.specs.Arrivals.{arrival_in}
 use Rattle.outside.specs.Fetched.{Fetched}
 use Rattle.outside.specs.Told.{Files}
 use Rattle.cache_opening.specs.declared.fault.OpenFault.{OpenFault}
-use Rattle.cache_opening.specs.declared.fault.OpenFault.TheVariants.{Unbuilt, OutOfMemory}
-use Rattle.cache_opening.specs.Asking.{Asking, made, refused, ◌>>=◌, Comes, value, unbuilt, stopped, Leads, read_by}
-use Rattle.cache_opening.specs.Opening.{base_entries, batch_from, batches_from, facts_from, fitting, row_limit}
-use Rattle.cache_opening.specs.Steps.{AreOpened, IsAppended, IsBegun, IsNext, IsUnbuilt, IsWhole}
+use Rattle.cache_opening.specs.declared.fault.OpenFault.TheVariants.{Batch, TooManyRows as ManyRows, OutOfMemory}
+use Rattle.cache_opening.specs.Asking.{Asking, made, refused, ◌>>=◌, Comes, value, refuses, stopped, Leads, read_by}
+use Rattle.cache_opening.specs.Opening.{base_entries, batch_from, batches_from, facts_from, fitting}
+use Rattle.cache_opening.specs.Steps.{AreOpened, HasCubes, IsAppended, IsBegun, IsNext, IsOrMemory}
 use Rattle.cache_opening.proofs.BaseFacts.{base_fresh, base_more, base_next, held_more}
 use Rattle.cache_opening.proofs.LeadFacts.{leads_first, leads_here, leads_then, refused_by_reader}
 use Rattle.cache_opening.proofs.PartFacts.{there_is}
@@ -33,12 +34,12 @@ use Rattle.cache_opening.proofs.TableSteps.{behind, behind_none, behind_one, lea
 
 -- what the reader of a base batch refuses, where it has memory
 pub refused_batch : (catalog : Catalog) (cube : ℕ) (bytes name : List ℕ) (why : BatchFault) (fault : OpenFault) → (why ≡ BatchFault.OutOfMemory → ⊥) → IsSomeAnd (slice_get catalog.schema.cubes cube) (λ c. name ≡ c.fact)
-    → (why ≡ BatchFault.OutOfMemory) ⊎ (batch_of catalog cube bytes ≡ Err why) → IsUnbuilt name fault → IsSomeAnd (slice_get catalog.schema.cubes cube) (λ c. Comes (read_by c.fact (batch_of catalog cube bytes)) [] (Err fault))
+    → (why ≡ BatchFault.OutOfMemory) ⊎ (batch_of catalog cube bytes ≡ Err why) → IsOrMemory (Batch name why) fault → IsSomeAnd (slice_get catalog.schema.cubes cube) (λ c. Comes (read_by (Batch c.fact) (batch_of catalog cube bytes)) [] (Err fault))
 refused_batch catalog cube bytes name why fault other named h is = by (slice_get catalog.schema.cubes cube) named
   where
-    by : (o : Option SchemaCube) → IsSomeAnd o (λ c. name ≡ c.fact) → IsSomeAnd o (λ c. Comes (read_by c.fact (batch_of catalog cube bytes)) [] (Err fault))
+    by : (o : Option SchemaCube) → IsSomeAnd o (λ c. name ≡ c.fact) → IsSomeAnd o (λ c. Comes (read_by (Batch c.fact) (batch_of catalog cube bytes)) [] (Err fault))
     by None n = absurd n
-    by (Some c) n = let P : List ℕ → Type 0 = λ m. Comes (read_by m (batch_of catalog cube bytes)) [] (Err fault) in subst P n (refused_by_reader name (batch_of catalog cube bytes) BatchFault.OutOfMemory why fault other h is)
+    by (Some c) n = let P : List ℕ → Type 0 = λ m. Comes (read_by (Batch m) (batch_of catalog cube bytes)) [] (Err fault) in subst P n (refused_by_reader (Batch name) (batch_of catalog cube bytes) BatchFault.OutOfMemory why fault other h is)
 
 -- the first cubes have their base batches, and whatever those of the other cubes lead to, those of all lead to it,
 -- behind the first ones
@@ -95,9 +96,9 @@ module _ (files : Option Files) (before now after : List Fetched) (catalog : Cat
           leads_first (batch_from catalog n (rows_held entries) c) (λ rows. batches_from catalog (suc n) (rows_held entries + length rows) (drop (n + 1) catalog.schema.cubes) >>= λ batches. made (rows ∷ batches)) files now after fault k in
           are.read after (Err fault) (subst P (sym (drop_at catalog.schema.cubes n c at)) one)
 
-module _ (files : Option Files) (before now : List Fetched) (setting : Setting) (cache : CacheOf) (n : ℕ) (same : cache.setting ≡ setting) (whole : IsWhole setting.catalog) (are : AreAppended files before now setting.catalog n cache.entries) where
-  whole_here : IsWhole cache.setting.catalog
-  whole_here = subst (λ (s : Setting). IsWhole s.catalog) (sym same) whole
+module _ (files : Option Files) (before now : List Fetched) (setting : Setting) (cache : CacheOf) (n : ℕ) (same : cache.setting ≡ setting) (whole : HasCubes setting.catalog) (are : AreAppended files before now setting.catalog n cache.entries) where
+  whole_here : HasCubes cache.setting.catalog
+  whole_here = subst (λ (s : Setting). HasCubes s.catalog) (sym same) whole
 
   -- the next cube may have its base batch
   pub next_cube : setting.row_limit ≡ row_limit → n < length setting.catalog.cubes → IsNext cache n
@@ -128,7 +129,7 @@ refusal_of limit held count v =
     cond (nat_lt limit (held + count)) (Some (TooManyRows (held + count) limit)) (cond (nat_eq v VERSION_LIMIT) (Some (TooManyVersions VERSION_LIMIT)) None)
 
 abbrev pub fitting_in : ℕ → List ℕ → ℕ → List Row → Asking (List Row)
-fitting_in limit file held rows = cond (nat_lt limit (held + length rows)) (refused file) (made rows)
+fitting_in limit file held rows = cond (nat_lt limit (held + length rows)) (refused (ManyRows file (held + length rows) limit)) (made rows)
 
 -- an append that is admitted has a batch that fits, and one that is refused has one that does not
 fits_by : (many : Bool) (limit held : ℕ) (rows : List Row) (file : List ℕ) → nat_lt limit (held + length rows) ≡ many → row_limit ≡ limit → refusal_of limit held (length rows) 0 ≡ None → fitting file held rows ≡ made rows
@@ -136,10 +137,21 @@ unfolding refusal_of
 fits_by true limit held rows file test same passes = absurd (let e : refusal_of limit held (length rows) 0 ≡ Some (TooManyRows (held + length rows) limit) = rw test refl in let n : ⊥ = cc in n)
 fits_by false limit held rows file test same passes = let P : ℕ → Type 0 = λ k. fitting_in k file held rows ≡ made rows in subst P (sym same) (rw test refl)
 
-refused_by : (many : Bool) (limit held : ℕ) (rows : List Row) (file : List ℕ) (found : AppendFault) → nat_lt limit (held + length rows) ≡ many → row_limit ≡ limit → refusal_of limit held (length rows) 0 ≡ Some found → fitting file held rows ≡ refused file
+same_some : (a b : AppendFault) → Some a ≡ Some b → a ≡ b
+same_some a b e = cc
+
+-- one that is refused for its rows has too many
+refused_by : (many : Bool) (limit held : ℕ) (rows : List Row) (file : List ℕ) (total most : ℕ) → nat_lt limit (held + length rows) ≡ many → row_limit ≡ limit → refusal_of limit held (length rows) 0 ≡ Some (TooManyRows total most)
+    → fitting file held rows ≡ refused (ManyRows file total most)
 unfolding refusal_of
-refused_by true limit held rows file found test same is = let P : ℕ → Type 0 = λ k. fitting_in k file held rows ≡ refused file in subst P (sym same) (rw test refl)
-refused_by false limit held rows file found test same is = absurd (let e : refusal_of limit held (length rows) 0 ≡ None = rw test refl in let n : ⊥ = cc in n)
+refused_by true limit held rows file total most test same is =
+    let e : Some (TooManyRows (held + length rows) limit) ≡ Some (TooManyRows total most) = sym (rw test refl) ∙ is in
+    let faults : TooManyRows (held + length rows) limit ≡ TooManyRows total most = same_some _ _ e in
+    let all : held + length rows ≡ total = cc faults in
+    let bound : limit ≡ most = cc faults in
+    let P : ℕ → Type 0 = λ k. fitting_in k file held rows ≡ refused (ManyRows file total most) in
+    subst P (sym same) (rw test (ap (λ n. refused (ManyRows file n limit)) all ∙ ap (λ n. refused (ManyRows file total n)) bound))
+refused_by false limit held rows file total most test same is = absurd (let e : refusal_of limit held (length rows) 0 ≡ None = rw test refl in let n : ⊥ = cc in n)
 
 module _ (cache : CacheOf) (cube : ℕ) (rows : List Row) (next : IsNext cache cube) where
   refusal_is : append_fault (arrival_in cache cube rows) ≡ refusal_of cache.setting.row_limit (rows_held cache.entries) (length rows) 0
@@ -156,21 +168,25 @@ module _ (cache : CacheOf) (cube : ℕ) (rows : List Row) (next : IsNext cache c
       (λ c at. fits_by (nat_lt cache.setting.row_limit (rows_held cache.entries + length rows)) cache.setting.row_limit (rows_held cache.entries) rows c.fact refl (sym next.limit) (sym refusal_is ∙ passes))
 
   pub batch_refused :
-      (catalog : Catalog) (name : List ℕ) (found : AppendFault) (fault : OpenFault) → catalog ≡ cache.setting.catalog → IsSomeAnd (slice_get catalog.schema.cubes cube) (λ c. name ≡ c.fact)
-      → (found ≡ NoMemory) ⊎ (append_fault (arrival_in cache cube rows) ≡ Some found) → (fault ≡ OutOfMemory) ⊎ ((fault ≡ Unbuilt name) × (found ≡ NoMemory → ⊥))
+      (catalog : Catalog) (name : List ℕ) (total most : ℕ) (fault : OpenFault) → catalog ≡ cache.setting.catalog → IsSomeAnd (slice_get catalog.schema.cubes cube) (λ c. name ≡ c.fact)
+      → (TooManyRows total most ≡ NoMemory) ⊎ (append_fault (arrival_in cache cube rows) ≡ Some (TooManyRows total most)) → IsOrMemory (ManyRows name total most) fault
       → IsSomeAnd (slice_get cache.setting.catalog.schema.cubes cube) (λ c. Comes (fitting c.fact (rows_held cache.entries) rows) [] (Err fault))
-  batch_refused catalog name found fault same named why is =
+  batch_refused catalog name total most fault same named why is =
       found_cube (λ c. Comes (fitting c.fact (rows_held cache.entries) rows) [] (Err fault)) (λ c at. by c (rw (same, at) at named) is why)
     where
-      by : (c : SchemaCube) → name ≡ c.fact → (fault ≡ OutOfMemory) ⊎ ((fault ≡ Unbuilt name) × (found ≡ NoMemory → ⊥)) → (found ≡ NoMemory) ⊎ (append_fault (arrival_in cache cube rows) ≡ Some found) → Comes (fitting c.fact (rows_held cache.entries) rows) [] (Err fault)
-      by c file (inl memory) w = rw memory stopped
-      by c file (inr (same_fault, other)) (inl memory) = absurd (other memory)
-      by c file (inr (same_fault, other)) (inr refusal) =
-          let e = refused_by (nat_lt cache.setting.row_limit (rows_held cache.entries + length rows)) cache.setting.row_limit (rows_held cache.entries) rows c.fact found refl (sym next.limit) (sym refusal_is ∙ refusal) in
+      by : (c : SchemaCube) → name ≡ c.fact → IsOrMemory (ManyRows name total most) fault → (TooManyRows total most ≡ NoMemory) ⊎ (append_fault (arrival_in cache cube rows) ≡ Some (TooManyRows total most)) → Comes (fitting c.fact (rows_held cache.entries) rows) [] (Err fault)
+      by c file (inr memory) w = rw memory stopped
+      by c file (inl same_fault) (inl memory) = absurd (let n : ⊥ = cc in n)
+      by c file (inl same_fault) (inr refusal) =
+          let e = refused_by (nat_lt cache.setting.row_limit (rows_held cache.entries + length rows)) cache.setting.row_limit (rows_held cache.entries) rows c.fact total most refl (sym next.limit) (sym refusal_is ∙ refusal) in
           let P : Asking (List Row) → Type 0 = λ asking. Comes asking [] (Err fault) in
-          let here : Asking (List Row) = refused c.fact in
+          let here : Asking (List Row) = refused (ManyRows c.fact total most) in
           let Q : OpenFault → Type 0 = λ f. Comes here [] (Err f) in
-          subst P (sym e) (subst Q (sym (same_fault ∙ ap Unbuilt file)) unbuilt)
+          subst P (sym e) (subst Q (sym (same_fault ∙ ap (λ (n : List ℕ). ManyRows n total most) file)) refuses)
+
+  -- there was no memory for it
+  pub batch_stops : IsSomeAnd (slice_get cache.setting.catalog.schema.cubes cube) (λ c. Comes (fitting c.fact (rows_held cache.entries) rows) [] (Err OutOfMemory))
+  batch_stops = found_cube (λ c. Comes (fitting c.fact (rows_held cache.entries) rows) [] (Err OutOfMemory)) (λ c at. stopped)
 
 -- the base batch of a cube: what its file says, and whether it fits
 module _ (files : Option Files) (before after : List Fetched) (known catalog : Catalog) (same : known ≡ catalog) (cube held : ℕ) where

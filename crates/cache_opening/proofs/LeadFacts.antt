@@ -7,8 +7,8 @@ use Rattle.outside.specs.Told.{Files, file_named}
 use Rattle.outside.specs.declared.depot.DepotRefusal.TheVariants as depot
 use Rattle.cache_opening.specs.declared.fault.OpenFault.{OpenFault}
 use Rattle.cache_opening.specs.declared.fault.OpenFault.TheVariants.{NoFile, Source, OutOfMemory}
-use Rattle.cache_opening.specs.Asking.{Asking, ask, ◌>>=◌, Comes, value, unbuilt, found, missing, failed, wanting, unnamed, stopped, IsOf, Leads, bytes_of, read_by}
-use Rattle.cache_opening.specs.Steps.{IsUnbuilt}
+use Rattle.cache_opening.specs.Asking.{Asking, ask, ◌>>=◌, Comes, value, refuses, found, missing, failed, wanting, unnamed, stopped, IsOf, Leads, bytes_of, read_by}
+use Rattle.cache_opening.specs.Steps.{IsOrMemory}
 
 module _ {A B : Type 0} (next : A → Asking B) where
   -- what comes of the rest comes of the whole; a fault ends the whole
@@ -22,7 +22,7 @@ module _ {A B : Type 0} (next : A → Asking B) where
 
   pub continues : {asking : Asking A} {answers : List Fetched} {outcome : Result A OpenFault} → Comes asking answers outcome → Continues asking answers outcome
   continues value = λ more outcome h. h
-  continues unbuilt = unbuilt
+  continues refuses = refuses
   continues (found {name} {bytes} {rest} {answers} {outcome} h) = found_on name bytes rest answers outcome (continues h)
   continues missing = missing
   continues failed = failed
@@ -100,7 +100,7 @@ either P (Ok x) h k = h
 either P (Err fault) h k = k
 
 -- what a reader refuses, where it has memory
-pub refused_by_reader : {A Fault : Type 0} (file : List ℕ) (r : Result A Fault) (memory why : Fault) (fault : OpenFault) → (why ≡ memory → ⊥) → (why ≡ memory) ⊎ (r ≡ Err why) → IsUnbuilt file fault → Comes (read_by file r) [] (Err fault)
-refused_by_reader file r memory why fault other (inl none) is = absurd (other none)
-refused_by_reader file r memory why fault other (inr h) (inl u) = rw (h, u) unbuilt
-refused_by_reader file r memory why fault other (inr h) (inr m) = rw m stopped
+pub refused_by_reader : {A Fault : Type 0} (told : Fault → OpenFault) (r : Result A Fault) (memory why : Fault) (fault : OpenFault) → (why ≡ memory → ⊥) → (why ≡ memory) ⊎ (r ≡ Err why) → IsOrMemory (told why) fault → Comes (read_by told r) [] (Err fault)
+refused_by_reader told r memory why fault other (inl none) is = absurd (other none)
+refused_by_reader told r memory why fault other (inr h) (inl u) = rw (h, u) refuses
+refused_by_reader told r memory why fault other (inr h) (inr m) = rw m stopped

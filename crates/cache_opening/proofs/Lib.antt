@@ -1,7 +1,6 @@
 pub mod LeadFacts
 pub mod LawFacts
 pub mod PartFacts
-pub mod SchemaFacts
 pub mod TableSteps
 pub mod CatalogSteps
 pub mod BaseFacts

@@ -2,6 +2,7 @@
 use Rattle.std.proofs.Common.{◌≡◌, refl, sym, ap, subst, ◌∙◌, ℕ, List, [], Option, Ok, Err}
 use Rattle.olap_meaning.specs.declared.tables.Catalog.{Catalog}
 use Rattle.olap_meaning.specs.declared.tables.Setting.{Setting}
+use Rattle.olap_meaning.specs.Limits.{row_limit}
 use Rattle.history_core.specs.History.{setting_of}
 use Rattle.history_core.specs.Cache.{CacheOf}
 use Rattle.outside.specs.Fetched.{Fetched}
@@ -9,8 +10,8 @@ use Rattle.outside.specs.Told.{Files}
 use Rattle.cache_opening.specs.declared.fault.OpenFault.{OpenFault}
 use Rattle.cache_opening.specs.declared.fault.OpenFault.TheVariants.{OutOfMemory}
 use Rattle.cache_opening.specs.Asking.{Asking, made, ◌>>=◌, value, stopped, Leads}
-use Rattle.cache_opening.specs.Opening.{IsOpened, Opening, batches_from, budget, catalog_from, opening_from, row_limit}
-use Rattle.cache_opening.specs.Steps.{AreOpened, IsBegun, IsWhole}
+use Rattle.cache_opening.specs.Opening.{IsOpened, Opening, batches_from, budget, catalog_from, opening_from}
+use Rattle.cache_opening.specs.Steps.{AreOpened, HasCubes, IsBegun}
 use Rattle.cache_opening.proofs.LeadFacts.{leads_first, leads_on, leads_then}
 
 module _ (file : List ℕ) (files : Option Files) (before : List Fetched) where
@@ -54,5 +55,5 @@ module _ (file : List ℕ) (files : Option Files) (before : List Fetched) where
             subst P (ap (λ (s : Setting). s.catalog) set) are.read
 
 -- nothing has happened in a new cache
-pub begun : (catalog : Catalog) (cache : CacheOf) → IsWhole catalog → cache ≡ record { setting = setting_of catalog row_limit budget; entries = [] } → IsBegun cache
+pub begun : (catalog : Catalog) (cache : CacheOf) → HasCubes catalog → cache ≡ record { setting = setting_of catalog row_limit budget; entries = [] } → IsBegun cache
 begun catalog cache whole is = subst IsBegun (sym is) (record { whole = whole; limit = refl; entries = refl })

@@ -7,13 +7,13 @@ use Rattle.outside.specs.Told.{Files}
 use Rattle.cache_opening.specs.declared.fault.OpenFault.{OpenFault}
 use Rattle.cache_opening.specs.declared.fault.OpenFault.TheVariants.{OutOfMemory}
 use Rattle.cache_opening.specs.Asking.{Asking, ◌>>=◌, Comes, value, stopped, Leads, bytes_of, read_by}
-use Rattle.cache_opening.specs.Steps.{IsUnbuilt}
+use Rattle.cache_opening.specs.Steps.{IsOrMemory}
 use Rattle.cache_opening.proofs.LeadFacts.{leads_first, leads_then, refused_by_reader}
 
-module _ {X T V Fault : Type 0} (name_of : X → List ℕ) (reads : X → List ℕ → Result V Fault) (view : T → V) (files : Option Files) (before after : List Fetched) where
+module _ {X T V Fault : Type 0} (name_of : X → List ℕ) (told : X → Fault → OpenFault) (reads : X → List ℕ → Result V Fault) (view : T → V) (files : Option Files) (before after : List Fetched) where
   -- what is made of the bytes of the file of a part
   abbrev pub of_bytes : X → List ℕ → Asking V
-  of_bytes x bytes = read_by (name_of x) (reads x bytes)
+  of_bytes x bytes = read_by (told x) (reads x bytes)
 
   -- what is asked for of the file of a part
   abbrev pub reading : X → Asking V
@@ -33,7 +33,7 @@ module _ {X T V Fault : Type 0} (name_of : X → List ℕ) (reads : X → List �
   read_well None name bytes seen (Ok t) is h same k = absurd is
   read_well (Some x) name bytes seen (Ok t) is h same k =
       let P : List ℕ → Type 0 = λ n. Leads files before after (bytes_of n) (Ok bytes) in
-      let Q : Result V Fault → Type 0 = λ v. Comes (read_by (name_of x) v) [] (Ok (view t)) in
+      let Q : Result V Fault → Type 0 = λ v. Comes (read_by (told x) v) [] (Ok (view t)) in
       let well : reads x bytes ≡ Ok (view t) = rw (← same) k in
       leads_then (bytes_of (name_of x)) (of_bytes x) files before after bytes (Ok (view t)) (subst P is h) (subst Q (sym well) value)
 
@@ -54,11 +54,11 @@ for_some None P Q (Ok t) is k = absurd is
 for_some (Some x) P Q (Ok t) is k = k
 
 -- what a reader refuses of the file of a part, where it has memory
-pub part_refused_by_reader : {X A Fault : Type 0} (o : Option X) (name_of : X → List ℕ) (reads : X → Result A Fault) (name : List ℕ) (memory why : Fault) (fault : OpenFault) → (why ≡ memory → ⊥) → IsSomeAnd o (λ x. name ≡ name_of x)
-    → (why ≡ memory) ⊎ IsSomeAnd o (λ x. reads x ≡ Err why) → IsUnbuilt name fault → IsSomeAnd o (λ x. Comes (read_by (name_of x) (reads x)) [] (Err fault))
-part_refused_by_reader None name_of reads name memory why fault other named h is = absurd named
-part_refused_by_reader (Some x) name_of reads name memory why fault other named h is =
-    let P : List ℕ → Type 0 = λ n. Comes (read_by n (reads x)) [] (Err fault) in subst P named (refused_by_reader name (reads x) memory why fault other h is)
+pub part_refused_by_reader : {X A Fault : Type 0} (o : Option X) (name_of : X → List ℕ) (told : List ℕ → Fault → OpenFault) (reads : X → Result A Fault) (name : List ℕ) (memory why : Fault) (fault : OpenFault) → (why ≡ memory → ⊥) → IsSomeAnd o (λ x. name ≡ name_of x)
+    → (why ≡ memory) ⊎ IsSomeAnd o (λ x. reads x ≡ Err why) → IsOrMemory (told name why) fault → IsSomeAnd o (λ x. Comes (read_by (told (name_of x)) (reads x)) [] (Err fault))
+part_refused_by_reader None name_of told reads name memory why fault other named h is = absurd named
+part_refused_by_reader (Some x) name_of told reads name memory why fault other named h is =
+    let P : List ℕ → Type 0 = λ n. Comes (read_by (told n) (reads x)) [] (Err fault) in subst P named (refused_by_reader (told name) (reads x) memory why fault other h is)
 
 -- a part that there is
 pub there_is : {X : Type 0} (xs : List X) (i : ℕ) (P : X → Type 0) → i < length xs → ((x : X) → slice_get xs i ≡ Some x → P x) → IsSomeAnd (slice_get xs i) P

@@ -4,38 +4,38 @@ use Rattle.outside.specs.Fetched.{Fetched}
 use Rattle.outside.specs.Told.{Files, file_named}
 use Rattle.outside.specs.declared.depot.DepotRefusal.TheVariants as depot
 use Rattle.cache_opening.specs.declared.fault.OpenFault.{OpenFault}
-use Rattle.cache_opening.specs.declared.fault.OpenFault.TheVariants.{NoFile, Unbuilt, Source, OutOfMemory}
+use Rattle.cache_opening.specs.declared.fault.OpenFault.TheVariants.{NoFile, Source, OutOfMemory}
 
--- what is still to be asked for: nothing, where a value is made or a file is refused; or the file of this name, and then
+-- what is still to be asked for: nothing, where a value is made or there is a fault; or the file of this name, and then
 -- what its bytes call for
 pub data Asking (A : Type 0) : Type 0 where
   made : A → Asking A
-  refused : List ℕ → Asking A
+  refused : OpenFault → Asking A
   ask : List ℕ → (List ℕ → Asking A) → Asking A
 
 infixl 10 ◌>>=◌
--- one asking and then the next, which follows from the value that the first has made; a refusal ends both
+-- one asking and then the next, which follows from the value that the first has made; a fault ends both
 abbrev pub ◌>>=◌ : {A B : Type 0} → Asking A → (A → Asking B) → Asking B
 (made x) >>= next = next x
-(refused file) >>= next = refused file
+(refused fault) >>= next = refused fault
 (ask name rest) >>= next = ask name (λ bytes. rest bytes >>= next)
 
 -- the file of this name is asked for, and its bytes are the value
 abbrev pub bytes_of : List ℕ → Asking (List ℕ)
 bytes_of name = ask name (λ bytes. made bytes)
 
--- what a reader makes of the bytes of a file; whatever the fault that it finds, the file is refused
-abbrev pub read_by : {A Fault : Type 0} → List ℕ → Result A Fault → Asking A
-read_by file (Ok x) = made x
-read_by file (Err fault) = refused file
+-- what a reader makes of the bytes of a file, or the fault that it finds, as it is told
+abbrev pub read_by : {A Fault : Type 0} → (Fault → OpenFault) → Result A Fault → Asking A
+read_by told (Ok x) = made x
+read_by told (Err fault) = refused (told fault)
 
 -- Comes asking answers outcome: just these names were asked for, in this order, these answers came, and this is the
 -- outcome
 pub data Comes {A : Type 0} : Asking A → List Fetched → Result A OpenFault → Type 0 where
   -- a value is made, and nothing more is asked for
   value : {x : A} → Comes (made x) [] (Ok x)
-  -- a file is refused, and nothing more is asked for
-  unbuilt : {file : List ℕ} → Comes (refused file) [] (Err (Unbuilt file))
+  -- there is a fault, and nothing more is asked for
+  refuses : {fault : OpenFault} → Comes (refused fault) [] (Err fault)
   -- the bytes of a file came, and then what they call for
   found : {name bytes : List ℕ} {rest : List ℕ → Asking A} {answers : List Fetched} {outcome : Result A OpenFault}
       → Comes (rest bytes) answers outcome → Comes (ask name rest) ((name, Ok bytes) ∷ answers) outcome

@@ -1,5 +1,5 @@
--- What the cache is that a schema's file opens, and which files it takes for that, or the first refusal. (Schema Guide)
-use Rattle.std.specs.Prelude.{ℕ, suc, ◌+◌, ◌≡◌, List, [], ◌∷◌, length, Option, Some, None, Result, Ok, Err, nat_lt, if◌then◌else◌}
+-- What the cache is that a schema's file opens, and which files it takes for that, or the first fault. (Schema Guide)
+use Rattle.std.specs.Prelude.{ℕ, suc, ◌+◌, ◌≡◌, ◌==◌, List, [], ◌∷◌, length, Option, Some, None, Result, Ok, Err, nat_lt, if◌then◌else◌}
 use Rattle.olap_meaning.specs.declared.schema.Schema.{Schema}
 use Rattle.olap_meaning.specs.declared.schema.SchemaCube.{SchemaCube}
 use Rattle.olap_meaning.specs.declared.schema.SchemaDimension.{SchemaDimension}
@@ -7,6 +7,7 @@ use Rattle.olap_meaning.specs.declared.tables.Catalog.{Catalog}
 use Rattle.olap_meaning.specs.declared.tables.Record.{Record}
 use Rattle.olap_meaning.specs.declared.tables.Row.{Row}
 use Rattle.olap_meaning.specs.History.{Entry, Append}
+use Rattle.olap_meaning.specs.Limits.{row_limit}
 use Rattle.olap_meaning.specs.Schema.{catalog_of}
 use Rattle.outside.specs.Fetched.{Fetched}
 use Rattle.outside.specs.Told.{Files, file_named}
@@ -16,11 +17,9 @@ use Rattle.fact_versions.specs.FactRows.{FactRows}
 use Rattle.fact_rows.specs.BatchFiles.{batch_of}
 use Rattle.history_core.specs.History.{setting_of}
 use Rattle.history_core.specs.Cache.{CacheOf}
+use Rattle.cache_opening.specs.declared.fault.OpenFault.{OpenFault}
+use Rattle.cache_opening.specs.declared.fault.OpenFault.TheVariants as fault
 use Rattle.cache_opening.specs.Asking.{Asking, made, refused, ask, ◌>>=◌, Leads, bytes_of, read_by}
-
--- the most rows that the cubes of a cache have together
-abbrev pub row_limit : ℕ
-row_limit = 8_000_000
 
 -- how many groups the kept loads of a cache may hold
 abbrev pub budget : ℕ
@@ -30,13 +29,13 @@ budget = 1_000_000
 unfoldable pub schema_from : List ℕ → Asking Schema
 schema_from file = do
   bytes ← bytes_of file
-  read_by file (schema_of bytes)
+  read_by fault.Schema (schema_of bytes)
 
 -- the records of a dimension's table
 unfoldable pub table_from : SchemaDimension → Asking (List Record)
 table_from dimension = do
   bytes ← bytes_of dimension.table
-  read_by dimension.table (table_of dimension bytes)
+  read_by (fault.Table dimension.table) (table_of dimension bytes)
 
 -- the records of the tables of some dimensions, in order
 unfoldable pub tables_from : List SchemaDimension → Asking (List (List Record))
@@ -46,23 +45,30 @@ tables_from (dimension ∷ dimensions) = do
   tables ← tables_from dimensions
   made (table ∷ tables)
 
+-- the schema of this file must have no aggregate table: these are not opened yet
+abbrev pub built : List ℕ → Schema → Asking (Unit {0})
+built file schema =
+    if length schema.aggregates == 0 then made tt else refused (fault.Unbuilt file)
+
 -- the catalog of a schema's file, with the tables that the schema names
 unfoldable pub catalog_from : List ℕ → Asking Catalog
 catalog_from file = do
   schema ← schema_from file
+  _ ← built file schema
   tables ← tables_from schema.dimensions
   made (catalog_of schema tables)
 
--- rows that must fit beside so many others: a file whose rows are too many is refused
+-- the rows of this file must fit beside so many others
 abbrev pub fitting : List ℕ → ℕ → List Row → Asking (List Row)
 fitting file held rows =
-    if nat_lt row_limit (held + length rows) then refused file else made rows
+    if nat_lt row_limit (held + length rows)
+    then refused (fault.TooManyRows file (held + length rows) row_limit) else made rows
 
 -- the base batch of the cube of this number
 unfoldable pub facts_from : Catalog → ℕ → SchemaCube → Asking FactRows
 facts_from catalog cube c = do
   bytes ← bytes_of c.fact
-  read_by c.fact (batch_of catalog cube bytes)
+  read_by (fault.Batch c.fact) (batch_of catalog cube bytes)
 
 -- the rows of the base batch of the cube of this number, beside so many others
 unfoldable pub batch_from : Catalog → ℕ → ℕ → SchemaCube → Asking (List Row)
@@ -90,26 +96,21 @@ opening_from file = do
   batches ← batches_from catalog 0 0 catalog.schema.cubes
   made (record { catalog = catalog; batches = batches })
 
--- why files open no cache: no file has this name, or this file is refused
-pub data Refusal : Type 0 where
-  NoFile : List ℕ → Refusal
-  Unbuilt : List ℕ → Refusal
-
 -- what is made of the file of this name, which must be there
-abbrev pub of_file : {A : Type 0} → List ℕ → (List ℕ → Result A Refusal) → Option (List ℕ)
-    → Result A Refusal
-of_file name rest None = Err (NoFile name)
+abbrev pub of_file : {A : Type 0} → List ℕ → (List ℕ → Result A OpenFault) → Option (List ℕ)
+    → Result A OpenFault
+of_file name rest None = Err (fault.NoFile name)
 of_file name rest (Some bytes) = rest bytes
 
 -- what is made where all files are told: each file that is asked for is the one of its name, and must be there
-abbrev pub in_files : {A : Type 0} → Files → Asking A → Result A Refusal
+abbrev pub in_files : {A : Type 0} → Files → Asking A → Result A OpenFault
 in_files files (made x) = Ok x
-in_files files (refused file) = Err (Unbuilt file)
+in_files files (refused fault) = Err fault
 in_files files (ask name rest) =
     of_file name (λ bytes. in_files files (rest bytes)) (file_named files name)
 
--- what a schema's file opens where all files are told, or the first refusal
-abbrev pub opening_of : Files → List ℕ → Result Opening Refusal
+-- what a schema's file opens where all files are told, or the first fault
+abbrev pub opening_of : Files → List ℕ → Result Opening OpenFault
 opening_of files file = in_files files (opening_from file)
 
 -- the entries of base batches, from the one of this cube on: each is an append by seat 0, numbered from 1, and makes

@@ -1,35 +1,25 @@
 -- What the steps of an opening know of one another.
-use Rattle.std.specs.Prelude.{ℕ, ◌+◌, ◌<◌, ◌≡◌, ◌⊎◌, List, [], ◌∷◌, ◌++◌, length, Option, Some, Ok, IsTrue, slice_get}
-use Rattle.olap_meaning.specs.declared.schema.Schema.{Schema}
-use Rattle.olap_meaning.specs.declared.schema.SchemaCube.{SchemaCube}
+use Rattle.std.specs.Prelude.{ℕ, ◌+◌, ◌<◌, ◌≡◌, ◌⊎◌, List, [], ◌∷◌, ◌++◌, length, Option, Ok, IsTrue}
 use Rattle.olap_meaning.specs.declared.tables.Catalog.{Catalog}
 use Rattle.olap_meaning.specs.declared.tables.Row.{Row}
 use Rattle.olap_meaning.specs.History.{Entry, Append, version}
 use Rattle.olap_meaning.specs.Legal.{is_next_call}
-use Rattle.olap_meaning.specs.Schema.{IsWithinLimits, cube_over}
-use Rattle.fact_rows.specs.BatchFiles.{HasDimensions}
+use Rattle.olap_meaning.specs.Limits.{row_limit}
 use Rattle.history_core.specs.Cache.{CacheOf}
 use Rattle.outside.specs.Fetched.{Fetched}
 use Rattle.outside.specs.Told.{Files}
 use Rattle.cache_opening.specs.declared.fault.OpenFault.{OpenFault}
-use Rattle.cache_opening.specs.declared.fault.OpenFault.TheVariants.{Unbuilt, OutOfMemory}
+use Rattle.cache_opening.specs.declared.fault.OpenFault.TheVariants.{OutOfMemory}
 use Rattle.cache_opening.specs.Asking.{Asking, Leads}
-use Rattle.cache_opening.specs.Opening.{base_entries, batches_from, row_limit}
+use Rattle.cache_opening.specs.Opening.{base_entries, batches_from}
 
--- a fault is that this file is refused, or want of memory
-abbrev pub IsUnbuilt : List ℕ → OpenFault → Type 0
-IsUnbuilt file fault = (fault ≡ Unbuilt file) ⊎ (fault ≡ OutOfMemory)
+-- this is answered, or want of memory
+abbrev pub IsOrMemory : OpenFault → OpenFault → Type 0
+IsOrMemory fault answer = (answer ≡ fault) ⊎ (answer ≡ OutOfMemory)
 
--- a schema is whole: it is within the limits, and each use of a cube names a dimension
-pub record IsWholeSchema (schema : Schema) : Type 0 where
-  pub limits : IsWithinLimits schema
-  pub paired : (cube : ℕ) (c : SchemaCube) → slice_get schema.cubes cube ≡ Some c
-      → length (cube_over schema.dimensions c).dimensions ≡ length c.dimensions
-
--- a catalog is whole: it has the cubes of its schema, and each use of a cube has its dimension
-pub record IsWhole (catalog : Catalog) : Type 0 where
+-- a catalog has the cubes of its schema
+pub record HasCubes (catalog : Catalog) : Type 0 where
   pub cubes : length catalog.cubes ≡ length catalog.schema.cubes
-  pub paired : (cube : ℕ) → HasDimensions catalog cube
 
 -- rows were asked for, and appended to a cube by seat 0, as the cube's version 1
 pub record IsAppended (files : Option Files) (before after : List Fetched)
@@ -40,13 +30,13 @@ pub record IsAppended (files : Option Files) (before after : List Fetched)
 
 -- nothing has happened in a cache
 pub record IsBegun (cache : CacheOf) : Type 0 where
-  pub whole : IsWhole cache.setting.catalog
+  pub whole : HasCubes cache.setting.catalog
   pub limit : cache.setting.row_limit ≡ row_limit
   pub entries : cache.entries ≡ []
 
 -- this cube is the next to have its base batch
 pub record IsNext (cache : CacheOf) (cube : ℕ) : Type 0 where
-  pub whole : IsWhole cache.setting.catalog
+  pub whole : HasCubes cache.setting.catalog
   pub limit : cache.setting.row_limit ≡ row_limit
   pub known : cube < length cache.setting.catalog.cubes
   pub call : IsTrue (is_next_call cache.entries (record { seat = 0; call = cube + 1 }))

@@ -4,14 +4,14 @@ ghost use Rattle.fact_rows.specs.BatchFiles.{batch_of};
 ghost use Rattle.segment_load.specs.Loads.{is_batch};
 ghost use Rattle.cache_opening.specs.Asking.{Comes, Leads, read_by};
 ghost use Rattle.cache_opening.specs.Opening.{facts_from};
-ghost use Rattle.cache_opening.specs.Steps.{IsWhole};
+ghost use Rattle.cache_opening.specs.Steps.{HasCubes, IsOrMemory};
 
 use crate::fault::OpenFault;
-use crate::files::{fetch, unbuilt};
+use crate::files::fetch;
 use fact_rows::{BatchFault, read_batch};
 use fact_versions::Batch;
 use olap_catalog::Catalog;
-use olap_meaning::CubeId;
+use olap_meaning::{CubeId, OutOfMemory, Text};
 use outside::Depot;
 use std::alloc::Global;
 
@@ -32,17 +32,28 @@ fn batch_in(
     bytes: &[u8],
 ) -> Result<Batch, OpenFault>
     requires known { cube < length catalog.now.cubes }
-    requires whole { IsWhole catalog.now }
+    requires whole { HasCubes catalog.now }
     ensures ok { IfOk result (λ batch. batch_of catalog.now cube bytes.now ≡ Ok batch) }
     ensures fit { IfOk result (λ batch. IsTrue (is_batch catalog.now cube batch)) }
     ensures fault { IfErr result (λ fault.
         IsSomeAnd (slice_get catalog.now.schema.cubes cube)
-        (λ c. Comes (read_by c.fact (batch_of catalog.now cube bytes.now)) [] (Err fault))) }
+        (λ c. Comes
+        (read_by (OpenFault.Batch c.fact) (batch_of catalog.now cube bytes.now)) [] (Err fault))) }
 {
     match read_batch(alloc, catalog, cube, bytes) {
         Ok(batch) => Ok(batch),
         Err(BatchFault::OutOfMemory) => Err(OpenFault::OutOfMemory),
-        Err(_) => Err(unbuilt(alloc, fact_file(catalog, cube))),
+        Err(fault) => Err(refused_batch(alloc, fact_file(catalog, cube), fault)),
+    }
+}
+
+// The fault of the file of a base batch.
+fn refused_batch(alloc: Global, file: &str, fault: BatchFault) -> OpenFault
+    ensures { IsOrMemory (OpenFault.Batch file.now fault) result }
+{
+    match Text::from_str(alloc, file) {
+        Ok(file) => OpenFault::Batch { file, fault },
+        Err(OutOfMemory) => OpenFault::OutOfMemory,
     }
 }
 
@@ -54,7 +65,7 @@ pub(crate) fn open_batch<D: Depot>(
     cube: CubeId,
 ) -> Result<Batch, OpenFault>
     requires known { cube < length catalog.now.cubes }
-    requires whole { IsWhole catalog.now }
+    requires whole { HasCubes catalog.now }
     ensures read { IsSomeAnd (slice_get catalog.now.schema.cubes cube)
         (λ c. Leads (D.files depot.old) (D.answers depot.old) (D.answers depot.new)
         (facts_from catalog.now cube c) result) }

@@ -1,35 +1,36 @@
 //! The catalog of a schema's file.
-ghost use Rattle.std.specs.Prelude.{◌≡◌, ◌<◌, [], Err, IfErr, IfOk, IsSomeAnd, Ok, length, map, slice_get};
+ghost use Rattle.std.specs.Prelude.{◌≡◌, ◌<◌, [], Err, IfErr, IfOk, IsSomeAnd, Ok, OnOk, length, map, slice_get};
 ghost use Rattle.olap_meaning.specs.Schema.{IsWithinLimits, levels_of};
+ghost use Rattle.olap_meaning.specs.Whole.{IsWhole};
 ghost use Rattle.cube_schema.specs.Schemas.{schema_of};
 ghost use Rattle.dim_tables.specs.TableFiles.{table_of};
 ghost use Rattle.olap_catalog.specs.Parts.{records_in};
-ghost use Rattle.cache_opening.specs.Asking.{Comes, Leads, read_by};
-ghost use Rattle.cache_opening.specs.Opening.{catalog_from, schema_from, table_from, tables_from};
-ghost use Rattle.cache_opening.specs.Steps.{IsWhole, IsWholeSchema};
+ghost use Rattle.cache_opening.specs.Asking.{Comes, Leads, made, read_by};
+ghost use Rattle.cache_opening.specs.Opening.{built, catalog_from, schema_from, table_from, tables_from};
+ghost use Rattle.cache_opening.specs.Steps.{HasCubes, IsOrMemory};
 
 use crate::fault::OpenFault;
-use crate::files::{fetch, unbuilt};
+use crate::files::fetch;
 use catalog_tables::Table;
 use cube_schema::{SchemaFault, read_schema};
 use dim_tables::{TableFault, read_table};
 use olap_catalog::{Catalog, build_catalog};
-use olap_meaning::List;
 use olap_meaning::schema::Schema;
+use olap_meaning::{List, OutOfMemory, Text};
 use outside::Depot;
 use std::alloc::Global;
 
 // The schema that the bytes of a file are.
-fn schema_in(alloc: Global, file: &str, bytes: &[u8]) -> Result<Schema, OpenFault>
+fn schema_in(alloc: Global, bytes: &[u8]) -> Result<Schema, OpenFault>
     ensures ok { IfOk result (λ schema. schema_of bytes.now ≡ Ok schema) }
-    ensures limits { IfOk result (λ schema. IsWithinLimits schema) }
+    ensures whole { IfOk result (λ schema. IsWhole schema) }
     ensures fault { IfErr result (λ fault.
-        Comes (read_by file.now (schema_of bytes.now)) [] (Err fault)) }
+        Comes (read_by OpenFault.Schema (schema_of bytes.now)) [] (Err fault)) }
 {
     match read_schema(alloc, bytes) {
         Ok(schema) => Ok(schema),
         Err(SchemaFault::OutOfMemory) => Err(OpenFault::OutOfMemory),
-        Err(_) => Err(unbuilt(alloc, file)),
+        Err(fault) => Err(OpenFault::Schema { fault }),
     }
 }
 
@@ -37,11 +38,23 @@ fn schema_in(alloc: Global, file: &str, bytes: &[u8]) -> Result<Schema, OpenFaul
 fn open_schema<D: Depot>(alloc: Global, depot: &mut D, file: &str) -> Result<Schema, OpenFault>
     ensures read { Leads (D.files depot.old) (D.answers depot.old) (D.answers depot.new)
         (schema_from file.now) result }
-    ensures whole { IfOk result (λ schema. IsWholeSchema schema) }
+    ensures whole { IfOk result (λ schema. IsWhole schema) }
     ensures same_files { D.files depot.new ≡ D.files depot.old }
 {
     let bytes = fetch(alloc, depot, file)?;
-    schema_in(alloc, file, bytes.as_slice())
+    schema_in(alloc, bytes.as_slice())
+}
+
+// Refuses the schema of a file that has an aggregate table.
+fn check_built(alloc: Global, file: &str, schema: &Schema) -> Result<(), OpenFault>
+    ensures ok { OnOk result (built file.now schema.now ≡ made tt) }
+    ensures fault { IfErr result (λ fault. Comes (built file.now schema.now) [] (Err fault)) }
+{
+    if schema.aggregates.is_empty() {
+        return Ok(());
+    }
+    let file = Text::from_str(alloc, file)?;
+    Err(OpenFault::Unbuilt { file })
 }
 
 // The table that the bytes of a dimension's file are.
@@ -61,12 +74,22 @@ fn table_in(
         (λ d. table.levels ≡ length (levels_of d))) }
     ensures fault { IfErr result (λ fault.
         IsSomeAnd (slice_get schema.now.dimensions dimension)
-        (λ d. Comes (read_by d.table (table_of d bytes.now)) [] (Err fault))) }
+        (λ d. Comes (read_by (OpenFault.Table d.table) (table_of d bytes.now)) [] (Err fault))) }
 {
     match read_table(alloc, schema, dimension, bytes) {
         Ok(table) => Ok(table),
         Err(TableFault::OutOfMemory) => Err(OpenFault::OutOfMemory),
-        Err(_) => Err(unbuilt(alloc, table_file(schema, dimension))),
+        Err(fault) => Err(refused_table(alloc, table_file(schema, dimension), fault)),
+    }
+}
+
+// The fault of the file of a dimension's table.
+fn refused_table(alloc: Global, file: &str, fault: TableFault) -> OpenFault
+    ensures { IsOrMemory (OpenFault.Table file.now fault) result }
+{
+    match Text::from_str(alloc, file) {
+        Ok(file) => OpenFault::Table { file, fault },
+        Err(OutOfMemory) => OpenFault::OutOfMemory,
     }
 }
 
@@ -130,7 +153,8 @@ fn open_tables<D: Depot>(
     Ok(tables)
 }
 
-/// The catalog of a schema's file, with the tables that the schema names.
+/// The catalog of a schema's file, with the tables that the schema names. No table is fetched for a schema with a fault,
+/// or with an aggregate table.
 pub(crate) fn open_catalog<D: Depot>(
     alloc: Global,
     depot: &mut D,
@@ -138,10 +162,11 @@ pub(crate) fn open_catalog<D: Depot>(
 ) -> Result<Catalog, OpenFault>
     ensures read { Leads (D.files depot.old) (D.answers depot.old) (D.answers depot.new)
         (catalog_from file.now) result }
-    ensures whole { IfOk result (λ catalog. IsWhole catalog) }
+    ensures whole { IfOk result (λ catalog. HasCubes catalog) }
     ensures same_files { D.files depot.new ≡ D.files depot.old }
 {
     let schema = open_schema(alloc, depot, file)?;
+    check_built(alloc, file, &schema)?;
     let tables = open_tables(alloc, depot, &schema)?;
     Ok(build_catalog(alloc, schema, tables)?)
 }

@@ -1,18 +1,17 @@
 //! The base batches of all cubes, appended to a manager.
-ghost use Rattle.std.specs.Prelude.{◌≡◌, ◌≢◌, ◌⊎◌, ◌+◌, ◌++◌, ◌∷◌, [], Err, IfErr, IsSomeAnd, IsTrue, OnOk, slice_get};
+ghost use Rattle.std.specs.Prelude.{◌≡◌, ◌+◌, ◌++◌, ◌∷◌, [], Err, IfErr, IsSomeAnd, IsTrue, OnOk, slice_get};
 ghost use Rattle.olap_meaning.specs.History.{Append};
 ghost use Rattle.olap_meaning.specs.Legal.{rows_held};
 ghost use Rattle.segment_load.specs.Loads.{is_batch};
 ghost use Rattle.cache_opening.specs.Asking.{Comes, Leads, made};
-ghost use Rattle.cache_opening.specs.Steps.{AreOpened, IsAppended, IsBegun, IsNext};
+ghost use Rattle.cache_opening.specs.Steps.{AreOpened, IsAppended, IsBegun, IsNext, IsOrMemory};
 ghost use Rattle.cache_opening.specs.Opening.{batch_from, batches_from, fitting};
 
 use crate::batches::{fact_file, open_batch};
 use crate::fault::OpenFault;
-use crate::files::unbuilt;
 use cache_manager::Manager;
 use fact_versions::{AppendFault, Batch};
-use olap_meaning::{CubeId, Who};
+use olap_meaning::{CubeId, OutOfMemory, Text, Who};
 use outside::Depot;
 use std::alloc::Global;
 
@@ -43,20 +42,23 @@ fn append_base(
     let cube = CubeId(cube);
     match manager.append(who, cube, batch) {
         Ok(_) => Ok(()),
-        Err(fault) => Err(refused_append(alloc, fact_file(manager.catalog(), cube), fault)),
+        Err(AppendFault::TooManyRows { total, limit }) => {
+            let file = fact_file(manager.catalog(), cube);
+            Err(too_many_rows(alloc, file, total, limit))
+        }
+        // The cube has no version yet.
+        Err(AppendFault::TooManyVersions { .. }) => unreachable!(),
+        Err(AppendFault::OutOfMemory) => Err(OpenFault::OutOfMemory),
     }
 }
 
-// What it means for an opening that the batch of this file was not appended.
-fn refused_append(alloc: Global, file: &str, fault: AppendFault) -> OpenFault
-    ensures { (result ≡ OpenFault.OutOfMemory)
-        ⊎ ((result ≡ OpenFault.Unbuilt file.now) × (fault ≢ AppendFault.OutOfMemory)) }
+// That there are too many rows with the base batch of this file.
+fn too_many_rows(alloc: Global, file: &str, total: u64, limit: u32) -> OpenFault
+    ensures { IsOrMemory (OpenFault.TooManyRows file.now total limit) result }
 {
-    match fault {
-        AppendFault::OutOfMemory => OpenFault::OutOfMemory,
-        AppendFault::TooManyRows { .. } | AppendFault::TooManyVersions { .. } => {
-            unbuilt(alloc, file)
-        }
+    match Text::from_str(alloc, file) {
+        Ok(file) => OpenFault::TooManyRows { file, total, limit },
+        Err(OutOfMemory) => OpenFault::OutOfMemory,
     }
 }
 

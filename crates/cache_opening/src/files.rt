@@ -1,10 +1,9 @@
 //! Files of a depot, and what is made of them.
 ghost use Rattle.std.specs.Prelude.{◌≡◌};
 ghost use Rattle.cache_opening.specs.Asking.{Leads, bytes_of};
-ghost use Rattle.cache_opening.specs.Steps.{IsUnbuilt};
 
 use crate::fault::OpenFault;
-use olap_meaning::{List, OutOfMemory, Text};
+use olap_meaning::{List, Text};
 use outside::{Depot, DepotRefusal};
 use std::alloc::Global;
 
@@ -26,15 +25,5 @@ pub(crate) fn fetch<D: Depot>(
         }
         Err(DepotRefusal::Failed) => Err(OpenFault::Source),
         Err(DepotRefusal::OutOfMemory) => Err(OpenFault::OutOfMemory),
-    }
-}
-
-/// The fault of a file that is refused.
-pub(crate) fn unbuilt(alloc: Global, file: &str) -> OpenFault
-    ensures { IsUnbuilt file.now result }
-{
-    match Text::from_str(alloc, file) {
-        Ok(file) => OpenFault::Unbuilt { file },
-        Err(OutOfMemory) => OpenFault::OutOfMemory,
     }
 }

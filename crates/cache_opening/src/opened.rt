@@ -1,10 +1,11 @@
 //! Opening a cache.
 ghost use Rattle.std.specs.Prelude.{◌≡◌, [], Err, IfErr, IfOk, IsTrue, ℕ};
 ghost use Rattle.olap_meaning.specs.Legal.{is_next_call};
+ghost use Rattle.olap_meaning.specs.Limits.{row_limit};
 ghost use Rattle.history_core.specs.History.{setting_of};
 ghost use Rattle.cache_manager.specs.Jobs.{NoneFlies};
 ghost use Rattle.cache_opening.specs.Asking.{Leads};
-ghost use Rattle.cache_opening.specs.Opening.{IsOpened, budget, opening_from, row_limit};
+ghost use Rattle.cache_opening.specs.Opening.{IsOpened, budget, opening_from};
 
 use crate::catalogs::open_catalog;
 use crate::cubes::open_cubes;

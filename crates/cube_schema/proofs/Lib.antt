@@ -1,5 +1,7 @@
+pub mod FirstFacts
 pub mod JsonFacts
 pub mod LimitFacts
 pub mod ListFacts
 pub mod StepFacts
 pub mod TakenFacts
+pub mod WholeFacts

@@ -1,5 +1,5 @@
 -- A schema that is read is within the limits.
-use Rattle.std.proofs.Common.{◌≡◌, ℕ, ◌+◌, ◌≤◌, List, [], ◌∷◌, ◌++◌, length, flat_map, true, unwrap_or, Result, Ok, Err, IfOk, ap, subst, ◌∙◌, arith, length-append, ◌||◌, bytes_eq, codes}
+use Rattle.std.proofs.Common.{◌≡◌, ℕ, ◌+◌, ◌≤◌, List, [], ◌∷◌, ◌++◌, length, flat_map, true, unwrap_or, Ok, ap, subst, ◌∙◌, arith, length-append, ◌||◌, bytes_eq, codes}
 use Rattle.std.proofs.lemmas.List.Elements.{All-append, All-cons, All-nil}
 use Rattle.std.specs.List.{All}
 use Rattle.olap_meaning.specs.FullNames.{joined_name}
@@ -13,7 +13,6 @@ use Rattle.olap_meaning.specs.declared.schema.SchemaLevel.{SchemaLevel}
 use Rattle.olap_meaning.specs.declared.schema.SchemaUse.{SchemaUse}
 use Rattle.olap_meaning.specs.declared.tables.Measure.{Measure}
 use Rattle.serde_json.specs.Data.{Data}
-use Rattle.cube_schema.specs.declared.fault.SchemaFault.{SchemaFault}
 use Rattle.cube_schema.specs.declared.fault.SchemaFault.TheVariants.{TwiceNamed}
 use Rattle.cube_schema.specs.declared.place.SchemaKey.TheVariants.{Dimensions, Cubes, Name, Table, PrimaryKey, Hierarchies, HasAll, AllMemberName, Levels, Fact, Measures}
 use Rattle.cube_schema.specs.declared.place.SchemaNode.TheVariants as SchemaNode
@@ -158,7 +157,7 @@ schema-limits v schema e =
     let whole = both-ok (object_at top v) _ schema e in
     let dimensions = both-ok (items_at top Dimensions (at_most DIMENSION_LIMIT) dimension_of whole.0) _ schema whole.2 in
     let cubes = both-ok (items_at top Cubes (some_at_most (SchemaNode.Cube 0) CUBE_LIMIT) (cube_of dimensions.0) whole.0) _ schema dimensions.2 in
-    let aggregates = both-ok (aggregates_at whole.0) _ schema cubes.2 in
+    let aggregates = both-ok (aggregates_at dimensions.0 cubes.0 whole.0) _ schema cubes.2 in
     let d = items_at-parts top Dimensions (at_most DIMENSION_LIMIT) dimension_of whole.0 dimensions.0 dimensions.1 in
     let c = items_at-parts top Cubes (some_at_most (SchemaNode.Cube 0) CUBE_LIMIT) (cube_of dimensions.0) whole.0 cubes.0 cubes.1 in
     let most_dimensions = within-ok (Key top Dimensions) (length d.items) DIMENSION_LIMIT tt d.sized in
@@ -173,7 +172,3 @@ schema-limits v schema e =
       cubes = omega (arith, most_cubes, items_from-length (cube_of dimensions.0) [] c.items cubes.0 c.read);
       each = cubes-count dimensions.0 c.items cubes.0 c.read;
     })
-
-pub limits-if-ok : (v : Data) (r : Result Schema SchemaFault) → IfOk r (λ schema. schema_in v ≡ Ok schema) → IfOk r (λ schema. IsWithinLimits schema)
-limits-if-ok v (Ok schema) e = schema-limits v schema e
-limits-if-ok v (Err fault) e = tt

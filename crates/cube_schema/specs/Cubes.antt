@@ -3,6 +3,7 @@ use Rattle.std.specs.Prelude.{ℕ, List, length, Bool, not, Option, Some, None, 
 use Rattle.std.specs.List.{list_any}
 use Rattle.olap_meaning.specs.Commands.{aggregator_named}
 use Rattle.olap_meaning.specs.Results.{◌>>=◌}
+use Rattle.olap_meaning.specs.Whole.{has_use}
 use Rattle.olap_meaning.specs.declared.Aggregator.{Aggregator}
 use Rattle.olap_meaning.specs.declared.schema.TheConstants.{USE_LIMIT, MEASURE_LIMIT}
 use Rattle.olap_meaning.specs.declared.schema.SchemaCube.{SchemaCube}
@@ -20,10 +21,6 @@ use Rattle.cube_schema.specs.declared.place.SchemaPlace.TheVariants.{Key}
 use Rattle.cube_schema.specs.Dimensions.{has_dimension}
 use Rattle.cube_schema.specs.Fields.{refused_if, object_at, value_at, name_at, file_at}
 use Rattle.cube_schema.specs.Lists.{at_most, items_at, some_at_most}
-
--- a use of this source is among some
-abbrev pub has_use : List ℕ → List SchemaUse → Bool
-has_use source uses = list_any (λ used. bytes_eq source used.source) uses
 
 -- a measure of this name is among some
 abbrev pub has_measure : List ℕ → List Measure → Bool

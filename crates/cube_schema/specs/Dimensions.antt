@@ -4,6 +4,7 @@ use Rattle.std.specs.List.{list_any}
 use Rattle.olap_meaning.specs.FullNames.{joined_name}
 use Rattle.olap_meaning.specs.Results.{◌>>=◌}
 use Rattle.olap_meaning.specs.Schema.{levels_of}
+use Rattle.olap_meaning.specs.Whole.{has_level}
 use Rattle.olap_meaning.specs.declared.schema.TheConstants.{LEVEL_LIMIT}
 use Rattle.olap_meaning.specs.declared.schema.SchemaDimension.{SchemaDimension}
 use Rattle.olap_meaning.specs.declared.schema.SchemaHierarchy.{SchemaHierarchy}
@@ -18,10 +19,6 @@ use Rattle.cube_schema.specs.declared.place.SchemaPlace.{SchemaPlace}
 use Rattle.cube_schema.specs.declared.place.SchemaPlace.TheVariants.{Node, Key}
 use Rattle.cube_schema.specs.Fields.{refused_if, object_at, name_at, optional_name_at, file_at, bool_at, within, filled}
 use Rattle.cube_schema.specs.Lists.{items_at, some}
-
--- a level of this name is among some
-abbrev pub has_level : List ℕ → List SchemaLevel → Bool
-has_level name levels = list_any (λ level. bytes_eq name level.name) levels
 
 -- a dimension of this name is among some
 abbrev pub has_dimension : List ℕ → List SchemaDimension → Bool

@@ -93,6 +93,18 @@ file_at node key d = do
   value ← value_at node key d
   file_of (Key node key) value
 
+-- a file name that need not be there
+abbrev pub file_if_there : SchemaPlace → Option Data → Result (Option (List ℕ)) SchemaFault
+file_if_there place None = Ok None
+file_if_there place (Some d) = do
+  name ← file_of place d
+  Ok (Some name)
+
+-- the file name at a key that need not be there
+unfoldable pub optional_file_at : SchemaNode → SchemaKey → Data
+    → Result (Option (List ℕ)) SchemaFault
+optional_file_at node key d = file_if_there (Key node key) (get (key_text key) d)
+
 -- true or false, or a default where nothing stands
 abbrev pub bool_or : SchemaPlace → Bool → Option Data → Result Bool SchemaFault
 bool_or place default None = Ok default

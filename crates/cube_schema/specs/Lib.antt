@@ -1,3 +1,4 @@
+pub mod Aggregates
 pub mod Cubes
 pub mod Dimensions
 pub mod Fields

@@ -18,6 +18,10 @@ items_from item earlier (value ∷ more) = do
   found ← item earlier value
   items_from item (earlier ++ found ∷ []) more
 
+-- a list may have any number of items
+abbrev pub any_number : SchemaPlace → List Data → Result (Unit {0}) SchemaFault
+any_number place items = Ok tt
+
 -- a list may have so many items at most
 abbrev pub at_most : ℕ → SchemaPlace → List Data → Result (Unit {0}) SchemaFault
 at_most limit place items = within place (length items) limit

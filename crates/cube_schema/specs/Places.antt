@@ -2,9 +2,9 @@
 use Rattle.std.specs.Prelude.{ℕ, List, [], ◌++◌, codes}
 use Rattle.std.specs.Fmt.{decimal}
 use Rattle.cube_schema.specs.declared.place.SchemaKey.{SchemaKey}
-use Rattle.cube_schema.specs.declared.place.SchemaKey.TheVariants.{Dimensions, Cubes, Aggregates, Name, Table, PrimaryKey, Hierarchies, HasAll, AllMemberName, Levels, Column, Fact, Source, ForeignKey, Measures, Aggregator}
+use Rattle.cube_schema.specs.declared.place.SchemaKey.TheVariants.{Dimensions, Cubes, Aggregates, Name, Table, PrimaryKey, Hierarchies, HasAll, AllMemberName, Levels, Column, Fact, Source, ForeignKey, Measures, Aggregator, Cube as CubeKey, File, FactCount, Hierarchy as HierarchyKey, Level as LevelKey, Measure as MeasureKey, CountColumn}
 use Rattle.cube_schema.specs.declared.place.SchemaNode.{SchemaNode}
-use Rattle.cube_schema.specs.declared.place.SchemaNode.TheVariants.{Schema, Dimension, Hierarchy, Level, Cube, Use, Measure}
+use Rattle.cube_schema.specs.declared.place.SchemaNode.TheVariants.{Schema, Dimension, Hierarchy, Level, Cube, Use, Measure, Aggregate, AggregateLevel, AggregateMeasure}
 use Rattle.cube_schema.specs.declared.place.SchemaPlace.{SchemaPlace}
 use Rattle.cube_schema.specs.declared.place.SchemaPlace.TheVariants.{Node, Key}
 
@@ -26,6 +26,13 @@ key_text Source = codes "source"
 key_text ForeignKey = codes "foreignKey"
 key_text Measures = codes "measures"
 key_text Aggregator = codes "aggregator"
+key_text CubeKey = codes "cube"
+key_text File = codes "file"
+key_text FactCount = codes "factCount"
+key_text HierarchyKey = codes "hierarchy"
+key_text LevelKey = codes "level"
+key_text MeasureKey = codes "measure"
+key_text CountColumn = codes "countColumn"
 
 -- an object's place: the keys and the places in lists that lead to it from the top, joined by `/`
 unfoldable pub node_text : SchemaNode → List ℕ
@@ -39,6 +46,11 @@ node_text (Level i j k) =
 node_text (Cube i) = codes "cubes/" ++ decimal i
 node_text (Use i j) = codes "cubes/" ++ (decimal i ++ (codes "/dimensions/" ++ decimal j))
 node_text (Measure i j) = codes "cubes/" ++ (decimal i ++ (codes "/measures/" ++ decimal j))
+node_text (Aggregate i) = codes "aggregates/" ++ decimal i
+node_text (AggregateLevel i j) =
+    codes "aggregates/" ++ (decimal i ++ (codes "/levels/" ++ decimal j))
+node_text (AggregateMeasure i j) =
+    codes "aggregates/" ++ (decimal i ++ (codes "/measures/" ++ decimal j))
 
 -- what stands between an object's place and a key of it: nothing at the top
 abbrev pub between : SchemaNode → List ℕ
@@ -49,6 +61,9 @@ between (Level i j k) = codes "/"
 between (Cube i) = codes "/"
 between (Use i j) = codes "/"
 between (Measure i j) = codes "/"
+between (Aggregate i) = codes "/"
+between (AggregateLevel i j) = codes "/"
+between (AggregateMeasure i j) = codes "/"
 
 -- a place as a path, as `cubes/0/measures/1/name`
 unfoldable pub place_text : SchemaPlace → List ℕ

@@ -1,10 +1,11 @@
 //! The cubes of a schema, their uses of dimensions, and their measures.
 ghost use Rattle.std.specs.Prelude.{◌≡◌, [], Ok, Err, IfOk, IfErr, map};
+ghost use Rattle.olap_meaning.specs.Whole.{has_use};
 ghost use Rattle.olap_meaning.specs.declared.schema.TheConstants.{MEASURE_LIMIT, USE_LIMIT};
 ghost use Rattle.serde_json.specs.View.{view};
 ghost use Rattle.cube_schema.specs.declared.place.SchemaKey.TheVariants.{Dimensions, Measures};
 ghost use Rattle.cube_schema.specs.declared.place.SchemaNode.TheVariants.{Cube, Measure as MeasureNode};
-ghost use Rattle.cube_schema.specs.Cubes.{aggregator_at, cube_of, has_cube, has_measure, has_use, measure_of, use_of};
+ghost use Rattle.cube_schema.specs.Cubes.{aggregator_at, cube_of, has_cube, has_measure, measure_of, use_of};
 ghost use Rattle.cube_schema.specs.Lists.{at_most, items_at, items_from, some_at_most};
 ghost use Rattle.cube_schema.specs.Readers.{IsFaultOf};
 
@@ -20,8 +21,8 @@ use olap_meaning::{Aggregator, List, Text};
 use serde_json::Value;
 use std::alloc::Global;
 
-// Whether a use of this source is among some.
-fn has_use(source: &str, uses: &[SchemaUse]) -> bool
+/// Whether a use of this source is among some.
+pub(crate) fn has_use(source: &str, uses: &[SchemaUse]) -> bool
     ensures { result ≡ has_use source.now uses.now }
 {
     uses.iter().any(|used| source == used.source.as_str())
@@ -187,7 +188,8 @@ fn measures_of(alloc: Global, cube: usize, items: &[Value]) -> Result<List<Measu
 fn read_measures(alloc: Global, cube: usize, value: &Value) -> Result<List<Measure>, SchemaFault>
     ensures ok { IfOk result (λ measures.
         items_at (Cube cube) Measures
-        (some_at_most (MeasureNode cube 0) MEASURE_LIMIT) (measure_of cube) (view value.now) ≡ Ok measures) }
+        (some_at_most (MeasureNode cube 0) MEASURE_LIMIT) (measure_of cube)
+        (view value.now) ≡ Ok measures) }
     ensures err { IfErr result (λ fault. IsFaultOf
         (items_at (Cube cube) Measures
         (some_at_most (MeasureNode cube 0) MEASURE_LIMIT) (measure_of cube) (view value.now)) fault) }

@@ -39,14 +39,22 @@ pub enum SchemaFault {
     UnknownAggregator {
         place: SchemaPlace,
     },
-    /// A source names no dimension of the schema.
+    /// A source names no dimension of the schema; or of an aggregate table, its cube is none of the schema's, or a
+    /// hierarchy none of its cube's.
     #[error("no such dimension at \"{place}\"")]
     UnknownDimension {
         place: SchemaPlace,
     },
-    /// A schema with aggregate tables is not read yet.
-    #[error("a schema with aggregate tables is not read yet")]
-    Aggregates,
+    /// A level of an aggregate table is none of its hierarchy.
+    #[error("no such level at \"{place}\"")]
+    UnknownLevel {
+        place: SchemaPlace,
+    },
+    /// A measure of an aggregate table is none of its cube, or a distinct count.
+    #[error("no such measure at \"{place}\"")]
+    UnknownMeasure {
+        place: SchemaPlace,
+    },
     #[error("out of memory")]
     OutOfMemory,
 }

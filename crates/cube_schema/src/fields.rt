@@ -4,7 +4,7 @@ ghost use Rattle.std.specs.List.{list_all};
 ghost use Rattle.serde_json.specs.View.{view};
 ghost use Rattle.cube_schema.specs.declared.fault.SchemaFault.TheVariants.{NotJson, OutOfMemory as NoMemory};
 ghost use Rattle.cube_schema.specs.Readers.{IsFaultOf};
-ghost use Rattle.cube_schema.specs.Fields.{bool_at, file_at, filled, is_file_byte, is_file_name, json_of, list_at, name_at, object_at, optional_name_at, value_at, within};
+ghost use Rattle.cube_schema.specs.Fields.{bool_at, file_at, filled, is_file_byte, is_file_name, json_of, list_at, name_at, object_at, optional_file_at, optional_name_at, value_at, within};
 
 use crate::fault::SchemaFault;
 use crate::place::{SchemaKey, SchemaNode, SchemaPlace};
@@ -143,6 +143,29 @@ pub(crate) fn read_file_name(
 {
     match find(node, key, value)?.as_str() {
         Some(name) if is_file_name(name) => Ok(Text::from_str(alloc, name)?),
+        _ => Err(SchemaFault::WrongKind {
+            place: SchemaPlace::Key { node, key },
+        }),
+    }
+}
+
+/// The file name at a key that need not be there, as a text of its own.
+#[tactic(auto, unfolding(crate::specs::Fields::optional_file_at))]
+pub(crate) fn read_optional_file_name(
+    alloc: Global,
+    node: SchemaNode,
+    key: SchemaKey,
+    value: &Value,
+) -> Result<Option<Text>, SchemaFault>
+    ensures ok { IfOk result (λ name. optional_file_at node key (view value.now) ≡ Ok name) }
+    ensures err { IfErr result (λ fault.
+        IsFaultOf (optional_file_at node key (view value.now)) fault) }
+{
+    let Some(found) = value.get(key.text()) else {
+        return Ok(None);
+    };
+    match found.as_str() {
+        Some(name) if is_file_name(name) => Ok(Some(Text::from_str(alloc, name)?)),
         _ => Err(SchemaFault::WrongKind {
             place: SchemaPlace::Key { node, key },
         }),

@@ -2,12 +2,13 @@
 ghost use Rattle.std.specs.Prelude.{◌≡◌, ◌≤◌, ◌+◌, ◌++◌, ◌∷◌, [], bytes_eq, option_map, unwrap_or, Ok, Err, IfOk, IfErr, OnOk, length, map};
 ghost use Rattle.std.specs.List.{list_any};
 ghost use Rattle.olap_meaning.specs.FullNames.{joined_name};
+ghost use Rattle.olap_meaning.specs.Whole.{has_level};
 ghost use Rattle.olap_meaning.specs.declared.schema.TheConstants.{LEVEL_LIMIT};
 ghost use Rattle.serde_json.specs.View.{view};
 ghost use Rattle.cube_schema.specs.declared.place.SchemaKey.TheVariants.{Hierarchies, Levels};
 ghost use Rattle.cube_schema.specs.declared.place.SchemaNode.TheVariants.{Dimension, Hierarchy, Level};
 ghost use Rattle.cube_schema.specs.Readers.{IsFaultOf};
-ghost use Rattle.cube_schema.specs.Dimensions.{default_all_member, has_level, hierarchy_of, is_taken, level_of, some_beside};
+ghost use Rattle.cube_schema.specs.Dimensions.{default_all_member, hierarchy_of, is_taken, level_of, some_beside};
 ghost use Rattle.cube_schema.specs.Lists.{items_at, items_from, some};
 ghost use Rattle.cube_schema.specs.Taken.{IsTakenBy, IsTakenWith};
 
@@ -74,8 +75,8 @@ fn has_text(texts: &[Text], name: &str) -> bool
     texts.iter().any(|text| name == text.as_str())
 }
 
-// Whether a level of this name is among some.
-fn has_level(name: &str, levels: &[SchemaLevel]) -> bool
+/// Whether a level of this name is among some.
+pub(crate) fn has_level(name: &str, levels: &[SchemaLevel]) -> bool
     ensures { result ≡ has_level name.now levels.now }
 {
     levels.iter().any(|level| name == level.name.as_str())
@@ -174,8 +175,8 @@ fn read_levels(
     levels_of(alloc, dimension, hierarchy, items)
 }
 
-// The full name of a hierarchy.
-fn full_name(alloc: Global, dimension: &str, own: &str) -> Result<Text, OutOfMemory>
+/// The full name of a hierarchy.
+pub(crate) fn full_name(alloc: Global, dimension: &str, own: &str) -> Result<Text, OutOfMemory>
     ensures { IfOk result (λ name. name ≡ joined_name dimension.now own.now) }
 {
     if own == dimension {

@@ -31,6 +31,17 @@ pub enum SchemaNode {
         cube: usize,
         measure: usize,
     },
+    Aggregate {
+        table: usize,
+    },
+    AggregateLevel {
+        table: usize,
+        level: usize,
+    },
+    AggregateMeasure {
+        table: usize,
+        measure: usize,
+    },
 }
 
 /// A key of a schema's objects.
@@ -52,6 +63,13 @@ pub enum SchemaKey {
     ForeignKey,
     Measures,
     Aggregator,
+    Cube,
+    File,
+    FactCount,
+    Hierarchy,
+    Level,
+    Measure,
+    CountColumn,
 }
 
 /// A place in a schema: an object, or a key of one.
@@ -84,6 +102,13 @@ impl SchemaKey {
             SchemaKey::ForeignKey => "foreignKey",
             SchemaKey::Measures => "measures",
             SchemaKey::Aggregator => "aggregator",
+            SchemaKey::Cube => "cube",
+            SchemaKey::File => "file",
+            SchemaKey::FactCount => "factCount",
+            SchemaKey::Hierarchy => "hierarchy",
+            SchemaKey::Level => "level",
+            SchemaKey::Measure => "measure",
+            SchemaKey::CountColumn => "countColumn",
         }
     }
 }
@@ -111,7 +136,10 @@ impl SchemaNode {
             | SchemaNode::Level { .. }
             | SchemaNode::Cube { .. }
             | SchemaNode::Use { .. }
-            | SchemaNode::Measure { .. } => "/",
+            | SchemaNode::Measure { .. }
+            | SchemaNode::Aggregate { .. }
+            | SchemaNode::AggregateLevel { .. }
+            | SchemaNode::AggregateMeasure { .. } => "/",
         }
     }
 }
@@ -143,6 +171,13 @@ impl fmt::Display for SchemaNode {
             SchemaNode::Use { cube, used } => write!(f, "cubes/{cube}/dimensions/{used}"),
             SchemaNode::Measure { cube, measure } => {
                 write!(f, "cubes/{cube}/measures/{measure}")
+            }
+            SchemaNode::Aggregate { table } => write!(f, "aggregates/{table}"),
+            SchemaNode::AggregateLevel { table, level } => {
+                write!(f, "aggregates/{table}/levels/{level}")
+            }
+            SchemaNode::AggregateMeasure { table, measure } => {
+                write!(f, "aggregates/{table}/measures/{measure}")
             }
         }
     }

@@ -1,6 +1,6 @@
 //! A schema from the bytes of its file.
 ghost use Rattle.std.specs.Prelude.{◌≡◌, Ok, Err, IfOk, IfErr};
-ghost use Rattle.olap_meaning.specs.Schema.{IsWithinLimits};
+ghost use Rattle.olap_meaning.specs.Whole.{IsWhole};
 ghost use Rattle.olap_meaning.specs.declared.schema.TheConstants.{CUBE_LIMIT, DIMENSION_LIMIT};
 ghost use Rattle.serde_json.specs.View.{view};
 ghost use Rattle.cube_schema.specs.declared.place.SchemaKey.TheVariants.{Cubes, Dimensions};
@@ -11,6 +11,7 @@ ghost use Rattle.cube_schema.specs.Lists.{at_most, items_at, some_at_most};
 ghost use Rattle.cube_schema.specs.Readers.{IsFaultOf};
 ghost use Rattle.cube_schema.specs.Schemas.{aggregates_at, schema_in, schema_of};
 
+use crate::aggregates::read_aggregates;
 use crate::cubes::read_cubes;
 use crate::dimensions::read_dimensions;
 use crate::fault::SchemaFault;
@@ -18,7 +19,8 @@ use crate::fields::{check_count, check_filled, check_object, find_list, read_jso
 use crate::place::{SchemaKey, SchemaNode, SchemaPlace};
 use olap_meaning::List;
 use olap_meaning::schema::{
-    CUBE_LIMIT, DIMENSION_LIMIT, Schema, SchemaAggregate, SchemaCube, SchemaDimension,
+    AGGREGATE_LIMIT, CUBE_LIMIT, DIMENSION_LIMIT, Schema, SchemaAggregate, SchemaCube,
+    SchemaDimension,
 };
 use serde_json::Value;
 use std::alloc::Global;
@@ -62,16 +64,27 @@ fn top_cubes(
     read_cubes(alloc, dimensions, items)
 }
 
-// The aggregate tables of a schema: none yet.
-#[tactic(auto, unfolding(crate::specs::Schemas::aggregates_at))]
-fn top_aggregates(alloc: Global, value: &Value) -> Result<List<SchemaAggregate>, SchemaFault>
-    ensures ok { IfOk result (λ aggregates. aggregates_at (view value.now) ≡ Ok aggregates) }
-    ensures err { IfErr result (λ fault. aggregates_at (view value.now) ≡ Err fault) }
+// The aggregate tables of a schema, over its dimensions and its cubes.
+#[tactic(auto, unfolding(crate::specs::Schemas::aggregates_at, crate::specs::Lists::items_at))]
+fn top_aggregates(
+    alloc: Global,
+    dimensions: &[SchemaDimension],
+    cubes: &[SchemaCube],
+    value: &Value,
+) -> Result<List<SchemaAggregate>, SchemaFault>
+    ensures ok { IfOk result (λ aggregates.
+        aggregates_at dimensions.now cubes.now (view value.now) ≡ Ok aggregates) }
+    ensures err { IfErr result (λ fault.
+        IsFaultOf (aggregates_at dimensions.now cubes.now (view value.now)) fault) }
 {
-    match value.get(SchemaKey::Aggregates.text()) {
-        Some(_) => Err(SchemaFault::Aggregates),
-        None => Ok(List::new(alloc)),
+    let node = SchemaNode::Schema;
+    let key = SchemaKey::Aggregates;
+    if value.get(key.text()).is_none() {
+        return Ok(List::new(alloc));
     }
+    let items = find_list(node, key, value)?;
+    check_count(SchemaPlace::Key { node, key }, items.len(), AGGREGATE_LIMIT)?;
+    read_aggregates(alloc, dimensions, cubes, items)
 }
 
 // The schema that a JSON value is.
@@ -83,7 +96,7 @@ fn read_value(alloc: Global, value: &Value) -> Result<Schema, SchemaFault>
     check_object(SchemaNode::Schema, value)?;
     let dimensions = top_dimensions(alloc, value)?;
     let cubes = top_cubes(alloc, dimensions.as_slice(), value)?;
-    let aggregates = top_aggregates(alloc, value)?;
+    let aggregates = top_aggregates(alloc, dimensions.as_slice(), cubes.as_slice(), value)?;
     Ok(Schema {
         dimensions,
         cubes,
@@ -96,7 +109,7 @@ fn read_value(alloc: Global, value: &Value) -> Result<Schema, SchemaFault>
 pub fn read_schema(alloc: Global, bytes: &[u8]) -> Result<Schema, SchemaFault>
     ensures ok { IfOk result (λ schema. schema_of bytes.now ≡ Ok schema) }
     ensures err { IfErr result (λ fault. IsFaultOf (schema_of bytes.now) fault) }
-    ensures limits { IfOk result (λ schema. IsWithinLimits schema) }
+    ensures whole { IfOk result (λ schema. IsWhole schema) }
 {
     let value = read_json(alloc, bytes)?;
     read_value(alloc, &value)

@@ -2,9 +2,9 @@
 use Rattle.std.specs.Prelude.{ℕ, suc, List, [], ◌∷◌, ◌++◌, not, Bool, Option, Some, None, Result, Ok, Err, length, map, nat_lt, option_map, if◌then◌else◌}
 use Rattle.std.specs.List.{list_any, list_all}
 use Rattle.csv_records.specs.Files.{file_records}
+use Rattle.olap_meaning.specs.Limits.{record_limit}
 use Rattle.olap_meaning.specs.Results.{unless}
 use Rattle.olap_meaning.specs.declared.schema.SchemaDimension.{SchemaDimension}
-use Rattle.olap_meaning.specs.declared.schema.TheConstants.{RECORD_LIMIT}
 use Rattle.olap_meaning.specs.declared.tables.Record.{Record}
 use Rattle.olap_meaning.specs.Records.{header_of, records_of, missing_column, is_csv, field_in, is_null}
 use Rattle.olap_meaning.specs.Schema.{levels_of}
@@ -43,7 +43,7 @@ abbrev pub row_fault : SchemaDimension → List (List ℕ) → List Record → L
     → Option TableFault
 row_fault dimension header before row =
     if not (is_csv header row) then Some (NotCsv (suc (length before)))
-    else if nat_lt RECORD_LIMIT (suc (length before)) then Some (TooManyRows RECORD_LIMIT)
+    else if nat_lt record_limit (suc (length before)) then Some (TooManyRows record_limit)
     else if has_key before (record_of dimension header row).key
     then Some (KeyTwice (suc (length before)))
     else if list_any is_null (record_of dimension header row).fields

@@ -1,2 +1,3 @@
 pub mod PlaceFacts
 pub mod RowFacts
+pub mod UseFacts

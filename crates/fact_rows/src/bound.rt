@@ -4,7 +4,7 @@ ghost use Rattle.std.specs.List.{list_all};
 ghost use Rattle.std.specs.Str.{is_utf8};
 ghost use Rattle.olap_meaning.specs.Legal.{is_row};
 ghost use Rattle.olap_meaning.specs.Records.{is_csv, is_null, number};
-ghost use Rattle.fact_rows.specs.BatchFiles.{HasDimensions, dimensions_of, foreign_keys, header_fault, key_fault, leaves_in, number_columns, number_fault, numbers_in, row_of, uses_of};
+ghost use Rattle.fact_rows.specs.BatchFiles.{dimensions_of, foreign_keys, header_fault, key_fault, leaves_in, number_columns, number_fault, numbers_in, row_of, uses_of};
 
 use crate::columns::{KeyColumn, NumberColumn, place_keys, place_numbers};
 use crate::fault::BatchFault;
@@ -38,6 +38,7 @@ impl<'a> Model for BoundCube<'a> {
 
 impl<'a> BoundCube<'a> {
     /// Finds the columns of a cube in a header.
+    #[tactic(auto, using(crate::proofs::UseFacts::paired_in))]
     pub(crate) fn bind(
         alloc: Global,
         catalog: &'a Catalog,
@@ -45,7 +46,6 @@ impl<'a> BoundCube<'a> {
         header: Record,
     ) -> Result<BoundCube<'a>, BatchFault>
         requires known { cube < length catalog.now.cubes }
-        requires paired { HasDimensions catalog.now cube }
         ensures bound { IfOk result (λ b.
             b ≡ record { catalog = catalog.entry.now; cube = cube; header = header }) }
         ensures sound { IfOk result (λ _. header_fault catalog.entry.now cube header ≡ None) }
@@ -55,6 +55,7 @@ impl<'a> BoundCube<'a> {
         if !header.is_csv(&header) {
             return Err(BatchFault::NotCsv { row: 0 });
         }
+        catalog.is_whole();
         let parts = catalog.cube(cube);
         let keys = place_keys(
             alloc,

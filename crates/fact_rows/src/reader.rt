@@ -3,7 +3,7 @@ ghost use Rattle.std.specs.Prelude.{◌≡◌, ◌⊎◌, ◌<◌, ◌++◌, ◌
 ghost use Rattle.std.specs.List.{list_all};
 ghost use Rattle.csv_records.specs.Files.{file_records};
 ghost use Rattle.olap_meaning.specs.Legal.{is_row};
-ghost use Rattle.fact_rows.specs.BatchFiles.{HasDimensions, batch_of, dimensions_of, header_fault, number_columns, of_cube, row_fault, row_of, rows_with};
+ghost use Rattle.fact_rows.specs.BatchFiles.{batch_of, dimensions_of, header_fault, number_columns, of_cube, row_fault, row_of, rows_with};
 
 use crate::bound::BoundCube;
 use crate::fault::BatchFault;
@@ -22,7 +22,6 @@ pub fn read_batch(
     bytes: &[u8],
 ) -> Result<Batch, BatchFault>
     requires known { cube < length catalog.now.cubes }
-    requires paired { HasDimensions catalog.now cube }
     ensures ok { IfOk result (λ batch. batch_of catalog.now cube bytes.now ≡ Ok batch) }
     ensures fit { IfOk result (λ batch. list_all (is_row catalog.now cube) batch.rows ≡ true) }
     ensures err { IfErr result (λ fault.
@@ -40,7 +39,6 @@ pub fn read_batch(
 // The batch of an empty file, which has no columns.
 fn read_no_row(alloc: Global, catalog: &Catalog, cube: CubeId) -> Result<Batch, BatchFault>
     requires known { cube < length catalog.now.cubes }
-    requires paired { HasDimensions catalog.now cube }
     ensures ok { IfOk result (λ batch.
         (header_fault catalog.now cube [] ≡ None) × (of_cube catalog.now cube (Ok []) ≡ Ok batch)) }
     ensures none { IfOk result (λ batch. batch.rows ≡ []) }

@@ -12,7 +12,7 @@ use Rattle.std.proofs.lemmas.List.Sums.{prefix_len-le-length}
 use Rattle.std.specs.Prelude.{not}
 use Rattle.input_lines.specs.Reader.{is_lf}
 use Rattle.outside.specs.Event.{Event, gave, ended, gave_not}
-use Rattle.input_lines.specs.Reader.{Answers, Reading, IsFound, Tells, front_told, heard_of, line_length, Heard, enough, at_end, cut_off, Hears, known, over, ends, fails, piece, HasHeard, HasReceived, NeedsNoMore, is_over, received}
+use Rattle.input_lines.specs.Reader.{SaysNext, Reading, IsFound, Tells, front_told, heard_of, line_length, Heard, enough, at_end, cut_off, Hears, known, over, ends, fails, piece, HasHeard, HasReceived, NeedsNoMore, is_over, received}
 
 -- what has passed so far: what is heard from here on is, with it, what is heard from the start on
 pub record SoFar (start now : List Event) (old new : Reading) : Type 0 where
@@ -122,7 +122,7 @@ found_now start now old new found.TooLong before other is =
 found_now start now old new found.Neither before other is = absurd (other refl)
 
 -- what the bytes that are held begin with is an answer
-answer_of : (heard : Heard) (all line rest : List ℕ) (answer : Next) → (heard ≡ cut_off → ⊥) → Begins all (front_told answer line rest) → ((answer ≡ next.Line → ⊥) → rest ≡ all) → Answers heard all line rest (Ok answer)
+answer_of : (heard : Heard) (all line rest : List ℕ) (answer : Next) → (heard ≡ cut_off → ⊥) → Begins all (front_told answer line rest) → ((answer ≡ next.Line → ⊥) → rest ≡ all) → SaysNext heard all line rest (Ok answer)
 answer_of cut_off all line rest answer heard begins kept = absurd (heard refl)
 answer_of enough all line rest next.Line heard begins kept = begins
 answer_of enough all line rest next.TooLong heard begins kept = (begins, kept (λ e. absurd (cc e)))

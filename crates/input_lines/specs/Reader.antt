@@ -87,14 +87,14 @@ is_over before enough = before
 is_over before at_end = true
 is_over before cut_off = before
 
--- an answer is what the bytes begin with that were held at last; those that it does not give are still held
-abbrev pub Answers : Heard → List ℕ → List ℕ → List ℕ → Result Next Failed → Type 0
-Answers cut_off all line rest (Err e) = rest ≡ all
-Answers cut_off all line rest (Ok next) = ⊥
-Answers heard all line rest (Err e) = ⊥
-Answers heard all line rest (Ok Line) = Begins all (FirstLine line rest)
-Answers heard all line rest (Ok TooLong) = Begins all TooMany × (rest ≡ all)
-Answers heard all line rest (Ok End) = Begins all Nothing × (rest ≡ all)
+-- an answer says what comes next of the bytes that were held at last; those that it does not give are still held
+abbrev pub SaysNext : Heard → List ℕ → List ℕ → List ℕ → Result Next Failed → Type 0
+SaysNext cut_off all line rest (Err e) = rest ≡ all
+SaysNext cut_off all line rest (Ok next) = ⊥
+SaysNext heard all line rest (Err e) = ⊥
+SaysNext heard all line rest (Ok Line) = Begins all (FirstLine line rest)
+SaysNext heard all line rest (Ok TooLong) = Begins all TooMany × (rest ≡ all)
+SaysNext heard all line rest (Ok End) = Begins all Nothing × (rest ≡ all)
 
 -- what comes next of an input is answered, and this has passed for it
 pub record Tells (before : Reading) (events : List Event) (after : Reading)
@@ -103,7 +103,7 @@ pub record Tells (before : Reading) (events : List Event) (after : Reading)
   pub heard : Heard
   pub hears : Hears before.held before.ended events all heard
   pub over : after.ended ≡ is_over before.ended heard
-  pub answer : Answers heard all after.line after.held told
+  pub answer : SaysNext heard all after.line after.held told
 
 -- what was found in bytes that are held
 abbrev pub IsFound : Found → List ℕ → Type 0

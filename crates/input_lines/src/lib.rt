@@ -2,7 +2,7 @@
 //!
 //! A line ends at an LF. A CR just before the LF is not part of it, but counts for its length. Bytes behind the last LF
 //! are a line too. The definitions stand in `Lines` and `Requests` of `olap_meaning`, over whole inputs and whole lines;
-//! the reader here tells the same lines however its source cuts the input into pieces.
+//! the reader here tells the same lines however a link cuts the input into pieces, and receives no more than it needs.
 #![tactic(auto)]
 
 mod argument;

@@ -50,7 +50,8 @@ fn is_quit(line: &str) -> bool
 /// What a line asks for. Only a line with the command MDX takes memory.
 pub fn read_request(alloc: Global, line: &[u8]) -> Result<Request, OutOfMemory>
     ensures request { IfOk result (λ request. IsRequest line.now (asked request)) }
-    ensures err { OnErr result ((is_utf8 line.now ≡ true) × IsSome (argument_of (codes "MDX") line.now)) }
+    ensures err { OnErr result
+        ((is_utf8 line.now ≡ true) × IsSome (argument_of (codes "MDX") line.now)) }
 {
     let Some(text) = text_of(line) else {
         return Ok(Request::NotText);

@@ -91,7 +91,8 @@ pub fn ask<L: Ledger>(
     requires known { IsTrue (list_all (is_cell manager.old.setting.catalog) cells.now) }
     requires idle { NoneFlies manager.old.entries }
     ensures answered { IfOk result (AddsAnswer manager.old manager.new who cells.now) }
-    ensures err { OnErr result ((loads : List Entry) × AddsLoads manager.old manager.new who cells.now loads) }
+    ensures err { OnErr result
+        ((loads : List Entry) × AddsLoads manager.old manager.new who cells.now loads) }
     ensures idle { NoneFlies manager.new.entries }
     ensures cost { OnOk result
         (steps.new ≡ steps.old + rows_started manager.old.entries manager.new.entries) }

@@ -2,7 +2,8 @@
 //!
 //! A content is a text, or a list of parts one behind the other. A part is a text, the bytes of a file beside the case
 //! file, `{"file": NAME}`, or a block, `{"times": N, "of": [ITEM ..]}`: its items one behind the other, so many times. An
-//! item is a text, or `{"from": A, "count": C}`: a number that counts from A on, C numbers again and again.
+//! item is a text, or `{"from": A, "count": C}`: a number that counts from A on, C numbers again and again. With
+//! `"old": TEXT, "new": TEXT` beside the name of a file, the first OLD in it is exchanged.
 //!
 //! In a text `\xNN`, with two hexadecimal digits, is the byte of this number.
 ghost use Rattle.std.specs.Prelude.{◌<◌, IfSome};
@@ -95,16 +96,45 @@ fn add_block(alloc: Global, bytes: &mut Vec<u8>, block: &Value) -> Result<()> {
     Ok(())
 }
 
+// Adds a text in which the first of a text is exchanged, which has to be there.
+fn add_exchanged(
+    alloc: Global,
+    bytes: &mut Vec<u8>,
+    file: &str,
+    old: &str,
+    new: &str,
+) -> Result<()> {
+    if !file.contains(old) {
+        bail!("the file has no {old}");
+    }
+    let exchanged = file.replacen(alloc, old, new, 1)?;
+    bytes.extend_from_slice(exchanged.as_bytes())?;
+    Ok(())
+}
+
+// Adds the bytes of a file, with one text exchanged where the part says so.
+fn add_file(
+    rt: &(impl Files + AllocGlobal),
+    bytes: &mut Vec<u8>,
+    name: &str,
+    part: &Value,
+) -> Result<()> {
+    let Some(old) = part.get("old") else {
+        let file = fs::read(rt, name)?;
+        bytes.extend_from_slice(file.as_slice())?;
+        return Ok(());
+    };
+    let file = fs::read_to_string(rt, name)?;
+    let new = text(field(part, "new")?)?;
+    add_exchanged(rt.alloc(), bytes, file.as_str(), text(old)?, new)
+}
+
 fn add_part(rt: &(impl Files + AllocGlobal), bytes: &mut Vec<u8>, part: &Value) -> Result<()> {
     if let Value::String(text) = part {
         return add_text(bytes, text.as_str());
     }
     match part.get("file") {
-        Some(name) => {
-            let file = fs::read(rt, text(name)?)?;
-            bytes.extend_from_slice(file.as_slice())?;
-            Ok(())
-        }
+        Some(name) => add_file(rt, bytes, text(name)?, part),
         None => add_block(rt.alloc(), bytes, part),
     }
 }

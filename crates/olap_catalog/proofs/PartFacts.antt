@@ -17,7 +17,8 @@ use Rattle.olap_meaning.specs.declared.tables.Hierarchy.{Hierarchy}
 use Rattle.olap_meaning.specs.declared.tables.Cube.{Cube}
 use Rattle.olap_meaning.specs.History.{is_some_and}
 use Rattle.olap_meaning.specs.Legal.{rise}
-use Rattle.olap_meaning.specs.Schema.{columns_from, all_columns, levels_of, numbers_from, hierarchies_from, all_hierarchies, cube_over, hierarchies_in, IsWithinLimits, IsWithinCube}
+use Rattle.olap_meaning.specs.Schema.{columns_from, all_columns, levels_of, numbers_from, hierarchies_from, all_hierarchies, cube_over, hierarchies_in, IsWithinCube}
+use Rattle.olap_meaning.specs.Whole.{IsWhole}
 use Rattle.catalog_tables.specs.Tables.{TableOf, have_fields}
 use Rattle.olap_catalog.specs.Parts.{is_column, is_level, has_levels, has_few_measures, AreParts, Names}
 use Rattle.olap_catalog.specs.Roots.{hierarchies_among, full_name_in, measure_names, root_names_in}
@@ -156,18 +157,21 @@ numbers_rise n (x ∷ ls) = both _ _ true true (numbers_above n (suc n) ls (omeg
 rising_all : (place column : ℕ) (ds : List SchemaDimension) → rise (flat_map (λ (x : Hierarchy). x.levels) (all_hierarchies place column ds)) ≡ true
 rising_all place column ds = ap rise (levels_in_all place column ds) ∙ numbers_rise column (flat_map levels_of ds)
 
-pub parts_fit : (schema : Schema) (tables : List TableOf) (columns : List Column) (hierarchies : List Hierarchy) (cubes : List Cube) (full_names : List (List ℕ)) (roots : List (List ℕ)) (names : Names) → IsWithinLimits schema
+pub parts_fit : (schema : Schema) (tables : List TableOf) (columns : List Column) (hierarchies : List Hierarchy) (cubes : List Cube) (full_names : List (List ℕ)) (roots : List (List ℕ)) (names : Names) → IsWhole schema
     → list_all (λ t. have_fields t.levels t.records) tables ≡ true → map (λ t. t.levels) tables ≡ map (λ d. length (levels_of d)) schema.dimensions → columns ≡ all_columns 0 schema.dimensions → hierarchies ≡ all_hierarchies 0 0 schema.dimensions
     → cubes ≡ map (cube_over schema.dimensions) schema.cubes → full_names ≡ map (full_name_in schema.dimensions) hierarchies → roots ≡ map (λ cube. flat_map (hierarchies_among hierarchies) cube.dimensions) cubes
-    → names.cubes ≡ map (λ cube. cube.name) cubes → names.measures ≡ map measure_names cubes → names.roots ≡ map (root_names_in full_names) roots
+    → names.cubes ≡ map (λ cube. cube.name) cubes → names.tables ≡ map (λ table. table.name) schema.aggregates → names.measures ≡ map measure_names cubes → names.roots ≡ map (root_names_in full_names) roots
     → AreParts schema tables columns hierarchies cubes full_names roots names
-parts_fit schema tables columns hierarchies cubes full_names roots names limits even whole c h k named rooted cubes_named measures_named roots_named =
+parts_fit schema tables columns hierarchies cubes full_names roots names sound even whole c h k named rooted cubes_named tables_named measures_named roots_named =
+    let limits = sound.limits in
     let paired : length tables ≡ length schema.dimensions =
     sym (length-map tables (λ (t : TableOf). t.levels)) ∙ ap length whole ∙ length-map schema.dimensions (λ (d : SchemaDimension). length (levels_of d)) in
     let few_c : length columns ≡ length (flat_map levels_of schema.dimensions) = ap length c ∙ length_all_columns 0 schema.dimensions in
     let few_h : length hierarchies ≡ length (hierarchies_in schema) = ap length h ∙ length_all_hierarchies 0 0 schema.dimensions in
     let few_k : length cubes ≡ length schema.cubes = ap length k ∙ length-map schema.cubes (cube_over schema.dimensions) in
     record {
+      whole = sound;
+      cubes_are = k;
       paired = paired;
       even = even;
       columned = ap (list_all (is_column tables)) c ∙ columned_all [] tables schema.dimensions whole;
@@ -176,6 +180,7 @@ parts_fit schema tables columns hierarchies cubes full_names roots names limits 
       named = named;
       rooted = rooted;
       cubes_named = cubes_named;
+      tables_named = tables_named;
       measures_named = measures_named;
       roots_named = roots_named;
       few_tables = omega (arith, limits.dimensions);

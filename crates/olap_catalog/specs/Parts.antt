@@ -10,7 +10,8 @@ use Rattle.olap_meaning.specs.declared.tables.Cube.{Cube}
 use Rattle.olap_meaning.specs.declared.tables.Catalog.{Catalog}
 use Rattle.olap_meaning.specs.History.{is_some_and}
 use Rattle.olap_meaning.specs.Legal.{rise}
-use Rattle.olap_meaning.specs.Schema.{dimension_with}
+use Rattle.olap_meaning.specs.Schema.{cube_over, dimension_with}
+use Rattle.olap_meaning.specs.Whole.{IsWhole}
 use Rattle.catalog_tables.specs.Tables.{TableOf, have_fields}
 use Rattle.olap_catalog.specs.Roots.{hierarchies_among, full_name_in, measure_names, root_names_in}
 
@@ -47,10 +48,11 @@ has_levels columns hierarchy = list_all (is_level columns hierarchy.dimension) h
 abbrev pub has_few_measures : Cube → Bool
 has_few_measures cube = nat_le (length cube.measures) MEASURE_LIMIT
 
--- the names that a catalog looks among: of its cubes, and in each cube of its measures and of what a path may begin
--- with
+-- the names that a catalog looks among: of its cubes and aggregate tables, and in each cube of its measures and of
+-- what a path may begin with
 pub record Names : Type 0 where
   pub cubes : List (List ℕ)
+  pub tables : List (List ℕ)
   pub measures : List (List (List ℕ))
   pub roots : List (List (List ℕ))
 
@@ -58,6 +60,8 @@ pub record Names : Type 0 where
 pub record AreParts (schema : Schema) (tables : List TableOf) (columns : List Column)
     (hierarchies : List Hierarchy) (cubes : List Cube) (full_names : List (List ℕ))
     (roots : List (List ℕ)) (names : Names) : Type 0 where
+  pub whole : IsWhole schema
+  pub cubes_are : cubes ≡ map (cube_over schema.dimensions) schema.cubes
   pub paired : length tables ≡ length schema.dimensions
   pub even : list_all (λ t. have_fields t.levels t.records) tables ≡ true
   pub columned : list_all (is_column tables) columns ≡ true
@@ -66,6 +70,7 @@ pub record AreParts (schema : Schema) (tables : List TableOf) (columns : List Co
   pub named : full_names ≡ map (full_name_in schema.dimensions) hierarchies
   pub rooted : roots ≡ map (λ cube. flat_map (hierarchies_among hierarchies) cube.dimensions) cubes
   pub cubes_named : names.cubes ≡ map (λ cube. cube.name) cubes
+  pub tables_named : names.tables ≡ map (λ table. table.name) schema.aggregates
   pub measures_named : names.measures ≡ map measure_names cubes
   pub roots_named : names.roots ≡ map (root_names_in full_names) roots
   pub few_tables : length tables ≤ DIMENSION_LIMIT

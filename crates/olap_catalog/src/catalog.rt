@@ -2,11 +2,13 @@
 ghost use Rattle.std.specs.Prelude.{◌≡◌, length, map, IfOk, OnOk, true};
 ghost use Rattle.std.specs.List.{list_all};
 ghost use Rattle.catalog_tables.specs.Tables.{have_fields};
-ghost use Rattle.olap_meaning.specs.Schema.{catalog_of, levels_of, IsWithinLimits};
+ghost use Rattle.olap_meaning.specs.Schema.{catalog_of, levels_of};
+ghost use Rattle.olap_meaning.specs.Whole.{IsWhole};
 ghost use Rattle.olap_catalog.specs.Parts.{records_in};
 
 use crate::cubes::{
     cube_names_of, cubes_of, full_names_of, measure_names_of, root_names_of, roots_of,
+    table_names_of,
 };
 use crate::layout::{columns_of, hierarchies_of};
 use catalog_tables::{DimensionTable, Table};
@@ -27,6 +29,7 @@ pub struct Catalog {
     pub(crate) full_names: List<Text>,
     pub(crate) roots: List<List<HierarchyId>>,
     pub(crate) cube_names: List<Text>,
+    pub(crate) table_names: List<Text>,
     pub(crate) measure_names: List<List<Text>>,
     pub(crate) root_names: List<List<Text>>,
 }
@@ -39,7 +42,7 @@ impl Model for Catalog {
 
     ghost view = { λ a. plain a.schema a.tables a.columns a.hierarchies a.cubes };
 
-    ghost invariant = { λ a. AreParts a.schema a.tables a.columns a.hierarchies a.cubes a.full_names a.roots (record { cubes = a.cube_names; measures = a.measure_names; roots = a.root_names }) };
+    ghost invariant = { λ a. AreParts a.schema a.tables a.columns a.hierarchies a.cubes a.full_names a.roots (record { cubes = a.cube_names; tables = a.table_names; measures = a.measure_names; roots = a.root_names }) };
 }
 
 /// The catalog of a schema and its dimensions' tables, in the schema's order. The schema is one that the reader of
@@ -49,8 +52,8 @@ pub fn build_catalog(
     schema: Schema,
     tables: List<Table>,
 ) -> Result<Catalog, OutOfMemory>
-    requires limits { IsWithinLimits schema }
-    requires whole { map (λ t. t.levels) tables
+    requires whole { IsWhole schema }
+    requires levels { map (λ t. t.levels) tables
         ≡ map (λ d. length (levels_of d)) schema.dimensions }
     ensures { IfOk result (λ catalog. catalog ≡ catalog_of schema (records_in tables)) }
 {
@@ -61,6 +64,7 @@ pub fn build_catalog(
     let full_names = full_names_of(alloc, dimensions, hierarchies.as_slice())?;
     let roots = roots_of(alloc, hierarchies.as_slice(), cubes.as_slice())?;
     let cube_names = cube_names_of(alloc, cubes.as_slice())?;
+    let table_names = table_names_of(alloc, schema.aggregates.as_slice())?;
     let measure_names = measure_names_of(alloc, cubes.as_slice())?;
     let root_names = root_names_of(alloc, full_names.as_slice(), roots.as_slice())?;
     let tables = numbered(alloc, tables)?;
@@ -73,6 +77,7 @@ pub fn build_catalog(
         full_names,
         roots,
         cube_names,
+        table_names,
         measure_names,
         root_names,
     })

@@ -4,7 +4,9 @@ ghost use Rattle.olap_meaning.specs.FullNames.{joined_name};
 ghost use Rattle.olap_meaning.specs.Schema.{cube_over, dimension_place};
 ghost use Rattle.olap_catalog.specs.Roots.{hierarchies_among, full_name_in, measure_names, root_names_in, name_at};
 
-use olap_meaning::schema::{DIMENSION_LIMIT, LEVEL_LIMIT, SchemaCube, SchemaDimension, SchemaUse};
+use olap_meaning::schema::{
+    DIMENSION_LIMIT, LEVEL_LIMIT, SchemaAggregate, SchemaCube, SchemaDimension, SchemaUse,
+};
 use olap_meaning::tables::{Cube, Hierarchy, Measure};
 use olap_meaning::{HierarchyId, List, OutOfMemory, Text};
 use std::alloc::Global;
@@ -184,6 +186,20 @@ pub(crate) fn cube_names_of(alloc: Global, cubes: &[Cube]) -> Result<List<Text>,
     let mut names = List::new(alloc);
     for cube in cubes {
         names.push(cube.name.copy()?)?;
+    }
+    Ok(names)
+}
+
+/// The names of some aggregate tables.
+pub(crate) fn table_names_of(
+    alloc: Global,
+    tables: &[SchemaAggregate],
+) -> Result<List<Text>, OutOfMemory>
+    ensures { IfOk result (λ names. names ≡ map (λ table. table.name) tables.now) }
+{
+    let mut names = List::new(alloc);
+    for table in tables {
+        names.push(table.name.copy()?)?;
     }
     Ok(names)
 }

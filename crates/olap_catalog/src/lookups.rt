@@ -1,4 +1,4 @@
-//! Names of cubes, and what the first name of a path means.
+//! Names of cubes and of aggregate tables, and what the first name of a path means.
 ghost use Rattle.std.specs.Prelude.{◌≡◌, ◌<◌, ◌+◌, ◌∷◌, slice_get, option_and_then, length, map, IfSome};
 ghost use Rattle.olap_meaning.specs.Catalog as meaning;
 
@@ -16,6 +16,17 @@ impl Catalog {
         match match_of(name, self.cube_names.as_slice()) {
             None => None,
             Some(cube) => Some(CubeId(cube as u16)),
+        }
+    }
+
+    /// The aggregate table that a name means, by the same rule. It is the number of its place in the schema.
+    pub fn find_agg(&self, name: &str) -> Option<u32>
+        ensures found { result ≡ meaning.find_agg self.now name.now }
+        ensures known { IfSome result (λ table. table < length self.now.schema.aggregates) }
+    {
+        match match_of(name, self.table_names.as_slice()) {
+            None => None,
+            Some(table) => Some(table as u32),
         }
     }
 

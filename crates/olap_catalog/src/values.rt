@@ -1,7 +1,9 @@
 //! Looking up what a catalog holds. No look-up takes memory.
-ghost use Rattle.std.specs.Prelude.{◌≡◌, ◌<◌, ◌≤◌, flat_map, length, slice_get, true, Some, IfSome};
+ghost use Rattle.std.specs.Prelude.{◌≡◌, ◌<◌, ◌≤◌, flat_map, length, map, slice_get, true, Some, IfSome};
 ghost use Rattle.std.specs.List.{list_all};
 ghost use Rattle.olap_meaning.specs.Legal.{rise};
+ghost use Rattle.olap_meaning.specs.Schema.{cube_over};
+ghost use Rattle.olap_meaning.specs.Whole.{IsWhole};
 ghost use Rattle.olap_meaning.specs.Catalog as meaning;
 ghost use Rattle.olap_catalog.specs.Columns.{column_texts, column_leaves};
 ghost use Rattle.olap_catalog.specs.Parts.{has_levels};
@@ -52,6 +54,15 @@ impl Catalog {
             ≡ true }
     {
         let _ = &self.hierarchies;
+    }
+
+    /// That its schema is whole, and its cubes are those of the schema over its dimensions. This costs nothing.
+    pub fn is_whole(&self)
+        ensures schema { IsWhole self.now.schema }
+        ensures cubes { self.now.cubes
+            ≡ map (cube_over self.now.schema.dimensions) self.now.schema.cubes }
+    {
+        let _ = &self.schema;
     }
 
     /// How many values a column has.

@@ -1,5 +1,5 @@
 -- Schemas over dimension tables: columns, their values, members, names. (Schema Guide)
-use Rattle.std.specs.Prelude.{Result, Ok, Err, ok_or, ℕ, zero, suc, List, [], ◌∷◌, ◌++◌, not, ◌==◌, Option, Some, None, length, take, map, flat_map, filter, filter_map, position, option_and_then, slice_get, nat_eq, bytes_eq, unwrap_or, codes, if◌then◌else◌}
+use Rattle.std.specs.Prelude.{Result, Ok, Err, ok_or, ℕ, zero, suc, List, [], ◌∷◌, ◌++◌, not, ◌==◌, Option, Some, None, length, take, map, flat_map, filter, filter_map, position, option_and_then, slice_get, nat_eq, bytes_eq, unwrap_or, codes}
 use Rattle.std.specs.List.{starts_with, enumerate_from, zip}
 use Rattle.std.specs.Str.{str_to_ascii_lowercase}
 use Rattle.std.specs.Option.{option_or, option_map_or}
@@ -170,6 +170,11 @@ member_name catalog cube (member.At h (value ∷ rest)) =
 -- the cube that a name means
 abbrev pub find_cube : Catalog → List ℕ → Option ℕ
 find_cube catalog name = match_of name (map (λ cube. cube.name) catalog.cubes)
+
+-- the aggregate table that a name means
+abbrev pub find_agg : Catalog → List ℕ → Option ℕ
+find_agg catalog name =
+    match_of name (map (λ table. table.name) catalog.schema.aggregates)
 
 -- the leaf with exactly this primary key
 abbrev pub find_leaf : Catalog → ℕ → List ℕ → Option ℕ

@@ -4,7 +4,7 @@ use Rattle.std.specs.List.{list_all}
 use Rattle.std.specs.Option.{option_or}
 use Rattle.olap_meaning.specs.declared.Aggregator.{Aggregator}
 use Rattle.olap_meaning.specs.declared.CellValue.{CellValue}
-use Rattle.olap_meaning.specs.declared.TheConstants.{ROW_LIMIT}
+use Rattle.olap_meaning.specs.Limits.{row_limit}
 use Rattle.olap_meaning.specs.Records.{header_of, records_of, missing_column, is_csv, field_in, number, is_null}
 use Rattle.olap_meaning.specs.Values.{aggregate}
 
@@ -36,7 +36,7 @@ header_fault query header =
 abbrev pub record_fault : FileQuery → List (List ℕ) → ℕ → List (List ℕ) → Option FileFault
 record_fault query header n row =
     if not (is_csv header row) then Some (not_csv n)
-    else if nat_lt ROW_LIMIT n then Some (too_many_rows n ROW_LIMIT)
+    else if nat_lt row_limit n then Some (too_many_rows n row_limit)
     else if is_null (field_in header query.column row)
     || is_some (number (field_in header query.column row)) then None
     else Some (not_number n query.column)

@@ -2,11 +2,13 @@ pub mod Results
 pub mod Values
 pub mod Texts
 pub mod FullNames
+pub mod Limits
 pub mod Records
 pub mod FileQuery
 pub mod Commands
 pub mod Catalog
 pub mod Schema
+pub mod Whole
 pub mod Covering
 pub mod History
 pub mod Worth

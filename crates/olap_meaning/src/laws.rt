@@ -2,7 +2,13 @@
 
 ghost use Rattle.olap_meaning.specs.Equivalents.{FloorIsGreatest, LiveIsByPosition, AwaitedIsByPosition, ExactSourceIsGreatest};
 ghost use Rattle.olap_meaning.specs.Growth.{LegalGrows, VersionGrows, FloorGrows, ExactSourceGrows, AwaitedLoadGrows};
+ghost use Rattle.olap_meaning.specs.Limits.{LimitsAreStated};
 ghost use Rattle.olap_meaning.specs.Laws.{PrefixesAreLegal, VersionsRise, AnswersAreFresh, AnswersAreServed, FlushesShutOff, OthersServeOn, RegionsReachUp, LoadsAreNotDoubled, LoadsEndOnce, CallsRise, SomeAnswerIsLegal};
+
+/// The limits of the code are the numbers of the definitions.
+pub fn limits_are_stated()
+    ensures { LimitsAreStated }
+{}
 
 /// A prefix of a legal history is legal.
 pub fn prefixes_are_legal()

@@ -1,8 +1,9 @@
 -- What a reply tells of the answer to a query.
-use Rattle.std.proofs.Common.{◌≡◌, ◌≢◌, ◌⊎◌, ℕ, List, Result, Ok, Err, MatchResult, IfOk, IsErrAnd, refl, ap, sym, inl, inr, codes, ◌∙◌, ◌++◌}
+use Rattle.std.proofs.Common.{◌≡◌, ◌≢◌, ◌⊎◌, ℕ, List, Result, Ok, Err, MatchResult, IfOk, IsErrAnd, refl, ap, sym, inl, inr, ◌∙◌}
 use Rattle.std.proofs.lemmas.Result.{err_from_is_err_and}
 use Rattle.olap_meaning.specs.FileQuery.{FileQuery, FileFault, answer_of}
-use Rattle.olap_meaning.specs.Texts.{line, plain_text, name_text}
+use Rattle.fault_texts.specs.FaultTexts.{fact_line}
+use Rattle.olap_meaning.specs.Texts.{line, plain_text}
 use Rattle.olap_meaning.specs.declared.Aggregator.{Aggregator}
 use Rattle.olap_meaning.specs.declared.CellValue.{CellValue}
 use Rattle.olap_meaning.specs.declared.OutOfMemory.{OutOfMemory}
@@ -34,11 +35,11 @@ value_told text reply file answer value is made told = elim (told_or_not text re
 
 -- what is told of a fault is told of its answer
 pub refusal_told : (told : CellFault) (reply : Said) (file : List ℕ) (parts answer : Result CellValue FileFault) → parts ≡ answer → (told ≡ NoMemory) ⊎ IsErrAnd parts (λ fault. told ≡ told_fault fault)
-    → IsSaid (told ≢ NoMemory) Schema (line (codes "FACT " ++ name_text file ++ codes " " ++ refusal_text told)) reply → AnswerTells answer file reply.status reply.text ⊎ (reply ≡ no_memory)
+    → IsSaid (told ≢ NoMemory) Schema (fact_line file (refusal_text told)) reply → AnswerTells answer file reply.status reply.text ⊎ (reply ≡ no_memory)
 refusal_told told reply file parts answer same found (inl none) = inr none
 refusal_told told reply file parts answer same (inl none) (inr said) = absurd (said.0 none)
 refusal_told told reply file parts answer same (inr found) (inr said) =
     let fault = err_from_is_err_and parts found in
     let words : refusal_text told ≡ refusal_text (told_fault fault.0) = ap refusal_text fault.2 in
     let is : answer ≡ Err fault.0 = sym same ∙ fault.1 in
-    inl (rw is (ap (λ r. r.status) said.1, ap (λ r. r.text) said.1 ∙ ap (λ t. line (codes "FACT " ++ name_text file ++ codes " " ++ t)) words))
+    inl (rw is (ap (λ r. r.status) said.1, ap (λ r. r.text) said.1 ∙ ap (fact_line file) words))

@@ -20,7 +20,7 @@ use Rattle.line_session.specs.Conversations.{HasConversed, fresh}
 use Rattle.line_session.specs.Sessions.{IsServed}
 use Rattle.olap_server.specs.Asked.{IsAsked, MayLackMemory}
 use Rattle.olap_server.specs.Run.{Around, AskedTells, EndsRun, IsCutOff, IsLast, IsLastLine, IsTold, OpeningTells, SayTells, Tells, cache_of}
-use Rattle.olap_server.specs.Said.{Said, no_memory}
+use Rattle.olap_server.specs.Said.{Said, no_memory, told_opening}
 use Rattle.olap_server.specs.declared.status.Status.{Status}
 use Rattle.olap_server.specs.declared.status.Status.TheVariants.{Sink}
 use Rattle.olap_server.specs.declared.words.Words.{Words}
@@ -65,14 +65,21 @@ none_asked (Some all) = All-nil (IsOf all)
 leads_nowhere : {A : Type 0} (files : Option Files) (answers : List Fetched) (asking : Asking A) → Leads files answers answers asking (Err fault.OutOfMemory)
 leads_nowhere files answers asking = record { answers = []; added = sym (append-nil answers); comes = stopped; theirs = none_asked files }
 
--- what is said of a fault of the opening has its cause
+-- what is told of a fault of the opening has its cause
+opening_told : (file : List ℕ) (files : Option Files) (before after : List Fetched) (f : OpenFault) → Leads files before after (opening_from file) (Err f) → OpeningTells file files before after (told_opening f).status (told_opening f).text
+opening_told file files before after (fault.NoFile name) leads = (fault.NoFile name, refl, leads)
+opening_told file files before after (fault.Schema reason) leads = (fault.Schema reason, refl, leads)
+opening_told file files before after (fault.Table name reason) leads = (fault.Table name reason, refl, leads)
+opening_told file files before after (fault.Batch name reason) leads = (fault.Batch name reason, refl, leads)
+opening_told file files before after (fault.TooManyRows name total limit) leads = (fault.TooManyRows name total limit, refl, leads)
+opening_told file files before after (fault.Unbuilt name) leads = (fault.Unbuilt name, refl, leads)
+opening_told file files before after fault.Source leads = (fault.Source, refl, leads)
+opening_told file files before after fault.OutOfMemory leads = (fault.OutOfMemory, (λ e. absurd (cc e)), leads, refl)
+
+-- and so has what is said of it
 pub opening_tells : (file : List ℕ) (files : Option Files) (before after : List Fetched) (f : OpenFault) (said : Said) → Leads files before after (opening_from file) (Err f) → SayTells f said → OpeningTells file files before after said.status said.text
-opening_tells file files before after (fault.NoFile name) said leads (inl is) = subst (λ (s : Said). OpeningTells file files before after s.status s.text) (sym is) (fault.NoFile name, (λ e. absurd (cc e)), (leads, refl))
-opening_tells file files before after (fault.NoFile name) said leads (inr (free, is)) = subst (λ (s : Said). OpeningTells file files before after s.status s.text) (sym is) (name, (leads, refl))
-opening_tells file files before after (fault.Unbuilt name) said leads (inl is) = subst (λ (s : Said). OpeningTells file files before after s.status s.text) (sym is) (fault.Unbuilt name, (λ e. absurd (cc e)), (leads, refl))
-opening_tells file files before after (fault.Unbuilt name) said leads (inr (free, is)) = subst (λ (s : Said). OpeningTells file files before after s.status s.text) (sym is) (name, (leads, refl))
-opening_tells file files before after fault.Source said leads is = subst (λ (s : Said). OpeningTells file files before after s.status s.text) (sym is) (leads, refl)
-opening_tells file files before after fault.OutOfMemory said leads is = subst (λ (s : Said). OpeningTells file files before after s.status s.text) (sym is) (fault.OutOfMemory, (λ e. absurd (cc e)), (leads, refl))
+opening_tells file files before after f said leads (inl is) = subst (λ (s : Said). OpeningTells file files before after s.status s.text) (sym is) (opening_told file files before after f leads)
+opening_tells file files before after f said leads (inr (is, other)) = subst (λ (s : Said). OpeningTells file files before after s.status s.text) (sym is) (f, other, leads, refl)
 
 -- no command, and nothing else that is told, has the status of a failed send
 asked_never : (command : Option Command) (files : Option Files) (before after : List Fetched) (text : List ℕ) → AskedTells command files before after Sink text → ⊥
@@ -93,7 +100,7 @@ by_memory (Read given) files answers may = of _ may
     of : (command : Option Command) → IsSome command → AskedTells command files answers answers no_memory.status no_memory.text
     of None some = absurd (cc some)
     of (Some (Cell command)) some = record { asked = inl refl; line_is = refl }
-    of (Some (Run file)) some = (fault.OutOfMemory, (λ e. absurd (cc e)), (leads_nowhere files answers (opening_from file), refl))
+    of (Some (Run file)) some = (fault.OutOfMemory, (λ e. absurd (cc e)), leads_nowhere files answers (opening_from file), refl)
 by_memory NotText files answers may = absurd may
 by_memory OutOfMemory files answers may = (refl, refl, refl)
 

@@ -1,5 +1,5 @@
 -- What a run of the command line tells, and why.
-use Rattle.std.specs.Prelude.{◌≡◌, ◌≢◌, ◌≤◌, ◌+◌, ◌⊎◌, ◌++◌, ℕ, List, [], ◌∷◌, Option, Some, None, Result, Ok, Err, IfSome, codes, length, map, string_bytes}
+use Rattle.std.specs.Prelude.{◌≡◌, ◌≢◌, ◌≤◌, ◌+◌, ◌⊎◌, ◌++◌, ℕ, List, [], ◌∷◌, Option, Some, None, Result, Ok, Err, IfSome, length, map, string_bytes}
 use Rattle.csv_records.specs.Files.{file_records}
 use Rattle.history_core.specs.History.{HistoryOf}
 use Rattle.history_core.specs.Cache.{CacheOf}
@@ -12,9 +12,10 @@ use Rattle.line_session.specs.declared.session.SessionEnd.TheVariants as end
 use Rattle.line_session.specs.Asks.{rows_started}
 use Rattle.line_session.specs.Conversations.{HasConversed, fresh}
 use Rattle.line_session.specs.Sessions.{IsServed}
+use Rattle.fault_texts.specs.FaultTexts.{fact_line}
 use Rattle.olap_meaning.specs.Commands.{CellCommand, Command, Cell, Run, command_of}
 use Rattle.olap_meaning.specs.FileQuery.{FileFault, answer_of}
-use Rattle.olap_meaning.specs.Texts.{line, plain_text, name_text}
+use Rattle.olap_meaning.specs.Texts.{line, plain_text}
 use Rattle.olap_meaning.specs.declared.CellValue.{CellValue}
 use Rattle.outside.specs.Event.{Event, took}
 use Rattle.outside.specs.Fetched.{Fetched}
@@ -24,7 +25,7 @@ use Rattle.outside.specs.declared.depot.DepotRefusal.{DepotRefusal}
 use Rattle.outside.specs.declared.depot.DepotRefusal.TheVariants.{Missing, Failed}
 use Rattle.olap_server.specs.Asked.{IsAsked}
 use Rattle.olap_server.specs.Faults.{refusal_text, told_fault}
-use Rattle.olap_server.specs.Said.{IsSaid, Said, memory_line, no_file_line, no_memory, source_line, unbuilt_line, usage_line}
+use Rattle.olap_server.specs.Said.{Said, memory_line, no_file_line, no_memory, source_line, told_opening, usage_line}
 use Rattle.olap_server.specs.declared.status.Status.{Status}
 use Rattle.olap_server.specs.declared.status.Status.TheVariants.{Done, Usage, Schema, Source, Sink, Memory, NoFile}
 use Rattle.olap_server.specs.declared.words.Words.{Words}
@@ -59,8 +60,7 @@ AsksFor file came before after = after ≡ before ++ (file, came) ∷ []
 
 -- the line of a fault of a file
 abbrev pub fault_line : List ℕ → FileFault → List ℕ
-fault_line file fault =
-    line (codes "FACT " ++ name_text file ++ codes " " ++ refusal_text (told_fault fault))
+fault_line file fault = fact_line file (refusal_text (told_fault fault))
 
 -- the answer to the query of a file is told: the plain text of the aggregate, or the file's fault
 abbrev pub AnswerTells : Result CellValue FileFault → List ℕ → Status → List ℕ → Type 0
@@ -110,11 +110,12 @@ CellTells command files before after Sink text = ⊥
 CellTells command files before after Memory text = IsWanting command before after text
 CellTells command files before after NoFile text = IsMissing command files before after text
 
--- what was asked for leads to this fault of the opening, and this line of it is written
-abbrev pub FaultTells : List ℕ → Option Files → List Fetched → List Fetched → OpenFault → List ℕ
-    → List ℕ → Type 0
-FaultTells file files before after fault line text =
-    Leads files before after (opening_from file) (Err fault) × (text ≡ line)
+-- what was asked for leads to a fault of the opening, of which this status and this text are told
+abbrev pub FaultTells : List ℕ → Option Files → List Fetched → List Fetched → Status → List ℕ
+    → Type 0
+FaultTells file files before after status text =
+    (reason : OpenFault) × (told_opening reason ≡ record { status = status; text = text })
+    × Leads files before after (opening_from file) (Err reason)
 
 -- the cause of each status where no cache was opened from the schema's file, and the text that is written with it
 abbrev pub OpeningTells : List ℕ → Option Files → List Fetched → List Fetched → Status → List ℕ
@@ -122,15 +123,15 @@ abbrev pub OpeningTells : List ℕ → Option Files → List Fetched → List Fe
 OpeningTells file files before after Done text = ⊥
 OpeningTells file files before after Usage text = ⊥
 OpeningTells file files before after Schema text =
-    (name : List ℕ) × FaultTells file files before after (fault.Unbuilt name) (unbuilt_line name) text
+    FaultTells file files before after Schema text
 OpeningTells file files before after Source text =
-    FaultTells file files before after fault.Source source_line text
+    FaultTells file files before after Source text
 OpeningTells file files before after Sink text = ⊥
 OpeningTells file files before after Memory text =
     (reason : OpenFault) × (reason ≢ fault.Source)
-    × FaultTells file files before after reason memory_line text
+    × Leads files before after (opening_from file) (Err reason) × (text ≡ memory_line)
 OpeningTells file files before after NoFile text =
-    (name : List ℕ) × FaultTells file files before after (fault.NoFile name) (no_file_line name) text
+    FaultTells file files before after NoFile text
 
 -- the same of what words ask for: a command; or they are no command line, and just that is told
 abbrev pub AskedTells : Option Command → Option Files → List Fetched → List Fetched → Status
@@ -174,12 +175,11 @@ pub record IsCutOff (words : Words) (files : Option Files) (start finish : Aroun
   pub written : IsCut text start.talk finish.talk
   pub unread : finish.left ≡ start.left
 
--- what is to be said where no cache was opened, whatever the depot answers: by the fault
+-- what is to be said where no cache was opened, whatever the depot answers: what is told of the fault, or that there
+-- was no memory for it. A failed source takes no memory to tell
 abbrev pub SayTells : OpenFault → Said → Type 0
-SayTells (fault.NoFile name) said = IsSaid (Unit {0}) NoFile (no_file_line name) said
-SayTells (fault.Unbuilt file) said = IsSaid (Unit {0}) Schema (unbuilt_line file) said
-SayTells fault.Source said = said ≡ record { status = Source; text = source_line }
-SayTells fault.OutOfMemory said = said ≡ no_memory
+SayTells reason said =
+    (said ≡ told_opening reason) ⊎ ((said ≡ no_memory) × (reason ≢ fault.Source))
 
 -- a status and its text were the last to be said, or the text could not be sent whole
 abbrev pub IsLastLine : Status → List ℕ → List Event → List Event → Status → Type 0

@@ -1,8 +1,11 @@
 -- What a run has to say.
 use Rattle.std.specs.Prelude.{◌≡◌, ◌⊎◌, ℕ, List, codes}
+use Rattle.cache_opening.specs.declared.fault.OpenFault.{OpenFault}
+use Rattle.cache_opening.specs.declared.fault.OpenFault.TheVariants as fault
+use Rattle.fault_texts.specs.FaultTexts.{batch_line, rows_line, schema_line, table_line}
 use Rattle.olap_meaning.specs.Texts.{line, named_line}
 use Rattle.olap_server.specs.declared.status.Status.{Status}
-use Rattle.olap_server.specs.declared.status.Status.TheVariants.{Memory}
+use Rattle.olap_server.specs.declared.status.Status.TheVariants.{Schema, Source, Memory, NoFile}
 
 -- how it ended, and the text that it writes
 pub record Said : Type 0 where
@@ -25,13 +28,25 @@ memory_line = line (codes "MEMORY")
 abbrev pub no_file_line : List ℕ → List ℕ
 no_file_line name = named_line (codes "NO FILE") name
 
--- a file of an opening is refused
+-- the schema of a file has aggregate tables, which are not opened yet
 abbrev pub unbuilt_line : List ℕ → List ℕ
 unbuilt_line file = named_line (codes "UNBUILT") file
 
 -- there was no memory for what was to be said
 abbrev pub no_memory : Said
 no_memory = record { status = Memory; text = memory_line }
+
+-- what is told of a fault of the opening
+abbrev pub told_opening : OpenFault → Said
+told_opening (fault.NoFile name) = record { status = NoFile; text = no_file_line name }
+told_opening (fault.Schema reason) = record { status = Schema; text = schema_line reason }
+told_opening (fault.Table file reason) = record { status = Schema; text = table_line file reason }
+told_opening (fault.Batch file reason) = record { status = Schema; text = batch_line file reason }
+told_opening (fault.TooManyRows file total limit) =
+    record { status = Schema; text = rows_line file total limit }
+told_opening (fault.Unbuilt file) = record { status = Schema; text = unbuilt_line file }
+told_opening fault.Source = record { status = Source; text = source_line }
+told_opening fault.OutOfMemory = no_memory
 
 -- this is said, which comes only where the cause holds, or there was no memory for it
 abbrev pub IsSaid : Type 0 → Status → List ℕ → Said → Type 0

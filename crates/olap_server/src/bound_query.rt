@@ -67,7 +67,7 @@ impl<'a> BoundQuery<'a> {
             ⊎ TellsFault e (header_fault query.entry header)) }
     {
         if !header.is_csv(&header) {
-            return Err(CellFault::Unbuilt);
+            return Err(CellFault::NotCsv { row: 0 });
         }
         let Some(column) = header.find(query.column()) else {
             return Err(CellFault::missing_column(alloc, query.column()));
@@ -90,19 +90,27 @@ impl<'a> BoundQuery<'a> {
 
     /// The value of the column in the record of this number: None is NULL. The faults of the record are seen here, whether
     /// the pairs ask for it or not.
-    pub(crate) fn value(&self, row: &Record, n: u64) -> Result<Option<i64>, CellFault>
+    pub(crate) fn value(
+        &self,
+        alloc: Global,
+        row: &Record,
+        n: u64,
+    ) -> Result<Option<i64>, CellFault>
         ensures value { IfOk result
             (λ v. v ≡ number (field_in self.now.header self.now.query.column row.now)) }
         ensures sound { IfOk result
             (λ _. record_fault self.now.query self.now.header n row.now ≡ None) }
-        ensures fault { IfErr result
-            (λ e. TellsFault e (record_fault self.now.query self.now.header n row.now)) }
+        ensures fault { IfErr result (λ e. (e ≡ CellFault.OutOfMemory)
+            ⊎ TellsFault e (record_fault self.now.query self.now.header n row.now)) }
     {
         if !row.is_csv(&self.header) {
-            return Err(CellFault::Unbuilt);
+            return Err(CellFault::NotCsv { row: n });
         }
         if n > u64::from(ROW_LIMIT) {
-            return Err(CellFault::Unbuilt);
+            return Err(CellFault::TooManyRows {
+                total: n,
+                limit: ROW_LIMIT,
+            });
         }
         let field = row.field(self.column);
         if field.is_empty() {
@@ -110,7 +118,7 @@ impl<'a> BoundQuery<'a> {
         }
         match number(field) {
             Some(value) => Ok(Some(value)),
-            None => Err(CellFault::Unbuilt),
+            None => Err(CellFault::not_number(alloc, n, self.query.column())),
         }
     }
 

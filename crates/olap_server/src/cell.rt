@@ -29,11 +29,13 @@ pub fn cell_of_csv(
     pairs: &[(Text, Text)],
 ) -> Result<CellValue, CellFault>
     ensures value { IfOk result (λ v.
-        answer_of (record { column = column.now; aggregator = aggregator; pairs = pairs.now }) (file_records bytes.now) ≡ Ok v) }
+        answer_of (record { column = column.now; aggregator = aggregator; pairs = pairs.now })
+        (file_records bytes.now) ≡ Ok v) }
 
     // A fault is the file's first, from the header down.
     ensures fault { IfErr result (λ e. (e ≡ CellFault.OutOfMemory) ⊎ IsErrAnd
-        (answer_of (record { column = column.now; aggregator = aggregator; pairs = pairs.now }) (file_records bytes.now))
+        (answer_of (record { column = column.now; aggregator = aggregator; pairs = pairs.now })
+        (file_records bytes.now))
         (λ fault. e ≡ told_fault fault)) }
 {
     if aggregator != Aggregator::DistinctCount {
@@ -76,7 +78,8 @@ fn side_by_side(
 ) -> Option<CellValue>
     requires { query.aggregator ≢ Aggregator.DistinctCount }
     ensures { IfSome result (λ v.
-        answer_of query.entry (file_records first.now ++ flat_map (λ part. file_records part.now) more.now) ≡ Ok v) }
+        answer_of query.entry
+        (file_records first.now ++ flat_map (λ part. file_records part.now) more.now) ≡ Ok v) }
 {
     let mut rows = Rows::new(alloc, first);
     let mut header = Record::new(alloc);
@@ -102,7 +105,9 @@ fn fold_parts(
     parts: &[&[u8]],
 ) -> Option<Vec<Part>>
     ensures { IfSome result (λ folded.
-        AllZip (λ bytes part. IsPart bound.now.query bound.now.header (file_records bytes.now) part) parts.now folded.items) }
+        AllZip
+        (λ bytes part. IsPart bound.now.query bound.now.header (file_records bytes.now) part)
+        parts.now folded.items) }
 {
     let folded = parts
         .par_iter()
@@ -158,7 +163,7 @@ fn fold_rows(alloc: Global, bound: &BoundQuery<'_>, rows: &mut Rows<'_>) -> Resu
     let mut n = 0u64;
     while rows.next(&mut row)? {
         n += 1;
-        let value = bound.value(&row, n)?;
+        let value = bound.value(alloc, &row, n)?;
         if bound.asks_for(&row) {
             tally.step(value)?;
         }

@@ -1,22 +1,28 @@
 //! Why a file gives no aggregate.
-ghost use Rattle.std.specs.Prelude.{◌≡◌, ◌⊎◌, ◌++◌, IfOk, codes};
-ghost use Rattle.olap_meaning.specs.Texts.{name_text};
+ghost use Rattle.std.specs.Prelude.{◌≡◌, ◌⊎◌, IfOk};
 ghost use Rattle.olap_server.specs.declared.fault.CellFault.TheVariants.{OutOfMemory as NoMemory};
 ghost use Rattle.olap_server.specs.Faults.{refusal_text};
 
-use olap_meaning::{OutOfMemory, Text, name_text};
+use fault_texts::{no_column_text, not_csv_text, not_number_text, too_many_rows_text};
+use olap_meaning::{OutOfMemory, Text};
 use std::alloc::{AllocFailed, Global};
 use thiserror::Error;
 
-/// Why a file gives no aggregate.
+/// Why a file gives no aggregate. Records are numbered from 1, and the header has the number 0.
 #[derive(Debug, Drop, Error)]
 pub enum CellFault {
+    /// The record has another number of fields than the header, or a field that is not UTF-8.
+    #[error("record {row} is no record of the header's")]
+    NotCsv { row: u64 },
     /// The header has no column of this name. Of several it is the first: the query's own, then those of the pairs.
     #[error("no column {name}")]
     NoColumn { name: Text },
-    /// The file has another fault, which has no name of its own yet.
-    #[error("the file has a fault")]
-    Unbuilt,
+    /// The record's field in the query's column is neither empty nor a number.
+    #[error("record {row} has no number in column {column}")]
+    NotNumber { row: u64, column: Text },
+    /// With this record there are `total`.
+    #[error("{total} records are more than the limit of {limit}")]
+    TooManyRows { total: u64, limit: u32 },
     #[error("out of memory")]
     OutOfMemory,
 }
@@ -48,21 +54,27 @@ impl CellFault {
         }
     }
 
+    /// The fault of a record whose field in this column is neither empty nor a number.
+    pub(crate) fn not_number(alloc: Global, row: u64, column: &str) -> CellFault
+        ensures { (result ≡ CellFault.NotNumber row column.now)
+            ⊎ (result ≡ CellFault.OutOfMemory) }
+    {
+        match Text::from_str(alloc, column) {
+            Ok(column) => CellFault::NotNumber { row, column },
+            Err(OutOfMemory) => CellFault::OutOfMemory,
+        }
+    }
+
     /// What is told of the fault, behind the name of its file.
     pub(crate) fn text(&self, alloc: Global) -> Result<Text, OutOfMemory>
         ensures { IfOk result (λ t. t ≡ refusal_text self.now) }
     {
         match self {
-            CellFault::NoColumn { name } => column_text(alloc, name.as_str()),
-            CellFault::Unbuilt => Text::from_str(alloc, "UNBUILT"),
+            CellFault::NotCsv { row } => not_csv_text(alloc, *row),
+            CellFault::NoColumn { name } => no_column_text(alloc, name.as_str()),
+            CellFault::NotNumber { row, column } => not_number_text(alloc, *row, column.as_str()),
+            CellFault::TooManyRows { total, limit } => too_many_rows_text(alloc, *total, *limit),
             CellFault::OutOfMemory => Text::from_str(alloc, "MEMORY"),
         }
     }
-}
-
-fn column_text(alloc: Global, column: &str) -> Result<Text, OutOfMemory>
-    ensures { IfOk result (λ t. t ≡ codes "NO COLUMN " ++ name_text column.now) }
-{
-    let name = name_text(alloc, column)?;
-    Ok(Text::from_string(format!(in alloc; "NO COLUMN {name}")?))
 }

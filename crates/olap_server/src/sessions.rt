@@ -1,18 +1,20 @@
 //! The command `run`: a cache is opened, and a session served over it.
-ghost use Rattle.std.specs.Prelude.{◌≢◌, IfSome, IsTrue, None};
+ghost use Rattle.std.specs.Prelude.{◌≡◌, ◌≢◌, IfSome, IsTrue, MatchResult, None};
 ghost use Rattle.cache_manager.specs.Jobs.{NoneFlies};
 ghost use Rattle.line_session.specs.Sessions.{asker};
 ghost use Rattle.olap_meaning.specs.Legal.{Legal, is_next_call};
 ghost use Rattle.olap_server.specs.Run.{EndsRun, IsLast, IsWithin, SayTells};
+ghost use Rattle.olap_server.specs.Said.{no_memory};
 
 use crate::reply::Reply;
 use crate::status::Status;
 use cache_manager::Manager;
 use cache_opening::OpenFault;
 use fact_versions::Steps;
+use fault_texts::{batch_line, rows_line, schema_line, table_line};
 use history_core::History;
 use line_session::{SessionEnd, serve};
-use olap_meaning::{OutOfMemory, named_line};
+use olap_meaning::{OutOfMemory, Text, named_line};
 use outside::Link;
 use std::alloc::Global;
 use std::sync::ledger::Ledger;
@@ -33,13 +35,25 @@ pub(crate) fn reply_to_opening(alloc: Global, fault: &OpenFault) -> Reply
             Status::NoFile,
             named_line(alloc, "NO FILE", name.as_str()),
         ),
-        OpenFault::Unbuilt { file } => Reply::made(
-            Status::Schema,
-            named_line(alloc, "UNBUILT", file.as_str()),
-        ),
+        OpenFault::Schema { fault } => refused(schema_line(alloc, fault)),
+        OpenFault::Table { file, fault } => refused(table_line(alloc, file.as_str(), fault)),
+        OpenFault::Batch { file, fault } => refused(batch_line(alloc, file.as_str(), fault)),
+        OpenFault::TooManyRows { file, total, limit } => {
+            refused(rows_line(alloc, file.as_str(), *total, *limit))
+        }
+        OpenFault::Unbuilt { file } => refused(named_line(alloc, "UNBUILT", file.as_str())),
         OpenFault::Source => Reply::fixed(Status::Source, "SOURCE\n"),
         OpenFault::OutOfMemory => Reply::no_memory(),
     }
+}
+
+// What is to be said of a file that has a fault.
+fn refused(line: Result<Text, OutOfMemory>) -> Reply
+    ensures { MatchResult line
+        (λ t. result ≡ record { status = Status.Schema; text = t })
+        (λ _. result ≡ no_memory) }
+{
+    Reply::made(Status::Schema, line)
 }
 
 // What is said at the end of a session, and the status.

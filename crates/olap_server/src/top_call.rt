@@ -1,9 +1,10 @@
 //! The top call: from the words of a command line to the bytes that are written.
-ghost use Rattle.std.specs.Prelude.{◌≡◌, ◌≢◌, ◌++◌, ◌⊎◌, IfOk, IfSome, None, codes};
+ghost use Rattle.std.specs.Prelude.{◌≡◌, ◌≢◌, ◌⊎◌, IfOk, IfSome, None};
 ghost use Rattle.history_core.specs.Cache.{CacheOf};
 ghost use Rattle.cache_opening.specs.Opening.{IsOpened};
 ghost use Rattle.csv_records.specs.Files.{file_records};
-ghost use Rattle.olap_meaning.specs.Texts.{line, plain_text, name_text};
+ghost use Rattle.fault_texts.specs.FaultTexts.{fact_line};
+ghost use Rattle.olap_meaning.specs.Texts.{line, plain_text};
 ghost use Rattle.olap_meaning.specs.FileQuery.{answer_of};
 ghost use Rattle.olap_meaning.specs.Legal.{Legal};
 ghost use Rattle.olap_server.specs.Faults.{refusal_text};
@@ -20,7 +21,8 @@ use crate::status::Status;
 use crate::words::Words;
 use cache_opening::open_cache;
 use fact_versions::Steps;
-use olap_meaning::{CellValue, OutOfMemory, Text, name_text, named_line, plain_text};
+use fault_texts::fact_line;
+use olap_meaning::{CellValue, OutOfMemory, Text, named_line, plain_text};
 use outside::{Depot, DepotRefusal, Link};
 use std::alloc::Global;
 use std::sync::ledger::Ledger;
@@ -165,11 +167,14 @@ fn reply_to_file(
 // What is to be said of a fault.
 fn reply_to_fault(alloc: Global, file: &str, fault: &CellFault) -> Reply
     ensures { IsSaid (fault.now ≢ CellFault.OutOfMemory) Status.Schema
-        (line (codes "FACT " ++ name_text file.now ++ codes " " ++ refusal_text fault.now)) result }
+        (fact_line file.now (refusal_text fault.now)) result }
 {
     match fault {
         CellFault::OutOfMemory => Reply::no_memory(),
-        CellFault::NoColumn { .. } | CellFault::Unbuilt => {
+        CellFault::NotCsv { .. }
+        | CellFault::NoColumn { .. }
+        | CellFault::NotNumber { .. }
+        | CellFault::TooManyRows { .. } => {
             Reply::made(Status::Schema, refusal_line(alloc, file, fault))
         }
     }
@@ -182,12 +187,9 @@ fn value_line(alloc: Global, value: &CellValue) -> Result<Text, OutOfMemory>
     Ok(Text::from_string(format!(in alloc; "{text}\n")?))
 }
 
-#[tactic(auto, using(std::proofs::Common::append_assoc))]
 fn refusal_line(alloc: Global, file: &str, fault: &CellFault) -> Result<Text, OutOfMemory>
-    ensures { IfOk result (λ t.
-        t ≡ line (codes "FACT " ++ name_text file.now ++ codes " " ++ refusal_text fault.now)) }
+    ensures { IfOk result (λ t. t ≡ fact_line file.now (refusal_text fault.now)) }
 {
-    let name = name_text(alloc, file)?;
     let told = fault.text(alloc)?;
-    Ok(Text::from_string(format!(in alloc; "FACT {name} {told}\n")?))
+    fact_line(alloc, file, told.as_str())
 }

@@ -137,7 +137,11 @@ impl MemorySink {
     fn put(&mut self, bytes: &[u8])
         requires { length bytes.now ≤ self.old.room }
         ensures { self.new
-            ≡ record { talk = self.old.talk ++ took bytes.now ∷ []; plan = self.old.plan; room = self.old.room - length bytes.now } }
+            ≡ record {
+              talk = self.old.talk ++ took bytes.now ∷ [];
+              plan = self.old.plan;
+              room = self.old.room - length bytes.now;
+            } }
     {
         put_at(&mut self.bytes, self.used, bytes);
         self.used += bytes.len();

@@ -12,5 +12,3 @@ mod members;
 mod requests;
 #[cfg(test)]
 mod sample;
-#[cfg(test)]
-mod tables;

@@ -1,12 +1,16 @@
 //! The sample schema, field by field, and what else a schema may be.
 use cube_schema::read_schema;
-use olap_meaning::Aggregator;
-use olap_meaning::schema::{Schema, SchemaCube, SchemaDimension};
+use olap_meaning::schema::{Schema, SchemaAggregate, SchemaCube, SchemaDimension};
+use olap_meaning::{Aggregator, Text};
 use std::alloc::{AllocError, Global};
 use std::test::Fail;
+use test_samples::files::{stores, times};
+use test_samples::open_catalog;
 
-/// The schema of the sample files.
-pub(crate) const SALES: &str = r#"{"dimensions":[
+// The texts stand behind functions, so that no proof reads their bytes.
+
+// The schema of the sample files.
+const SALES: &str = r#"{"dimensions":[
   {"name":"Time","table":"time.csv","primaryKey":"time_id","hierarchies":[
     {"hasAll":false,"levels":[{"name":"Year","column":"year"},{"name":"Quarter","column":"quarter"}]}]},
   {"name":"Store","table":"store.csv","primaryKey":"store_id","hierarchies":[
@@ -55,6 +59,49 @@ level Measures c
 cube A.B f
 avg A.B c
 ";
+
+// Two aggregate tables over the cube of the sample: levels of two dimensions, of which one stands twice, an average with
+// its counts, and a measure twice; and a table without levels, measures and file.
+const TABLES: &str = r#"{"aggregates":[
+  {"name":"a","cube":"Sales","file":"a.csv","factCount":"n",
+   "levels":[{"hierarchy":"Time","level":"Year","column":"y"},{"hierarchy":"Store","level":"City","column":"c"},
+    {"hierarchy":"Time","level":"Year","column":"z"}],
+   "measures":[{"measure":"Average","column":"s","countColumn":"k"},{"measure":"Units","column":"u","countColumn":7},
+    {"measure":"Units","column":"v"}]},
+  {"name":"b","cube":"Sales","factCount":"n","levels":[],"measures":[]}],"#;
+
+const TABLE_FIELDS: &str = "table a Sales a.csv n
+level Time Year y
+level Store City c
+measure Average s k
+measure Units u -
+measure Units v -
+table b Sales - n
+";
+
+fn sales() -> &'static str {
+    SALES
+}
+
+fn sales_fields() -> &'static str {
+    SALES_FIELDS
+}
+
+fn odd() -> &'static str {
+    ODD
+}
+
+fn odd_fields() -> &'static str {
+    ODD_FIELDS
+}
+
+fn tables() -> &'static str {
+    TABLES
+}
+
+fn table_fields() -> &'static str {
+    TABLE_FIELDS
+}
 
 fn aggregator_text(aggregator: Aggregator) -> &'static str {
     match aggregator {
@@ -115,6 +162,40 @@ fn add_cube(text: &mut String, cube: &SchemaCube) -> Result<(), AllocError> {
     Ok(())
 }
 
+fn text_or_dash(text: &Option<Text>) -> &str {
+    match text {
+        Some(text) => text.as_str(),
+        None => "-",
+    }
+}
+
+fn add_table(text: &mut String, table: &SchemaAggregate) -> Result<(), AllocError> {
+    let words = [
+        table.name.as_str(),
+        table.cube.as_str(),
+        text_or_dash(&table.file),
+        table.fact_count.as_str(),
+    ];
+    add_line(text, "table", &words)?;
+    for level in table.levels.as_slice() {
+        let words = [
+            level.hierarchy.as_str(),
+            level.level.as_str(),
+            level.column.as_str(),
+        ];
+        add_line(text, "level", &words)?;
+    }
+    for measure in table.measures.as_slice() {
+        let words = [
+            measure.measure.as_str(),
+            measure.column.as_str(),
+            text_or_dash(&measure.count_column),
+        ];
+        add_line(text, "measure", &words)?;
+    }
+    Ok(())
+}
+
 // The fields of a schema, an object a line.
 fn fields(alloc: Global, schema: &Schema) -> Result<String, AllocError> {
     let mut text = String::new(alloc);
@@ -124,23 +205,47 @@ fn fields(alloc: Global, schema: &Schema) -> Result<String, AllocError> {
     for cube in schema.cubes.as_slice() {
         add_cube(&mut text, cube)?;
     }
+    for table in schema.aggregates.as_slice() {
+        add_table(&mut text, table)?;
+    }
     Ok(text)
+}
+
+// The fields of the schema that a text is.
+fn fields_of(alloc: Global, json: &str) -> Result<String, Fail> {
+    match read_schema(alloc, json.as_bytes()) {
+        Ok(schema) => Ok(fields(alloc, &schema)?),
+        Err(_) => Err(Fail::from("no schema")),
+    }
 }
 
 #[test]
 fn schemas_are_read_field_by_field(rt: HostRuntime) -> Result<(), Fail> {
     let alloc = rt.alloc();
-    for (json, want) in [(SALES, SALES_FIELDS), (ODD, ODD_FIELDS)] {
-        let schema = match read_schema(alloc, json.as_bytes()) {
-            Ok(schema) => schema,
-            Err(fault) => {
-                println!(rt; "{fault}")?;
-                return Err(Fail::from("no schema"));
-            }
-        };
-        let found = fields(alloc, &schema)?;
-        assert_eq!(rt; found.as_str(), want);
-        assert!(rt; schema.aggregates.is_empty());
+    for (json, want) in [(sales(), sales_fields()), (odd(), odd_fields())] {
+        assert_eq!(rt; fields_of(alloc, json)?.as_str(), want);
     }
+    Ok(())
+}
+
+#[test]
+fn aggregate_tables_are_read_field_by_field(rt: HostRuntime) -> Result<(), Fail> {
+    let alloc = rt.alloc();
+    let json = sales().replacen(alloc, "{", tables(), 1)?;
+    let mut want = String::from_str(alloc, sales_fields())?;
+    want.push_str(table_fields())?;
+    assert_eq!(rt; fields_of(alloc, json.as_str())?.as_str(), want.as_str());
+    Ok(())
+}
+
+#[test]
+fn aggregate_tables_are_found_by_name(rt: HostRuntime) -> Result<(), Fail> {
+    let alloc = rt.alloc();
+    let json = sales().replacen(alloc, "{", tables(), 1)?;
+    let Some(catalog) = open_catalog(alloc, json.as_bytes(), &[times(), stores()]) else {
+        return Err(Fail::from("no catalog"));
+    };
+    assert_eq!(rt; catalog.find_agg("B"), Some(1));
+    assert!(rt; catalog.find_agg("Sales").is_none());
     Ok(())
 }

@@ -13,8 +13,8 @@ fn faults_say_what_they_are(rt: HostRuntime) -> Result<(), Fail> {
     let missing = CellFault::NoColumn { name };
     assert_eq!(rt; missing.to_string(alloc)?.as_str(), "no column price");
     assert_eq!(rt;
-        CellFault::Unbuilt.to_string(alloc)?.as_str(),
-        "the file has a fault"
+        CellFault::NotCsv { row: 3 }.to_string(alloc)?.as_str(),
+        "record 3 is no record of the header's"
     );
     assert_eq!(rt;
         CellFault::OutOfMemory.to_string(alloc)?.as_str(),

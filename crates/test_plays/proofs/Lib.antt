@@ -1,2 +1,3 @@
 mod CallFacts
 mod JobFacts
+mod SmallFacts

@@ -1,6 +1,6 @@
 -- What can be loaded from a catalog of the sample schema.
 use Rattle.std.proofs.Common.{◌≡◌, ◌∙◌, ◌<◌, ◌+◌, ℕ, ℤ, zero, suc, Bool, true, false, List, [], ◌∷◌, ◌++◌, Option, Some, All, length, map, take, get_or, refl, sym, ap, arith}
-use Rattle.std.specs.Prelude.{IsTrue, ◌&&◌, ◌==◌, nat_lt, nat_le}
+use Rattle.std.specs.Prelude.{IsTrue, ◌&&◌, ◌==◌, codes, is_some, nat_lt, nat_le}
 use Rattle.std.specs.List.{list_all}
 use Rattle.std.proofs.lemmas.Bool.{and_parts, and_from}
 use Rattle.std.proofs.lemmas.Bool.Decides.{nat_tests}
@@ -12,10 +12,12 @@ use Rattle.olap_meaning.specs.declared.tables.Cube.{Cube}
 use Rattle.olap_meaning.specs.declared.tables.Row.{Row}
 use Rattle.olap_meaning.specs.declared.schema.Schema.{Schema}
 use Rattle.olap_meaning.specs.declared.schema.SchemaCube.{SchemaCube}
+use Rattle.olap_meaning.specs.declared.schema.SchemaUse.{SchemaUse}
 use Rattle.olap_meaning.specs.History.{is_some_and}
 use Rattle.olap_meaning.specs.Legal.{is_column_of, is_row}
 use Rattle.olap_meaning.specs.Catalog.{records}
-use Rattle.olap_meaning.specs.Schema.{IsWithinCube, IsWithinLimits, catalog_of}
+use Rattle.olap_meaning.specs.Schema.{IsWithinCube, catalog_of, dimension_place}
+use Rattle.olap_meaning.specs.Whole.{AreUsesNamed, IsTableOf, IsWhole}
 use Rattle.olap_catalog.specs.Parts.{records_in}
 use Rattle.catalog_tables.specs.Tables.{TableOf}
 use Rattle.std.proofs.lemmas.List.Elements.{All-cons, All-nil}
@@ -23,7 +25,7 @@ use Rattle.fact_versions.specs.FactRows.{FactRows}
 use Rattle.fact_versions.specs.Facts.{FactsOf, batches_of, with_batch}
 use Rattle.fact_versions.proofs.Grown.{All-with_batch, length-cubes}
 use Rattle.segment_load.specs.Loads.{are_batches, header_measure, is_batch, is_loadable}
-use Rattle.test_samples.specs.Samples.{IsSample, sample_cube, sample_columns, sample_schema}
+use Rattle.test_samples.specs.Samples.{IsSample, sample_cube, sample_columns, sample_schema, use_of}
 
 below_true : (a b : ℕ) → a < b → nat_lt a b ≡ true
 below_true a b h = grind (arith, nat_tests)
@@ -86,14 +88,23 @@ measure_known catalog (suc (suc (suc m))) columns is h = absurd (omega arith)
 pub loadable : (catalog : Catalog) (measure : ℕ) (columns : List (ℕ × Allowed)) → IsSample catalog → measure < 3 → list_all (λ column. nat_lt column.0 3) columns ≡ true → is_loadable catalog (record { cube = 0; measure = measure; columns = columns }) ≡ true
 loadable catalog measure columns is few known = and_from _ _ (measure_known catalog measure columns is few) (rw is.cubes (columns_known catalog columns is known))
 
-pub within : IsWithinLimits sample_schema
-within = record {
-  dimensions = omega arith;
-  hierarchies = omega arith;
-  levels = omega arith;
-  cubes = omega arith;
-  each = All-cons IsWithinCube _ [] (record { dimensions = omega arith; measures = omega arith }) (All-nil IsWithinCube);
+-- the sample schema is whole
+pub whole_sample : IsWhole sample_schema
+whole_sample = record {
+  limits = record {
+    dimensions = omega arith;
+    hierarchies = omega arith;
+    levels = omega arith;
+    cubes = omega arith;
+    each = All-cons IsWithinCube _ [] (record { dimensions = omega arith; measures = omega arith }) (All-nil IsWithinCube);
+  };
+  uses = All-cons (AreUsesNamed sample_schema) _ [] (All-cons Named (use_of (codes "Time")) (use_of (codes "Store") ∷ []) refl (All-cons Named (use_of (codes "Store")) [] refl (All-nil Named))) (All-nil (AreUsesNamed sample_schema));
+  few_tables = omega arith;
+  tables = All-nil (IsTableOf sample_schema);
 }
+  where
+    Named : SchemaUse → Type 0
+    Named used = is_some (dimension_place sample_schema.dimensions used.source) ≡ true
 
 -- the catalog of the sample schema and two tables of three records
 pub sample_of : (catalog : Catalog) (schema : Schema) (tables : List TableOf) → catalog ≡ catalog_of schema (records_in tables) → schema ≡ sample_schema → map (λ table. length table.records) tables ≡ 3 ∷ 3 ∷ [] → IsSample catalog

@@ -2,7 +2,6 @@
 ghost use Rattle.std.specs.Prelude.{◌≡◌};
 
 use crate::files::{counting_schema, odd_stores, times};
-use crate::lines::{add_line, asked, bytes_of};
 use crate::open_catalog;
 use crate::opened::batch_of;
 use fact_rows::BatchFault;
@@ -58,23 +57,4 @@ pub fn rows_of(alloc: Global, file: &[u8]) -> Result<Vec<Line>, Fail> {
         return Err(Fail::from("no batch"));
     };
     Ok(read_lines::<Brand>(alloc, &batch, Blank::new(1))?)
-}
-
-// What is said of a file: how many rows it has, or its fault.
-fn said_of(alloc: Global, file: &[u8]) -> Result<String, Fail> {
-    match batch(alloc, file)? {
-        Ok(batch) => Ok(format!(in alloc; "{} rows", batch.len())?),
-        Err(fault) => Ok(fault.to_string(alloc)?),
-    }
-}
-
-/// A table of files, each its bytes, and what is said of each.
-pub fn tell_batches(alloc: Global, table: &str) -> Result<String, Fail> {
-    let mut text = String::new(alloc);
-    for line in table.lines() {
-        let asked = asked(line);
-        let file = bytes_of(alloc, asked)?;
-        add_line(&mut text, asked, said_of(alloc, file.as_slice())?.as_str())?;
-    }
-    Ok(text)
 }

@@ -14,7 +14,6 @@ pub mod members;
 pub mod opened;
 pub mod requests;
 mod samples;
-pub mod tables;
 
 use catalog_tables::Table;
 use cube_schema::read_schema;

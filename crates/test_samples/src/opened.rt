@@ -1,6 +1,5 @@
 //! The catalog of the sample files, and their batches.
 ghost use Rattle.std.specs.Prelude.{◌<◌, IfOk, IsTrue, length};
-ghost use Rattle.fact_rows.specs.BatchFiles.{HasDimensions};
 ghost use Rattle.segment_load.specs.Loads.{is_batch};
 
 use crate::files::{schema, stores, times};
@@ -21,20 +20,6 @@ pub fn open(alloc: Global) -> Result<Arc<Catalog>, Fail> {
     }
 }
 
-/// Whether there is a first cube, and each of its uses has its dimension.
-fn has_cube(catalog: &Catalog) -> bool
-    ensures known { IsTrue result → 0 < length catalog.now.cubes }
-    ensures paired { IsTrue result → HasDimensions catalog.now 0 }
-{
-    if catalog.cube_count() == 0 {
-        return false;
-    }
-    match catalog.schema().cubes.get(0) {
-        Some(parts) => parts.dimensions.len() == catalog.cube(CubeId(0)).dimensions.len(),
-        None => false,
-    }
-}
-
 /// The batch of a file of the first cube, or its fault.
 pub(crate) fn batch_of(
     alloc: Global,
@@ -44,7 +29,7 @@ pub(crate) fn batch_of(
     ensures known { IfOk result (λ batch. 0 < length catalog.now.cubes) }
     ensures fit { IfOk result (λ read. IfOk read (λ batch. IsTrue (is_batch catalog.now 0 batch))) }
 {
-    if !has_cube(catalog) {
+    if catalog.cube_count() == 0 {
         return Err(Fail::from("no cube"));
     }
     Ok(read_batch(alloc, catalog, CubeId(0), file))

@@ -1,6 +1,6 @@
 -- What holds at each turn of `run_calls`.
-use Rattle.std.proofs.Common.{◌≡◌}
-use Rattle.cache_manager.specs.Runs.{IsRun, MayReplyAll, first_stage, stage_after, stage_of}
+use Rattle.std.proofs.Common.{◌≡◌, ◌+◌, ◌≤◌}
+use Rattle.cache_manager.specs.Runs.{IsRun, MayReplyAll, first_stage, rows_delivered, rows_over, rows_tried, stage_after, stage_of}
 use Rattle.cache_manager.proofs.calls.run_calls.Given as goal
 
 -- the calls so far are made, and each reply has its cause
@@ -10,4 +10,6 @@ invariant-loop-call g l = record {
   stage : stage_of l.manager l.jobs.items l.number ≡ stage_after (first_stage l.initial.manager.setting) l.yielded l.replies;
   setting : l.manager.setting ≡ l.initial.manager.setting;
   replies : MayReplyAll (first_stage l.initial.manager.setting) l.yielded l.replies;
+  at_least : l.initial.steps + rows_over rows_delivered (first_stage l.initial.manager.setting) l.yielded l.replies ≤ l.steps;
+  at_most : l.steps ≤ l.initial.steps + rows_over rows_tried (first_stage l.initial.manager.setting) l.yielded l.replies;
 }

@@ -4,7 +4,7 @@ use Rattle.std.specs.Prelude.{insert, remove}
 use Rattle.olap_meaning.specs.declared.cells.Who.{Who}
 use Rattle.olap_meaning.specs.History.{Entry, Done}
 use Rattle.segment_load.specs.Loads.{JobOf}
-use Rattle.cache_manager.proofs.Running.{ending_is, goes_on, length_map, map_remove, put_back, run_ended, run_later, stays}
+use Rattle.cache_manager.proofs.Running.{ending_is, goes_on, length_map, map_remove, put_back, rows_are, run_ended, run_later, stays}
 use Rattle.cache_manager.proofs.calls.run_delivery.Goals as goal
 
 pub returns-then-job-len-clause-run : goal.returns-then-job-len-clause-run
@@ -62,3 +62,30 @@ returns-in-Err-clause-next g c n =
     (rw c.unwrap.ensures at c.insert.ensures.items) ∙ ap (λ (jobs : List JobOf). insert jobs c.args.job c.in-Err.back) c.remove.ensures.items ∙ ap (λ (job : JobOf). insert (remove c.args.jobs.now.items c.args.job) c.args.job job) same
     ∙ put_back c.args.jobs.now.items c.args.job c.remove.result within c.remove.ensures.value in
     rw back (stays c.args.manager.now _ _)
+
+pub returns-then-job-len-clause-at_least : goal.returns-then-job-len-clause-at_least
+returns-then-job-len-clause-at_least g c n = omega arith
+
+pub returns-then-job-len-clause-at_most : goal.returns-then-job-len-clause-at_most
+returns-then-job-len-clause-at_most g c n = omega arith
+
+pub returns-in-Ok-clause-at_least : goal.returns-in-Ok-clause-at_least
+returns-in-Ok-clause-at_least g c n =
+    let within : c.args.job < length c.args.jobs.now.items = omega (arith, c.if-job-len.false, c.len.ensures, c.args.jobs.now.ok.0) in
+    let rows = rows_are c.args.manager.now c.args.jobs.now.items n c.args.job c.remove.result c.requires.jobs within c.remove.ensures.value in
+    omega (arith, rows, c.in-Ok.ensures.cost)
+
+pub returns-in-Ok-clause-at_most : goal.returns-in-Ok-clause-at_most
+returns-in-Ok-clause-at_most g c n =
+    let within : c.args.job < length c.args.jobs.now.items = omega (arith, c.if-job-len.false, c.len.ensures, c.args.jobs.now.ok.0) in
+    let rows = rows_are c.args.manager.now c.args.jobs.now.items n c.args.job c.remove.result c.requires.jobs within c.remove.ensures.value in
+    omega (arith, rows, c.in-Ok.ensures.cost)
+
+pub returns-in-Err-clause-at_least : goal.returns-in-Err-clause-at_least
+returns-in-Err-clause-at_least g c n = omega (arith, c.run_load.ensures.at_least)
+
+pub returns-in-Err-clause-at_most : goal.returns-in-Err-clause-at_most
+returns-in-Err-clause-at_most g c n =
+    let within : c.args.job < length c.args.jobs.now.items = omega (arith, c.if-job-len.false, c.len.ensures, c.args.jobs.now.ok.0) in
+    let rows = rows_are c.args.manager.now c.args.jobs.now.items n c.args.job c.remove.result c.requires.jobs within c.remove.ensures.value in
+    omega (arith, rows, c.run_load.ensures.at_most)

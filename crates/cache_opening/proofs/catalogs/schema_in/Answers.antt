@@ -1,7 +1,8 @@
--- What a reader refuses is a refused file, or memory is wanting.
-use Rattle.std.proofs.Common.{◌≡◌, rules}
+-- What a reader refuses is the fault that is told, or memory is wanting.
+use Rattle.std.proofs.Common.{◌≡◌, inl, refl, rules}
 use Rattle.cube_schema.specs.Schemas.{schema_of}
 use Rattle.cube_schema.specs.declared.fault.SchemaFault.TheVariants.{OutOfMemory}
+use Rattle.cache_opening.specs.declared.fault.OpenFault.TheVariants.{Schema}
 use Rattle.cache_opening.specs.Asking.{stopped}
 use Rattle.cache_opening.proofs.LeadFacts.{refused_by_reader}
 use Rattle.cache_opening.proofs.catalogs.schema_in.Goals as goal
@@ -11,5 +12,5 @@ returns-in-Err-OutOfMemory-clause-fault c = stopped
 
 pub returns-in-Err-clause-fault : goal.returns-in-Err-clause-fault
 returns-in-Err-clause-fault c =
-    let other : c.in-Err.field-0 ≡ OutOfMemory → ⊥ = search rules in
-    refused_by_reader c.args.file.now (schema_of c.args.bytes.now) OutOfMemory c.in-Err.field-0 c.unbuilt.result other c.in-Err.ensures.err c.unbuilt.ensures
+    let other : c.in-Err.fault ≡ OutOfMemory → ⊥ = search rules in
+    refused_by_reader Schema (schema_of c.args.bytes.now) OutOfMemory c.in-Err.fault (Schema c.in-Err.fault) other c.in-Err.ensures.err (inl refl)

@@ -11,18 +11,19 @@ roots_of-requires c =
     let dimensions = c.as_slice-dimensions.ensures in
     let same : length c.as_slice-3.result.now ≡ length (hierarchies_in c.args.schema) =
     ap length (c.as_slice-3.ensures ∙ c.in_ok-hierarchies.ensures ∙ ap (all_hierarchies 0 0) dimensions) ∙ length_all_hierarchies 0 0 c.args.schema.dimensions in
-    omega (arith, c.requires.limits.hierarchies, same)
+    omega (arith, c.requires.whole.limits.hierarchies, same)
 
 pub invariant_of-result : goal.invariant_of-result
 invariant_of-result c =
     let dimensions = c.as_slice-dimensions.ensures in
     let tables = c.in_ok-tables.ensures.same in
     parts_fit c.args.schema c.in_ok-tables.tables c.in_ok-columns.columns c.in_ok-hierarchies.hierarchies c.in_ok-cubes.cubes c.in_ok-full_names.full_names c.in_ok-roots.roots
-    (record { cubes = c.in_ok-cube_names.cube_names; measures = c.in_ok-measure_names.measure_names; roots = c.in_ok-root_names.root_names }) c.requires.limits
+    (record { cubes = c.in_ok-cube_names.cube_names; tables = c.in_ok-table_names.table_names; measures = c.in_ok-measure_names.measure_names; roots = c.in_ok-root_names.root_names }) c.requires.whole
     (ap (list_all (λ (t : TableOf). have_fields t.levels t.records)) tables ∙ c.in_ok-tables.ensures.even)
-    (ap (map (λ (t : TableOf). t.levels)) tables ∙ c.requires.whole)
+    (ap (map (λ (t : TableOf). t.levels)) tables ∙ c.requires.levels)
     (c.in_ok-columns.ensures ∙ ap (all_columns 0) dimensions)
     (c.in_ok-hierarchies.ensures ∙ ap (all_hierarchies 0 0) dimensions)
+    (search rules)
     (search rules)
     (search rules)
     (search rules)

@@ -1,0 +1,12 @@
+//! The lines that tell what is wrong with the files of a schema: one for each kind of file.
+#![tactic(auto)]
+
+mod facts;
+mod schemas;
+mod shared;
+mod tables;
+
+pub use facts::{batch_line, fact_line, rows_line};
+pub use schemas::schema_line;
+pub use shared::{no_column_text, not_csv_text, not_number_text, too_many_rows_text};
+pub use tables::table_line;

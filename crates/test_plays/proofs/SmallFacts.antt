@@ -1,0 +1,25 @@
+-- The small schema is whole.
+use Rattle.std.proofs.Common.{◌≡◌, [], refl, true, arith}
+use Rattle.std.specs.Prelude.{is_some}
+use Rattle.std.proofs.lemmas.List.Elements.{All-cons, All-nil}
+use Rattle.olap_meaning.specs.declared.schema.SchemaUse.{SchemaUse}
+use Rattle.olap_meaning.specs.Schema.{IsWithinCube, dimension_place}
+use Rattle.olap_meaning.specs.Whole.{AreUsesNamed, IsTableOf, IsWhole}
+use Rattle.test_plays.specs.Small.{small_schema}
+
+pub whole_small : IsWhole small_schema
+whole_small = record {
+  limits = record {
+    dimensions = omega arith;
+    hierarchies = omega arith;
+    levels = omega arith;
+    cubes = omega arith;
+    each = All-cons IsWithinCube _ [] (record { dimensions = omega arith; measures = omega arith }) (All-nil IsWithinCube);
+  };
+  uses = All-cons (AreUsesNamed small_schema) _ [] (All-nil Named) (All-nil (AreUsesNamed small_schema));
+  few_tables = omega arith;
+  tables = All-nil (IsTableOf small_schema);
+}
+  where
+    Named : SchemaUse → Type 0
+    Named used = is_some (dimension_place small_schema.dimensions used.source) ≡ true
