@@ -12,7 +12,7 @@ use Rattle.fact_versions.specs.Facts.{FactsOf, IsAlike, append_fault, arrival, b
 use Rattle.history_core.specs.History.{HistoryOf}
 use Rattle.segment_load.specs.Loads.{is_batch}
 use Rattle.history_core.specs.Cache.{CacheOf}
-use Rattle.cache_manager.specs.Arrivals.{arrival_in}
+use Rattle.history_core.specs.Arrivals.{arrival_in}
 use Rattle.cache_manager.specs.Kept.{AreFactsOf}
 use Rattle.cache_manager.proofs.Ends.{cache_of}
 use Rattle.cache_manager.proofs.Facts.{admitted, all_alike, next_version, same_arrival}

@@ -23,7 +23,7 @@ use Rattle.fact_versions.specs.FactRows.{FactRows}
 use Rattle.fact_versions.specs.Facts.{Arrival, FactsOf, IsAlike, append_fault, arrival, batches_of, rows_held, rows_of_batches, with_batch}
 use Rattle.fact_versions.specs.declared.faults.AppendFault.TheVariants.{TooManyRows, TooManyVersions}
 use Rattle.history_core.specs.Cache.{CacheOf}
-use Rattle.cache_manager.specs.Arrivals.{arrival_in}
+use Rattle.history_core.specs.Arrivals.{arrival_in}
 use Rattle.fact_versions.proofs.Grown.{batches_of-with_batch, batches_of-with_batch_other, length-cubes}
 use Rattle.segment_load.specs.Loads.{are_batches, is_batch, rows_in}
 use Rattle.cache_manager.specs.Kept.{AreFactsOf}

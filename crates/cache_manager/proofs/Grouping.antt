@@ -13,7 +13,7 @@ use Rattle.olap_meaning.specs.Catalog.{values}
 use Rattle.olap_meaning.specs.Covering.{allows, among, header_covers, just_covers, names_column}
 use Rattle.olap_meaning.specs.Legal.{is_cell, is_column_of, is_value, rise}
 use Rattle.segment_header.specs.Headers.{is_header, is_set}
-use Rattle.cache_manager.specs.Groups.{alike, columns_of, firsts, has_on, header_for, value_on, values_on}
+use Rattle.history_core.specs.Groups.{alike, columns_of, firsts, has_on, header_for, value_on, values_on}
 use Rattle.cache_manager.proofs.Fronts.{front_more}
 use Rattle.cache_manager.proofs.Numbers.{passing_there, rise_passing, there_passes}
 use Rattle.cache_manager.proofs.Rising.{above_one, same_rising}

@@ -11,7 +11,9 @@ use Rattle.olap_meaning.specs.History.{Entry, ends, load_at, rows_of}
 use Rattle.olap_meaning.specs.Legal.{Legal}
 use Rattle.segment_load.specs.Loads.{JobOf}
 use Rattle.history_core.specs.Cache.{CacheOf}
-use Rattle.cache_manager.specs.Jobs.{IsJobOf, actor, entries_of, numbers_from}
+use Rattle.cache_manager.specs.Jobs.{IsJobOf}
+use Rattle.history_core.specs.Seats.{actor, entries_of}
+use Rattle.history_core.specs.Groups.{numbers_from}
 use Rattle.cache_manager.specs.Runs.{apart}
 use Rattle.cache_manager.proofs.Pushes.{any_none, load_on, recorded, rows_on}
 

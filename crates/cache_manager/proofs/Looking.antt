@@ -13,10 +13,11 @@ use Rattle.cache_manager.specs.declared.kept.Flight.{Flight}
 use Rattle.cache_manager.specs.declared.kept.Kept.{Kept}
 use Rattle.cache_manager.specs.declared.starts.Planned.{Planned}
 use Rattle.history_core.specs.Cache.{CacheOf}
-use Rattle.cache_manager.specs.Groups.{firsts, wanting}
+use Rattle.history_core.specs.Groups.{firsts, wanting}
 use Rattle.history_core.specs.Answers.{HasSource, SomeWants}
 use Rattle.cache_manager.proofs.Answering.{source_is}
-use Rattle.cache_manager.specs.Jobs.{IsJobOf, NoneFlies}
+use Rattle.cache_manager.specs.Jobs.{IsJobOf}
+use Rattle.history_core.specs.Seats.{NoneFlies}
 use Rattle.cache_manager.specs.Kept.{IsManager}
 use Rattle.cache_manager.specs.Plans.{AreLegalSteps, ArePlanned}
 use Rattle.cache_manager.proofs.Grouping.{contains_at}

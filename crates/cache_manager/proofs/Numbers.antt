@@ -5,7 +5,7 @@ use Rattle.std.specs.List.{list_all}
 use Rattle.std.proofs.lemmas.Bool.{and_from, cases_order, eq-eqb, eqb-true, lt-ltb, or_cases, or_left, or_right}
 use Rattle.olap_meaning.specs.Covering.{among}
 use Rattle.olap_meaning.specs.Legal.{rise}
-use Rattle.cache_manager.specs.Jobs.{numbers_from}
+use Rattle.history_core.specs.Groups.{numbers_from}
 
 all_above : (p : ℕ → Bool) (n first count : ℕ) → n < first → list_all (nat_lt n) (filter p (numbers_from first count)) ≡ true
 all_above p n first zero l = refl

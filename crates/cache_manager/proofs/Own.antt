@@ -9,7 +9,8 @@ use Rattle.olap_meaning.specs.Legal.{Legal, LegalStep, IsLegalEnd}
 use Rattle.olap_meaning.proofs.Positions.{after_passes, entry_from-take}
 use Rattle.olap_meaning.proofs.Loads.{load_start, start_load}
 use Rattle.history_core.specs.Cache.{CacheOf}
-use Rattle.cache_manager.specs.Jobs.{IsOwn, actor}
+use Rattle.cache_manager.specs.Jobs.{IsOwn}
+use Rattle.history_core.specs.Seats.{actor}
 use Rattle.cache_manager.proofs.Pushes.{flying_from}
 
 any_filtered : {A : Type 0} (keep test : A → Bool) (xs : List A) (i : ℕ) (x : A) → slice_get xs i ≡ Some x → keep x ≡ true → test x ≡ true → list_any test (filter keep xs) ≡ true

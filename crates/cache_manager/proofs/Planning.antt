@@ -16,8 +16,10 @@ use Rattle.cache_manager.specs.declared.kept.Flight.{Flight}
 use Rattle.cache_manager.specs.declared.kept.Kept.{Kept}
 use Rattle.cache_manager.specs.declared.starts.Planned.{Planned}
 use Rattle.history_core.specs.Cache.{CacheOf}
-use Rattle.cache_manager.specs.Groups.{load_for}
-use Rattle.cache_manager.specs.Jobs.{IsJobOf, IsOwn, actor, entries_of, numbers_from}
+use Rattle.history_core.specs.Groups.{load_for}
+use Rattle.cache_manager.specs.Jobs.{IsJobOf, IsOwn}
+use Rattle.history_core.specs.Seats.{actor, entries_of}
+use Rattle.history_core.specs.Groups.{numbers_from}
 use Rattle.cache_manager.specs.Kept.{IsManager}
 use Rattle.cache_manager.specs.Plans.{AreLegalSteps, ArePlanned, IsPlanned}
 use Rattle.cache_manager.proofs.Moves.{starts}

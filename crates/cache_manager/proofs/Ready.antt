@@ -15,9 +15,9 @@ use Rattle.olap_meaning.proofs.Loads.{live_on, load_start, some_and, start_load}
 use Rattle.olap_meaning.proofs.Positions.{after_passes, entry-append, entry_within, latest_bounds, latest_found}
 use Rattle.history_core.specs.Answers.{HasSource}
 use Rattle.history_core.specs.Cache.{CacheOf}
-use Rattle.cache_manager.specs.Groups.{alike, firsts, header_for, load_for, loads_for, wanting}
+use Rattle.history_core.specs.Groups.{alike, firsts, header_for, load_for, loads_for, wanting}
 use Rattle.olap_meaning.specs.Legal.{is_cell}
-use Rattle.cache_manager.specs.Jobs.{numbers_from}
+use Rattle.history_core.specs.Groups.{numbers_from}
 use Rattle.cache_manager.specs.Laws.{DeliveredLooksAreReady}
 use Rattle.cache_manager.proofs.Answering.{source_is}
 use Rattle.cache_manager.proofs.Grouping.{alike_from, alike_self, alike_told, group_covered, kept_place, Alike}

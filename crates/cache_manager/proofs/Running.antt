@@ -15,7 +15,8 @@ use Rattle.olap_meaning.specs.Legal.{Legal, caller, is_call_below, is_call_of, i
 use Rattle.olap_meaning.specs.Worth.{cost}
 use Rattle.segment_load.specs.Loads.{JobOf, rows_in}
 use Rattle.history_core.specs.Cache.{CacheOf}
-use Rattle.cache_manager.specs.Jobs.{IsJobOf, numbers_from}
+use Rattle.cache_manager.specs.Jobs.{IsJobOf}
+use Rattle.history_core.specs.Groups.{numbers_from}
 use Rattle.cache_manager.specs.Runs.{IsRun, IsStopped, MayReply, MayReplyAll, Stage, apart, ending, first_stage, is_below, next_stage, rows_of_job, rows_over, rows_tried, stage_after, stage_of}
 use Rattle.cache_manager.specs.declared.calls.Call.{Call}
 use Rattle.cache_manager.specs.declared.calls.Reply.{Reply}

@@ -12,7 +12,7 @@ use Rattle.olap_meaning.specs.Growth.{greater}
 use Rattle.olap_meaning.specs.Legal.{IsLegalStart, Legal, rise, is_cell}
 use Rattle.olap_meaning.proofs.Growing.{latest_agree, legal_grows, version_grows}
 use Rattle.olap_meaning.proofs.Sources.{awaited_load_grows, exact_source_grows}
-use Rattle.cache_manager.specs.Groups.{alike, firsts, load_for}
+use Rattle.history_core.specs.Groups.{alike, firsts, load_for}
 use Rattle.cache_manager.specs.Plans.{AreLegalSteps}
 use Rattle.cache_manager.proofs.Grouping.{covered_alike, group_columns, group_covered, group_place, known_rises}
 

@@ -1,27 +1,13 @@
 -- Jobs and deliveries of the loads in flight.
-use Rattle.std.specs.Prelude.{ℕ, suc, ◌≡◌, ◌==◌, zero, List, [], ◌∷◌, Some, false, filter, length}
+use Rattle.std.specs.Prelude.{ℕ, ◌≡◌, Some, false, length}
 use Rattle.std.specs.List.{list_any}
 use Rattle.olap_meaning.specs.declared.cells.Who.{Who}
-use Rattle.olap_meaning.specs.History as history
-use Rattle.olap_meaning.specs.History.{Entry, Append, Flush, Start, Done, Drop, Answer, Saw, Load, ends, load_at, rows_of}
+use Rattle.olap_meaning.specs.History.{Load, ends, load_at, rows_of}
 use Rattle.olap_meaning.specs.Worth.{cost}
 use Rattle.segment_body.specs.BodyOf.{BodyOf}
 use Rattle.segment_load.specs.Loads.{JobOf, body_of, rows_in}
 use Rattle.history_core.specs.Cache.{CacheOf}
-
--- who did what an entry says
-abbrev pub actor : Entry → Who
-actor (Append who cube version rows) = who
-actor (Flush who region) = who
-actor (Start load) = load.who
-actor (Done who load) = who
-actor (Drop who load) = who
-actor (Answer who cells) = who
-actor (Saw who) = who
-
--- the entries of a seat, in order
-abbrev pub entries_of : List Entry → ℕ → List Entry
-entries_of history seat = filter (λ entry. (actor entry).seat == seat) history
+use Rattle.history_core.specs.Seats.{entries_of}
 
 -- a load is one's own and flies, as far as one's own entries tell: it was started by this call, and no entry of the
 -- seat ends it
@@ -49,12 +35,3 @@ pub record IsJobOf (cache : CacheOf) (job : JobOf) : Type 0 where
   pub header : job.header ≡ load.header
   pub rows : rows_in job.snapshot ≡ rows_of cache.entries load.header.cube load.version
   pub costs : length (rows_in job.snapshot) ≡ cost cache.entries load
-
--- so many numbers, from one on
-abbrev pub numbers_from : ℕ → ℕ → List ℕ
-numbers_from first zero = []
-numbers_from first (suc count) = first ∷ numbers_from (suc first) count
-
--- no load flies
-abbrev pub NoneFlies : List Entry → Type 0
-NoneFlies entries = (j : ℕ) → history.flying entries j ≡ false

@@ -7,8 +7,9 @@ use Rattle.olap_meaning.specs.History.{Entry, Load, Start, flushes, flying, kept
 use Rattle.olap_meaning.specs.Legal.{Legal, is_cell}
 use Rattle.history_core.specs.Answers.{HasSource}
 use Rattle.history_core.specs.Cache.{CacheOf}
-use Rattle.cache_manager.specs.Groups.{loads_for}
-use Rattle.cache_manager.specs.Jobs.{IsOwn, numbers_from}
+use Rattle.history_core.specs.Groups.{loads_for}
+use Rattle.cache_manager.specs.Jobs.{IsOwn}
+use Rattle.history_core.specs.Groups.{numbers_from}
 
 -- a delivered look is ready: where each load that a look started was delivered, in whatever order, and nothing that
 -- came after flushes its cells, each of them has a source

@@ -1,5 +1,3 @@
-pub mod Arrivals
-pub mod Groups
 pub mod Looks
 pub mod Jobs
 pub mod Kept
@@ -7,3 +5,4 @@ pub mod Search
 pub mod Plans
 pub mod Laws
 pub mod Runs
+pub mod Lent

@@ -8,7 +8,7 @@ use Rattle.olap_meaning.specs.Legal.{LegalStep}
 use Rattle.history_core.specs.Entries.{entry_of}
 use Rattle.segment_load.specs.Loads.{rows_in}
 use Rattle.history_core.specs.Cache.{CacheOf}
-use Rattle.cache_manager.specs.Groups.{alike, header_for, load_for}
+use Rattle.history_core.specs.Groups.{alike, header_for, load_for}
 use Rattle.cache_manager.specs.declared.starts.Planned.{Planned}
 
 -- what is prepared for the load of a group, which is to have this number: its Start, its flight and its job

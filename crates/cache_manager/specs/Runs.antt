@@ -19,9 +19,11 @@ use Rattle.cache_manager.specs.declared.calls.Reply.{Reply}
 use Rattle.cache_manager.specs.declared.calls.Reply.TheVariants.{Appended, Refused, Ready, Loading, Busy, Ended, NoJob, OutOfMemory}
 use Rattle.history_core.specs.Answers.{HasSource, IsAnswer, SomeWants, source_of}
 use Rattle.history_core.specs.Cache.{CacheOf}
-use Rattle.cache_manager.specs.Arrivals.{arrival_in}
-use Rattle.cache_manager.specs.Groups.{loads_for}
-use Rattle.cache_manager.specs.Jobs.{IsJobOf, NoneFlies, numbers_from}
+use Rattle.history_core.specs.Arrivals.{arrival_in}
+use Rattle.history_core.specs.Groups.{loads_for}
+use Rattle.cache_manager.specs.Jobs.{IsJobOf}
+use Rattle.history_core.specs.Seats.{NoneFlies}
+use Rattle.history_core.specs.Groups.{numbers_from}
 
 -- a call may be made on a cache over a catalog: a batch is one of a cube, and cells are known
 abbrev pub MayCall : Catalog → Call → Type 0

@@ -4,7 +4,8 @@ ghost use Rattle.std.specs.List.{list_all, list_any};
 ghost use Rattle.olap_meaning.specs.declared.tables.Catalog.{Catalog};
 ghost use Rattle.olap_meaning.specs.Covering.{among};
 ghost use Rattle.olap_meaning.specs.Legal.{is_cell, rise};
-ghost use Rattle.cache_manager.specs.Groups as groups;
+ghost use Rattle.history_core.specs.Groups as groups;
+ghost use Rattle.cache_manager.specs.Lent.{lent};
 
 use olap_meaning::{Allowed, Cell, ColumnId, Header, List, OutOfMemory, ValueId};
 use std::alloc::Global;
@@ -41,10 +42,10 @@ fn is_seen(firsts: &[&Cell], cell: &Cell) -> bool
 /// Adds a cell to the first cells of some groups, where it is in none of them.
 #[tactic(auto, using(crate::proofs::Lending::added_seen, crate::proofs::Lending::added_new))]
 fn add_first<'a>(firsts: &mut Vec<&'a Cell>, cell: &'a Cell) -> Result<(), OutOfMemory>
-    ensures { OnOk result (groups.lent firsts.new.items
-        ≡ (if list_any (groups.alike cell.entry.now) (groups.lent firsts.old.items)
-        then groups.lent firsts.old.items
-        else groups.lent firsts.old.items ++ cell.entry.now ∷ [])) }
+    ensures { OnOk result (lent firsts.new.items
+        ≡ (if list_any (groups.alike cell.entry.now) (lent firsts.old.items)
+        then lent firsts.old.items
+        else lent firsts.old.items ++ cell.entry.now ∷ [])) }
 {
     if is_seen(firsts.as_slice(), cell) {
         return Ok(());
@@ -59,7 +60,7 @@ pub(crate) fn first_cells<'a>(
     cells: &[&'a Cell],
 ) -> Result<Vec<&'a Cell>, OutOfMemory>
     ensures { IfOk result (λ firsts.
-        groups.lent firsts.items ≡ groups.firsts [] (groups.lent cells.now)) }
+        lent firsts.items ≡ groups.firsts [] (lent cells.now)) }
 {
     let mut firsts = Vec::new(alloc);
     for cell in cells {
@@ -129,7 +130,7 @@ fn values_on(
     ensures rising { IfOk result (λ values. IsTrue (rise values.items)) }
     ensures just { IfOk result (λ values. (v : ℕ) → among values.items v
         ≡ list_any (groups.has_on column v)
-        (filter (groups.alike first.now) (groups.lent cells.now))) }
+        (filter (groups.alike first.now) (lent cells.now))) }
 {
     let mut values = Vec::new(alloc);
     for cell in cells {
@@ -145,9 +146,9 @@ pub(crate) fn header_for(
     cells: &[&Cell],
 ) -> Result<Header, OutOfMemory>
     ensures { IfOk result
-        (λ header. (catalog : Catalog) → IsTrue (list_all (is_cell catalog) (groups.lent cells.now))
+        (λ header. (catalog : Catalog) → IsTrue (list_all (is_cell catalog) (lent cells.now))
         → header ≡ groups.header_for catalog first.now
-        (filter (groups.alike first.now) (groups.lent cells.now))) }
+        (filter (groups.alike first.now) (lent cells.now))) }
 {
     let mut columns = List::new(alloc);
     for pair in first.at.as_slice() {

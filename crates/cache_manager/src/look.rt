@@ -8,8 +8,11 @@ ghost use Rattle.olap_meaning.specs.Legal.{is_cell, is_next_call};
 ghost use Rattle.olap_meaning.specs.Worth.{answered_version, worth};
 ghost use Rattle.history_core.specs.Answers.{HasSource, IsAnswer, SomeWants, source_of};
 ghost use Rattle.cache_manager.specs.Looks.{IfLoad, IfReady};
-ghost use Rattle.cache_manager.specs.Groups as groups;
-ghost use Rattle.cache_manager.specs.Jobs.{IsJobOf, NoneFlies, numbers_from};
+ghost use Rattle.history_core.specs.Groups as groups;
+ghost use Rattle.cache_manager.specs.Lent.{lent};
+ghost use Rattle.cache_manager.specs.Jobs.{IsJobOf};
+ghost use Rattle.history_core.specs.Seats.{NoneFlies};
+ghost use Rattle.history_core.specs.Groups.{numbers_from};
 ghost use Rattle.cache_manager.specs.Kept.{IsKept};
 ghost use Rattle.cache_manager.specs.Plans.{ArePlanned, IsPlanned};
 
@@ -87,7 +90,7 @@ impl Manager {
     /// The cells that have no source, in order.
     fn wanting<'a>(&self, cells: &'a [Cell]) -> Result<Vec<&'a Cell>, OutOfMemory>
         ensures { IfOk result (λ wanted.
-            groups.lent wanted.items ≡ groups.wanting self.now.entries cells.entry.now) }
+            lent wanted.items ≡ groups.wanting self.now.entries cells.entry.now) }
     {
         let mut wanted = Vec::new(self.alloc);
         for cell in cells {
@@ -200,10 +203,10 @@ impl Manager {
     ) -> Result<Planned, OutOfMemory>
         requires known { IsTrue (is_cell self.now.setting.catalog first.now) }
         requires all_known { IsTrue
-            (list_all (is_cell self.now.setting.catalog) (groups.lent wanted.now)) }
-        requires among { Contains (groups.lent wanted.now) first.now }
+            (list_all (is_cell self.now.setting.catalog) (lent wanted.now)) }
+        requires among { Contains (lent wanted.now) first.now }
         ensures { IfOk result
-            (λ planned. IsPlanned self.now who (groups.lent wanted.now) load first.now planned) }
+            (λ planned. IsPlanned self.now who (lent wanted.now) load first.now planned) }
     {
         let header = header_for(self.alloc, first, wanted)?;
         let copy = copy_header(self.alloc, &header)?;
@@ -225,10 +228,10 @@ impl Manager {
     /// Prepares the loads of the groups of some cells.
     fn plans(&self, who: Who, wanted: &[&Cell]) -> Result<Vec<Planned>, OutOfMemory>
         requires known { IsTrue
-            (list_all (is_cell self.now.setting.catalog) (groups.lent wanted.now)) }
+            (list_all (is_cell self.now.setting.catalog) (lent wanted.now)) }
         ensures { IfOk result
-            (λ plans. ArePlanned self.now who (groups.lent wanted.now) (length self.now.entries + 1)
-            (groups.firsts [] (groups.lent wanted.now)) plans.items) }
+            (λ plans. ArePlanned self.now who (lent wanted.now) (length self.now.entries + 1)
+            (groups.firsts [] (lent wanted.now)) plans.items) }
     {
         let firsts = first_cells(self.alloc, wanted)?;
         let mut plans = Vec::with_capacity(self.alloc, firsts.len())?;
@@ -243,22 +246,22 @@ impl Manager {
     /// Starts the loads of the groups of some cells that have no source.
     fn start(&mut self, who: Who, wanted: &[&Cell]) -> Result<List<LoadJob>, OutOfMemory>
         requires known { IsTrue
-            (list_all (is_cell self.old.setting.catalog) (groups.lent wanted.now)) }
+            (list_all (is_cell self.old.setting.catalog) (lent wanted.now)) }
         requires unserved { IsTrue
             (list_all (λ cell. not (is_some (exact_source self.old.entries cell)))
-            (groups.lent wanted.now)) }
+            (lent wanted.now)) }
         requires idle { NoneFlies self.old.entries }
         ensures setting { self.new.setting ≡ self.old.setting }
         ensures entries { OnOk result
             (self.new.entries ≡ self.old.entries
             ++ map history.Start
-            (map (groups.load_for self.old who (groups.lent wanted.now))
-            (groups.firsts [] (groups.lent wanted.now)))) }
+            (map (groups.load_for self.old who (lent wanted.now))
+            (groups.firsts [] (lent wanted.now)))) }
         ensures numbers { IfOk result
             (λ jobs. map (λ job. job.load) jobs
             ≡ numbers_from (length self.old.entries + 1)
-            (length (map (groups.load_for self.old who (groups.lent wanted.now))
-            (groups.firsts [] (groups.lent wanted.now))))) }
+            (length (map (groups.load_for self.old who (lent wanted.now))
+            (groups.firsts [] (lent wanted.now))))) }
         ensures jobs { IfOk result (λ jobs. All (IsJobOf self.new) jobs) }
         ensures unchanged { OnErr result (self.new ≡ self.old) }
     {

@@ -5,8 +5,9 @@ ghost use Rattle.olap_meaning.specs.Legal.{Legal, is_next_call};
 ghost use Rattle.fact_versions.specs.Facts.{append_fault};
 ghost use Rattle.history_core.specs.History.{setting_of};
 ghost use Rattle.segment_load.specs.Loads.{are_batches, is_batch, rows_in};
-ghost use Rattle.cache_manager.specs.Arrivals.{arrival_in};
-ghost use Rattle.cache_manager.specs.Jobs.{IsOwnBody, IsOwnLoad, NoneFlies};
+ghost use Rattle.history_core.specs.Arrivals.{arrival_in};
+ghost use Rattle.cache_manager.specs.Jobs.{IsOwnBody, IsOwnLoad};
+ghost use Rattle.history_core.specs.Seats.{NoneFlies};
 
 use crate::kept::{Flight, Kept, end_flight, version_of};
 use fact_versions::{AppendFault, Batch, Facts, Snapshot};

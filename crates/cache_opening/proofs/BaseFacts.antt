@@ -7,7 +7,7 @@ use Rattle.olap_meaning.specs.declared.cells.Who.{Who}
 use Rattle.olap_meaning.specs.declared.tables.Row.{Row}
 use Rattle.olap_meaning.specs.History.{Entry, Append, appended, started, version}
 use Rattle.olap_meaning.specs.Legal.{is_call_below, is_call_of, is_next_call, rows_held, rows_added}
-use Rattle.cache_manager.specs.Jobs.{NoneFlies}
+use Rattle.history_core.specs.Seats.{NoneFlies, entries_of}
 use Rattle.cache_opening.specs.Opening.{base_entries}
 
 -- one base batch more
@@ -27,13 +27,13 @@ calls_below k call (b ∷ bs) below = let here : nat_lt (suc k) call ≡ true = 
 pub base_next : (batches : List (List Row)) → IsTrue (is_next_call (base_entries 0 batches) (record { seat = 0; call = length batches + 1 }))
 base_next batches = calls_below 0 (length batches + 1) batches (omega arith)
 
-no_calls : (k : ℕ) (batches : List (List Row)) → filter (is_call_of 1) (base_entries k batches) ≡ []
-no_calls k [] = refl
-no_calls k (b ∷ bs) = no_calls (suc k) bs
+no_entry : (k : ℕ) (batches : List (List Row)) → entries_of (base_entries k batches) 1 ≡ []
+no_entry k [] = refl
+no_entry k (b ∷ bs) = no_entry (suc k) bs
 
--- any call of seat 1 may come
-pub base_others : (batches : List (List Row)) (call : ℕ) → IsTrue (is_next_call (base_entries 0 batches) (record { seat = 1; call = call }))
-base_others batches call = rw (no_calls 0 batches) refl
+-- no entry is of seat 1
+pub base_unused : (batches : List (List Row)) → entries_of (base_entries 0 batches) 1 ≡ []
+base_unused batches = no_entry 0 batches
 
 others : (cube k : ℕ) (who : Who) (rows : List Row) → k < cube → ◌≡◌ {A = ℕ} (cond (is_some (appended cube (Append who k 1 rows))) 1 0) 0
 others cube k who rows below = let other : nat_eq k cube ≡ false = grind arith in rw (other, appended) refl

@@ -19,7 +19,7 @@ use Rattle.fact_rows.specs.BatchFiles.{batch_of}
 use Rattle.fact_rows.specs.declared.fault.BatchFault.{BatchFault}
 use Rattle.history_core.specs.Cache.{CacheOf}
 use Rattle.fact_versions.specs.Facts.{append_fault}
-use Rattle.cache_manager.specs.Arrivals.{arrival_in}
+use Rattle.history_core.specs.Arrivals.{arrival_in}
 use Rattle.outside.specs.Fetched.{Fetched}
 use Rattle.outside.specs.Told.{Files}
 use Rattle.cache_opening.specs.declared.fault.OpenFault.{OpenFault}

@@ -7,7 +7,8 @@ use Rattle.outside.specs.Told.{Files, file_named}
 use Rattle.outside.specs.declared.depot.DepotRefusal.TheVariants as depot
 use Rattle.cache_opening.specs.declared.fault.OpenFault.{OpenFault}
 use Rattle.cache_opening.specs.declared.fault.OpenFault.TheVariants.{NoFile, Schema, Table, Batch, TooManyRows, Unbuilt, Source, OutOfMemory}
-use Rattle.cache_opening.specs.Asking.{Asking, ask, refused, Comes, value, refuses, found, missing, failed, wanting, unnamed, stopped, IsOf}
+use Rattle.cache_opening.specs.Asking.{Asking, ask, refused, Comes, value, refuses, found, missing, failed, wanting, unnamed, stopped}
+use Rattle.outside.specs.Told.{IsOf}
 use Rattle.cache_opening.specs.Laws.{IsIn}
 
 -- a fault is that of the files

@@ -7,7 +7,8 @@ use Rattle.outside.specs.Told.{Files, file_named}
 use Rattle.outside.specs.declared.depot.DepotRefusal.TheVariants as depot
 use Rattle.cache_opening.specs.declared.fault.OpenFault.{OpenFault}
 use Rattle.cache_opening.specs.declared.fault.OpenFault.TheVariants.{NoFile, Source, OutOfMemory}
-use Rattle.cache_opening.specs.Asking.{Asking, ask, ◌>>=◌, Comes, value, refuses, found, missing, failed, wanting, unnamed, stopped, IsOf, Leads, bytes_of, read_by}
+use Rattle.cache_opening.specs.Asking.{Asking, ask, ◌>>=◌, Comes, value, refuses, found, missing, failed, wanting, unnamed, stopped, Leads, bytes_of, read_by}
+use Rattle.outside.specs.Told.{IsOf}
 use Rattle.cache_opening.specs.Steps.{IsOrMemory}
 
 module _ {A B : Type 0} (next : A → Asking B) where

@@ -1,7 +1,7 @@
 -- What a depot is asked for, one file after another, and what comes of its answers.
-use Rattle.std.specs.Prelude.{◌≡◌, ◌++◌, ℕ, List, [], ◌∷◌, All, Option, Some, None, Result, Ok, Err, IfSome, ⊤}
+use Rattle.std.specs.Prelude.{◌≡◌, ◌++◌, ℕ, List, [], ◌∷◌, Option, Result, Ok, Err}
 use Rattle.outside.specs.Fetched.{Fetched}
-use Rattle.outside.specs.Told.{Files, file_named}
+use Rattle.outside.specs.Told.{Files, AreTheirs}
 use Rattle.outside.specs.declared.depot.DepotRefusal.TheVariants as depot
 use Rattle.cache_opening.specs.declared.fault.OpenFault.{OpenFault}
 use Rattle.cache_opening.specs.declared.fault.OpenFault.TheVariants.{NoFile, Source, OutOfMemory}
@@ -54,14 +54,6 @@ pub data Comes {A : Type 0} : Asking A → List Fetched → Result A OpenFault �
   -- there was no memory to go on, and nothing more is asked for
   stopped : {asking : Asking A} → Comes asking [] (Err OutOfMemory)
 
--- an answer is that of these files: the bytes are those of the file of this name, or no file has this name. A failure
--- and want of memory say nothing of the files
-abbrev pub IsOf : Files → Fetched → Type 0
-IsOf all (name, Ok bytes) = file_named all name ≡ Some bytes
-IsOf all (name, Err depot.Missing) = file_named all name ≡ None
-IsOf all (name, Err depot.Failed) = ⊤
-IsOf all (name, Err depot.OutOfMemory) = ⊤
-
 -- between two states of a depot just those answers came that lead to this outcome. Where the depot tells its files,
 -- each answer is theirs
 pub record Leads {A : Type 0} (files : Option Files) (before after : List Fetched)
@@ -69,4 +61,4 @@ pub record Leads {A : Type 0} (files : Option Files) (before after : List Fetche
   pub answers : List Fetched
   pub added : after ≡ before ++ answers
   pub comes : Comes asking answers outcome
-  pub theirs : IfSome files (λ all. All (IsOf all) answers)
+  pub theirs : AreTheirs files answers

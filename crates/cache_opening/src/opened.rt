@@ -1,9 +1,8 @@
 //! Opening a cache.
-ghost use Rattle.std.specs.Prelude.{◌≡◌, [], Err, IfErr, IfOk, IsTrue, ℕ};
-ghost use Rattle.olap_meaning.specs.Legal.{is_next_call};
+ghost use Rattle.std.specs.Prelude.{◌≡◌, [], Err, IfErr, IfOk};
 ghost use Rattle.olap_meaning.specs.Limits.{row_limit};
 ghost use Rattle.history_core.specs.History.{setting_of};
-ghost use Rattle.cache_manager.specs.Jobs.{NoneFlies};
+ghost use Rattle.history_core.specs.Seats.{NoneFlies, entries_of};
 ghost use Rattle.cache_opening.specs.Asking.{Leads};
 ghost use Rattle.cache_opening.specs.Opening.{IsOpened, budget, opening_from};
 
@@ -27,8 +26,7 @@ pub fn open_cache<D: Depot>(alloc: Global, depot: &mut D, file: &str) -> Result<
     ensures opened { IfOk result (λ manager.
         IsOpened (D.files depot.old) (D.answers depot.old) (D.answers depot.new) file.now manager) }
     ensures idle { IfOk result (λ manager. NoneFlies manager.entries) }
-    ensures by_seat_zero { IfOk result (λ manager.
-        (call : ℕ) → IsTrue (is_next_call manager.entries (record { seat = 1; call = call }))) }
+    ensures unused { IfOk result (λ manager. entries_of manager.entries 1 ≡ []) }
     ensures fault { IfErr result (λ fault.
         Leads (D.files depot.old) (D.answers depot.old) (D.answers depot.new)
         (opening_from file.now) (Err fault)) }

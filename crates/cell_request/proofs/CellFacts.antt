@@ -11,7 +11,7 @@ use Rattle.olap_meaning.specs.declared.tables.Catalog.{Catalog}
 use Rattle.olap_meaning.specs.declared.tables.Cube.{Cube}
 use Rattle.olap_meaning.specs.declared.tables.Hierarchy.{Hierarchy}
 use Rattle.olap_meaning.specs.declared.tables.Measure.{Measure}
-use Rattle.olap_meaning.specs.CellQueries.{boxes_under, hierarchies_within, standing}
+use Rattle.query_meaning.specs.CellQueries.{boxes_under, hierarchies_within, standing}
 use Rattle.olap_meaning.specs.Results.{◌>>=◌}
 use Rattle.olap_meaning.specs.History.{is_some_and}
 use Rattle.olap_meaning.specs.Legal.{is_cell, is_column_of, is_value, rise}

@@ -8,7 +8,7 @@ use Rattle.olap_meaning.specs.declared.cells.Member.{Member}
 use Rattle.olap_meaning.specs.declared.tables.Catalog.{Catalog}
 use Rattle.olap_meaning.specs.declared.tables.Hierarchy.{Hierarchy}
 use Rattle.olap_meaning.specs.Catalog.{box, root_name}
-use Rattle.olap_meaning.specs.CellQueries.{standing}
+use Rattle.query_meaning.specs.CellQueries.{standing}
 use Rattle.olap_meaning.specs.Covering.{among}
 use Rattle.olap_meaning.specs.History.{is_some_and}
 use Rattle.olap_meaning.specs.Legal.{is_column_of, is_value}

@@ -3,8 +3,8 @@ use Rattle.std.specs.Prelude.{◌≡◌, ℕ, List, Option, Some, None, Result, 
 use Rattle.cell_request.specs.declared.fault.QueryFault.{QueryFault}
 use Rattle.cell_request.specs.declared.fault.QueryFault.TheVariants as fault
 use Rattle.cell_request.specs.declared.meaning.Resolved.{Resolved}
-use Rattle.olap_meaning.specs.CellQueries as queries
-use Rattle.olap_meaning.specs.CellQueries.{Meant, NoMatch}
+use Rattle.query_meaning.specs.CellQueries as queries
+use Rattle.query_meaning.specs.CellQueries.{Meant, NoMatch}
 
 -- what was found, as the meaning of a query
 abbrev pub meant : Resolved → Meant

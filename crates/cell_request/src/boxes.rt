@@ -7,7 +7,7 @@ ghost use Rattle.cell_request.specs.Meanings.{IsFaultOf};
 ghost use Rattle.olap_catalog.specs.MemberOf.{IsMemberOf, levels_of};
 ghost use Rattle.olap_meaning.specs.Catalog.{default_member};
 ghost use Rattle.olap_meaning.specs.declared.cells.LevelRef.TheVariants.{Whole};
-ghost use Rattle.olap_meaning.specs.CellQueries as queries;
+ghost use Rattle.query_meaning.specs.CellQueries as queries;
 ghost use Rattle.olap_meaning.specs.Covering.{among};
 ghost use Rattle.olap_meaning.specs.Legal.{rise};
 

@@ -4,7 +4,7 @@ ghost use Rattle.olap_meaning.specs.Legal.{is_cell};
 ghost use Rattle.cell_request.specs.Meanings.{IsFaultOf};
 ghost use Rattle.olap_catalog.specs.MemberOf.{IsMemberOf, measure_count};
 ghost use Rattle.olap_meaning.specs.Catalog.{measure_members};
-ghost use Rattle.olap_meaning.specs.CellQueries as queries;
+ghost use Rattle.query_meaning.specs.CellQueries as queries;
 
 use crate::boxes::boxes_under;
 use crate::fault::{QueryFault, no_member};

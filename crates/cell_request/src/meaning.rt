@@ -3,13 +3,13 @@ ghost use Rattle.std.specs.Prelude.{◌≡◌, ◌<◌, ◌⊎◌, Ok, Err, leng
 ghost use Rattle.olap_meaning.specs.Legal.{is_cell};
 ghost use Rattle.cell_request.specs.Meanings.{meant, no_match};
 ghost use Rattle.olap_catalog.specs.MemberOf.{IsMemberOf};
-ghost use Rattle.olap_meaning.specs.CellQueries.{meaning_of};
+ghost use Rattle.query_meaning.specs.CellQueries.{meaning_of};
 
 use crate::cells::cell_under;
 use crate::fault::{QueryFault, no_cube};
 use olap_catalog::{Catalog, NameFault};
-use olap_meaning::queries::CellQuery;
 use olap_meaning::{Cell, CubeId, Member};
+use query_meaning::CellQuery;
 use std::alloc::Global;
 
 /// What a query of one cell means: the cube, the member on the columns, and the cell under it.

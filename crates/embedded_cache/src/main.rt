@@ -2,17 +2,16 @@
 #![tactic(auto)]
 
 ghost use Rattle.std.specs.Prelude.{◌≡◌, IfOk, IsTrue};
-ghost use Rattle.cache_manager.specs.Jobs.{NoneFlies};
-ghost use Rattle.olap_meaning.specs.Legal.{is_cell, is_next_call};
+ghost use Rattle.olap_meaning.specs.Legal.{is_cell};
 
-use cache_manager::Manager;
 use cache_opening::{OpenFault, open_cache};
 use cell_request::{QueryFault, Resolved, resolve};
 use fact_versions::Steps;
 use history_core::Answer;
-use line_session::ask;
+use line_session::Desk;
+use manager_desk::ManagerDesk;
 use mdx_reader::read_cell_query;
-use olap_meaning::{OutOfMemory, Text, Who, plain_text};
+use olap_meaning::{OutOfMemory, Text, plain_text};
 use outside::{Depot, FolderDepot};
 use std::alloc::{AllocError, Global};
 use std::marker::Brand;
@@ -42,39 +41,30 @@ enum Failure {
 }
 
 // The cell that a query means over the catalog of a cache.
-fn cell_of(alloc: Global, manager: &Manager, query: &str) -> Result<Resolved, Failure>
-    ensures { IfOk result (λ found. IsTrue (is_cell manager.now.setting.catalog found.cell)) }
+fn cell_of(alloc: Global, desk: &ManagerDesk, query: &str) -> Result<Resolved, Failure>
+    ensures { IfOk result (λ found. IsTrue (is_cell desk.now.setting.catalog found.cell)) }
 {
     let Some(query) = read_cell_query(alloc, query)? else {
         return Err(Failure::NoQuery);
     };
-    Ok(resolve(alloc, manager.catalog(), &query)?)
+    Ok(resolve(alloc, desk.catalog(), &query)?)
 }
 
-// The answer to the cell, asked for by the first call of seat 1: the base batches are appended by seat 0. Loads that are
-// missing are run first, and the rows that they read are counted.
+// The answer to the cell, asked for by seat 1: the base batches are appended by seat 0. Loads that are missing are run
+// first, and the rows that they read are counted.
 fn answer_to<L: Ledger>(
     alloc: Global,
-    manager: &mut Manager,
+    desk: &mut ManagerDesk,
     found: &Resolved,
     blank: Blank,
 ) -> Result<Answer, OutOfMemory>
-    requires call { IsTrue (is_next_call manager.old.entries (record { seat = 1; call = 1 })) }
-    requires cell { IsTrue (is_cell manager.old.setting.catalog found.now.cell) }
-    requires idle { NoneFlies manager.old.entries }
+    requires cell { IsTrue (is_cell desk.old.setting.catalog found.now.cell) }
     requires name { blank.name ≡ L.name }
     requires parts { blank.parts ≡ L.parts }
     requires one { blank.parts ≡ 1 }
 {
     let mut steps: Steps<L> = Steps::new(blank);
-    let who = Who { seat: 1, call: 1 };
-    ask(
-        alloc,
-        manager,
-        who,
-        slice::from_ref(&found.cell),
-        &mut steps,
-    )
+    desk.ask(alloc, slice::from_ref(&found.cell), &mut steps)
 }
 
 // What an answer tells of its one cell.
@@ -96,9 +86,9 @@ fn run<D: Depot, L: Ledger>(alloc: Global, depot: &mut D, blank: Blank) -> Resul
     requires parts { blank.parts ≡ L.parts }
     requires one { blank.parts ≡ 1 }
 {
-    let mut manager = open_cache(alloc, depot, SCHEMA)?;
-    let found = cell_of(alloc, &manager, QUERY)?;
-    let answer = answer_to::<L>(alloc, &mut manager, &found, blank)?;
+    let mut desk = ManagerDesk::new(open_cache(alloc, depot, SCHEMA)?);
+    let found = cell_of(alloc, &desk, QUERY)?;
+    let answer = answer_to::<L>(alloc, &mut desk, &found, blank)?;
     told(alloc, &answer)
 }
 

@@ -10,6 +10,8 @@ use Rattle.dim_tables.specs.declared.fault.TableFault.{TableFault}
 use Rattle.dim_tables.specs.declared.fault.TableFault.TheVariants as table
 use Rattle.fact_rows.specs.declared.fault.BatchFault.{BatchFault}
 use Rattle.fact_rows.specs.declared.fault.BatchFault.TheVariants as batch
+use Rattle.fact_versions.specs.declared.faults.AppendFault.{AppendFault}
+use Rattle.fact_versions.specs.declared.faults.AppendFault.TheVariants as append
 
 -- a record is none of its header's
 abbrev pub not_csv_text : ℕ → List ℕ
@@ -91,3 +93,20 @@ batch_line file fault = fact_line file (batch_text fault)
 -- the line of a batch's file with more rows than fit
 abbrev pub rows_line : List ℕ → ℕ → ℕ → List ℕ
 rows_line file total limit = fact_line file (too_many_rows_text total limit)
+
+-- what a reply tells of a batch whose file has a fault
+abbrev pub refused_batch_text : BatchFault → List ℕ
+refused_batch_text (batch.NotCsv row) = not_csv_text row
+refused_batch_text (batch.NoColumn name) = no_column_text name
+refused_batch_text (batch.UnknownKey row column) =
+    codes "KEY " ++ decimal row ++ codes " " ++ name_text column
+refused_batch_text (batch.NotNumber row column) =
+    codes "NUMBER " ++ decimal row ++ codes " " ++ name_text column
+refused_batch_text batch.OutOfMemory = codes "MEMORY"
+
+-- what a reply tells of a batch that does not fit behind those before it
+abbrev pub refused_append_text : AppendFault → List ℕ
+refused_append_text (append.TooManyRows total limit) =
+    codes "ROWS " ++ (decimal total ++ (codes " " ++ decimal limit))
+refused_append_text (append.TooManyVersions limit) = codes "VERSIONS " ++ decimal limit
+refused_append_text append.OutOfMemory = codes "MEMORY"

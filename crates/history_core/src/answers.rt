@@ -21,3 +21,10 @@ pub struct Appended {
     pub position: u64,
     pub version: Version,
 }
+
+/// A cache does not have so many entries yet: how many were asked for, and how many it had when it was looked at.
+#[derive(Clone, Copy, Debug, PartialEq, Eq)]
+pub struct NotYet {
+    pub asked: u64,
+    pub front: u64,
+}

@@ -8,7 +8,7 @@ mod entry;
 mod history;
 mod shared;
 
-pub use answers::{Answer, Answered, Appended};
+pub use answers::{Answer, Answered, Appended, NotYet};
 pub use cells::is_cell;
 pub use entry::Entry;
 pub use history::History;

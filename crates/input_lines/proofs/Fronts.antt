@@ -1,13 +1,13 @@
--- What bytes begin with: each list of bytes has one front, and one list of lines.
-use Rattle.std.proofs.Common.{◌≡◌, ◌≢◌, ℕ, zero, suc, ◌+◌, ◌-◌, ◌<◌, ◌≤◌, List, [], ◌∷◌, ◌++◌, ◌∙◌, subst, inl, inr, Bool, true, false, length, get_or, take, drop, refl, arith, ap, sym, append_assoc, append-nil}
+-- What bytes begin with: no bytes have two fronts.
+use Rattle.std.proofs.Common.{◌≡◌, ◌≢◌, ℕ, suc, ◌+◌, ◌-◌, ◌<◌, ◌≤◌, List, [], ◌∷◌, ◌++◌, ◌∙◌, subst, inl, inr, Bool, true, false, length, get_or, take, drop, refl, arith, ap, sym, append_assoc, append-nil}
 use Rattle.std.specs.Prelude.{nat_lt, not, ◌==◌, slice_index, if◌then◌else◌}
-use Rattle.std.proofs.lemmas.Bool.{cases_lt, eqb-true, eq-eqb, ltb-true, ltb-false}
+use Rattle.std.proofs.lemmas.Bool.{cases_lt, eqb-true, eq-eqb}
 use Rattle.std.proofs.lemmas.Bool.Decides.{nat_tests}
 use Rattle.std.proofs.lemmas.List.{length-append, length-take-le, drop_all, take-append-drop}
 use Rattle.std.proofs.lemmas.List.Sums.{position_or_len_is, passes_at_first, prefix_len-le-length}
 use Rattle.std.proofs.Math.ListN.{get_or-append}
 use Rattle.std.proofs.Math.Seq.{split_at, get_or-append_seam, take-append_seam, drop-append-add}
-use Rattle.olap_meaning.specs.Lines.{HasNoLf, IsBeforeLf, cr, nothing_between, Front, Nothing, FirstLine, TooMany, Begins, no_byte, ended, last, too_many, Lines, AreLines, no_line, line, broken, line_then}
+use Rattle.query_meaning.specs.Lines.{HasNoLf, IsBeforeLf, cr, nothing_between, Front, Nothing, FirstLine, TooMany, Begins, no_byte, ended, last, too_many}
 use Rattle.input_lines.specs.Reader.{is_lf, line_length, without_cr}
 use Rattle.input_lines.proofs.LineLemmas.{no_lf-take, no_lf-all}
 
@@ -73,30 +73,6 @@ by_length bytes false false = FirstLine bytes []
 abbrev front_of : List ℕ → Front
 front_of [] = Nothing
 front_of (b ∷ bs) = by_length (b ∷ bs) (nat_lt 65536 (line_length (b ∷ bs))) (nat_lt (line_length (b ∷ bs)) (length (b ∷ bs)))
-
--- whatever the bytes, they begin with something
-pub has_front : (bytes : List ℕ) → Begins bytes (front_of bytes)
-has_front [] = no_byte
-has_front (b ∷ bs) = by (nat_lt 65536 (line_length bytes)) (nat_lt (line_length bytes) (length bytes)) refl refl
-  where
-    bytes : List ℕ
-    bytes = b ∷ bs
-
-    by : (long there : Bool) → nat_lt 65536 (line_length (b ∷ bs)) ≡ long → nat_lt (line_length (b ∷ bs)) (length (b ∷ bs)) ≡ there → Begins (b ∷ bs) (by_length (b ∷ bs) long there)
-    by true there is_long is_there =
-        subst (λ (xs : List ℕ). Begins xs TooMany) (append-nil (b ∷ bs)) (begins_too_many (b ∷ bs) [] (ltb-true 65536 (line_length (b ∷ bs)) is_long))
-    by false true is_long is_there =
-        let short : line_length (b ∷ bs) ≤ 65536 = ltb-false 65536 (line_length (b ∷ bs)) is_long in
-        let at : line_length (b ∷ bs) < length (b ∷ bs) = ltb-true (line_length (b ∷ bs)) (length (b ∷ bs)) is_there in
-        let n : ℕ = line_length (b ∷ bs) in
-        subst (λ (xs : List ℕ). Begins xs (FirstLine (without_cr (take (line_length (b ∷ bs)) (b ∷ bs))) (drop (line_length (b ∷ bs) + 1) (b ∷ bs)))) (append-nil (b ∷ bs))
-        (subst (λ (rest : List ℕ). Begins ((b ∷ bs) ++ []) (FirstLine (without_cr (take (line_length (b ∷ bs)) (b ∷ bs))) rest)) (append-nil (drop (line_length (b ∷ bs) + 1) (b ∷ bs)))
-        (begins_line (b ∷ bs) [] (line_length (b ∷ bs)) refl at short))
-    by false false is_long is_there =
-        let within : line_length (b ∷ bs) ≤ length (b ∷ bs) = prefix_len-le-length (λ x. not (is_lf x)) (b ∷ bs) in
-        let all : length (b ∷ bs) ≤ line_length (b ∷ bs) = ltb-false (line_length (b ∷ bs)) (length (b ∷ bs)) is_there in
-        let short : line_length (b ∷ bs) ≤ 65536 = ltb-false 65536 (line_length (b ∷ bs)) is_long in
-        begins_last (b ∷ bs) (omega arith) (omega arith) (omega arith)
 
 -- how many bytes stand before the first LF, where these have none
 before_lf : (text rest : List ℕ) → HasNoLf text → line_length (text ++ 10 ∷ rest) ≡ length text
@@ -184,7 +160,7 @@ pub one_front : {bytes : List ℕ} {first second : Front} → Begins bytes first
 one_front a b = front_is a ∙ sym (front_is b)
 
 -- what follows the first line is shorter than the whole
-shorter : {bytes text rest : List ℕ} → Begins bytes (FirstLine text rest) → length rest < length bytes
+pub shorter : {bytes text rest : List ℕ} → Begins bytes (FirstLine text rest) → length rest < length bytes
 shorter {bytes} (ended text between rest before clear short is) =
     let size : length bytes ≡ length (text ++ between) + length (10 ∷ rest) = ap length is ∙ length-append (text ++ between) (10 ∷ rest) in
     omega arith
@@ -193,36 +169,3 @@ shorter (last {line = text} some clear short) = some_byte text some
     some_byte : (xs : List ℕ) → xs ≢ [] → 0 < length xs
     some_byte [] other = absurd (other refl)
     some_byte (x ∷ xs) other = omega arith
-
--- whatever the bytes, they have lines
-lines_by : (bytes : List ℕ) (front : Front) → Begins bytes front → ((rest : List ℕ) → length rest < length bytes → (all : Lines) × AreLines rest all) → (all : Lines) × AreLines bytes all
-lines_by bytes Nothing begins behind = (record { lines = []; broken_off = false }, no_line begins)
-lines_by bytes (FirstLine text rest) begins behind =
-    let more = behind rest (shorter begins) in
-    (line_then text more.0, line text rest begins more.1)
-lines_by bytes TooMany begins behind = (record { lines = []; broken_off = true }, broken begins)
-
-lines_up_to : (n : ℕ) (bytes : List ℕ) → length bytes ≤ n → (all : Lines) × AreLines bytes all
-lines_up_to zero [] few = (record { lines = []; broken_off = false }, no_line no_byte)
-lines_up_to zero (b ∷ bs) few = absurd (omega arith)
-lines_up_to (suc n) bytes few = lines_by bytes (front_of bytes) (has_front bytes) (λ rest fewer. lines_up_to n rest (omega arith))
-
-pub has_lines : (bytes : List ℕ) → (all : Lines) × AreLines bytes all
-has_lines bytes = lines_up_to (length bytes) bytes (omega arith)
-
--- and no others
-pub one_list : {bytes : List ℕ} {first second : Lines} → AreLines bytes first → AreLines bytes second → first ≡ second
-one_list (no_line a) (no_line b) = refl
-one_list (no_line a) (line text rest b more) = absurd (cc (one_front a b))
-one_list (no_line a) (broken b) = absurd (cc (one_front a b))
-one_list (line text rest a more) (no_line b) = absurd (cc (one_front a b))
-one_list (line {more = one} text rest a more) (line {more = two} other others b rests) =
-    let same : FirstLine text rest ≡ FirstLine other others = one_front a b in
-    let text_same : text ≡ other = cc same in
-    let rest_same : others ≡ rest = cc same in
-    let behind : one ≡ two = one_list more (subst (λ (xs : List ℕ). AreLines xs two) rest_same rests) in
-    ap (λ (l : Lines). line_then text l) behind ∙ ap (λ (t : List ℕ). line_then t two) text_same
-one_list (line text rest a more) (broken b) = absurd (cc (one_front a b))
-one_list (broken a) (no_line b) = absurd (cc (one_front a b))
-one_list (broken a) (line text rest b more) = absurd (cc (one_front a b))
-one_list (broken a) (broken b) = refl

@@ -1,169 +1,176 @@
 -- What a reader hears, one receive after another.
-use Rattle.std.proofs.Common.{◌≡◌, refl, sym, ◌∙◌, ap, subst, ℕ, ◌+◌, ◌<◌, ◌≤◌, inl, inr, List, [], ◌∷◌, ◌++◌, length, true, false, arith, append_assoc, append-nil}
-use Rattle.std.proofs.lemmas.List.{length-append}
-use Rattle.std.specs.Prelude.{Ok, Err}
-use Rattle.olap_meaning.specs.Lines.{Begins}
+use Rattle.std.proofs.Common.{◌≡◌, ◌≢◌, refl, sym, ◌∙◌, ap, subst, ℕ, ◌+◌, ◌<◌, ◌≤◌, inl, inr, List, [], ◌∷◌, ◌++◌, length, take, get_or, true, arith, append_assoc, append-nil}
+use Rattle.std.proofs.lemmas.Bool.{cases_lt}
+use Rattle.std.proofs.lemmas.List.{length-take-le}
+use Rattle.std.proofs.lemmas.List.Sums.{prefix_len-le-length}
+use Rattle.std.specs.Prelude.{not, Option, Result, Ok, Err}
+use Rattle.outside.specs.Event.{Event, gave, ended, gave_not}
 use Rattle.outside.specs.declared.source.Failed.{Failed}
 use Rattle.input_lines.specs.declared.next.Next.{Next}
 use Rattle.input_lines.specs.declared.next.Next.TheVariants as next
 use Rattle.input_lines.specs.declared.next.Found.{Found}
 use Rattle.input_lines.specs.declared.next.Found.TheVariants as found
-use Rattle.std.proofs.lemmas.List.Sums.{prefix_len-le-length}
-use Rattle.std.specs.Prelude.{not}
-use Rattle.input_lines.specs.Reader.{is_lf}
-use Rattle.outside.specs.Event.{Event, gave, ended, gave_not}
-use Rattle.input_lines.specs.Reader.{SaysNext, Reading, IsFound, Tells, front_told, heard_of, line_length, Heard, enough, at_end, cut_off, Hears, known, over, ends, fails, piece, HasHeard, HasReceived, NeedsNoMore, is_over, received}
+use Rattle.input_lines.specs.Reader.{Finds, GivesHeldLine, HasHeard, HasReceived, Heard, Hears, IsFound, Keeps, KeepsRoom, MayReceive, NeedsNoMore, NeedsNothing, Reading, SaysNext, Tells, at_end, beyond, cut_off, ends, enough, fails, heard_of, is_lf, known, line_length, over, piece, piece_beyond, received, spent, with_received}
+use Rattle.input_lines.proofs.Receiving.{beyond_split, with_received-beyond, with_received-few, with_received-none}
 
 -- what has passed so far: what is heard from here on is, with it, what is heard from the start on
 pub record SoFar (start now : List Event) (old new : Reading) : Type 0 where
   pub events : List Event
   pub passed : now ≡ start ++ events
-  pub same : new.ended ≡ old.ended
-  pub on : (more : List Event) (all : List ℕ) (heard : Heard) → Hears new.held new.ended more all heard → Hears old.held old.ended (events ++ more) all heard
+  pub on : (more : List Event) (all : Reading) (heard : Heard) → Hears new more all heard → Hears old (events ++ more) all heard
 
 -- nothing has passed
-pub none_so_far : (talk : List Event) (old new : Reading) → new.held ≡ old.held → new.ended ≡ old.ended → SoFar talk talk old new
-none_so_far talk old new held even = record {
-  events = [];
-  passed = sym (append-nil talk);
-  same = even;
-  on = λ more all heard hears. subst (λ (h : List ℕ). Hears h old.ended more all heard) held (subst (λ e. Hears new.held e more all heard) even hears);
-}
+pub none_so_far : (talk : List Event) (reading : Reading) → SoFar talk talk reading reading
+none_so_far talk reading = record { events = []; passed = sym (append-nil talk); on = λ more all heard hears. hears }
 
 some_received : (bytes : List ℕ) → 0 < length bytes → received bytes ≡ gave bytes ∷ []
 some_received [] some = absurd (omega arith)
 some_received (b ∷ bs) some = refl
 
-some_bytes : (bytes : List ℕ) → 0 < length bytes → bytes ≡ [] → ⊥
+some_bytes : (bytes : List ℕ) → 0 < length bytes → bytes ≢ []
 some_bytes bytes some none = omega (arith, some, ap length none)
 
 none_received : (bytes : List ℕ) → length bytes ≡ 0 → received bytes ≡ ended ∷ []
 none_received [] none = refl
 none_received (b ∷ bs) none = absurd (omega (arith, none))
 
-more_of : (held new bytes : List ℕ) (n : ℕ) → new ≡ held ++ bytes → length new ≡ length held + n → length bytes ≡ n
-more_of held new bytes n behind size =
-    let both = ap length behind ∙ length-append held bytes in
-    omega (arith, both, size)
+-- a receive that gives bytes
+step : (reading all : Reading) (bytes : List ℕ) (events : List Event) (heard : Heard) → ¬ NeedsNoMore reading.held → MayReceive reading → 0 < length bytes → length bytes ≤ reading.room + 1 → Hears (with_received reading bytes) events all heard → Hears reading (gave bytes ∷ events) all heard
+step reading all bytes events heard needs may some few hears = elim (cases_lt reading.room (length bytes)) [
+  | inl many ↦
+      let size : length bytes ≡ reading.room + 1 = omega arith in
+      let front : length (take reading.room bytes) ≡ reading.room = length-take-le reading.room bytes (omega arith) in
+      subst (λ (bs : List ℕ). Hears reading (gave bs ∷ events) all heard) (sym (beyond_split reading.room bytes size))
+      (piece_beyond (take reading.room bytes) (get_or bytes reading.room 0) needs may front
+      (subst (λ (r : Reading). Hears r events all heard) (with_received-beyond reading bytes size may.1) hears))
+  | inr within ↦
+      piece bytes needs may (some_bytes bytes some) within
+      (subst (λ (r : Reading). Hears r events all heard) (with_received-few reading bytes some within may.0 may.1) hears)
+]
 
 -- bytes have come
 pub more_so_far :
-    (start middle now : List Event) (old mid new : Reading) (n : ℕ) → SoFar start middle old mid → mid.ended ≡ false → (NeedsNoMore mid.held → ⊥) → HasReceived middle now mid.held new.held → length new.held ≡ length mid.held + n → 0 < n → new.ended ≡ false
-    → SoFar start now old new
-more_so_far start middle now old mid new n before open_yet needs has size some even =
-    let gives : received has.bytes ≡ gave has.bytes ∷ [] = some_received has.bytes (omega (arith, some, more_of mid.held new.held has.bytes n has.behind size)) in
+    (left rest : Option (List ℕ)) (start middle now : List Event) (old mid new : Reading) (n : ℕ) → SoFar start middle old mid → MayReceive mid → ¬ NeedsNoMore mid.held → HasReceived left rest middle now n mid new → 0 < n → SoFar start now old new
+more_so_far left rest start middle now old mid new n before may needs has some =
+    let gives : received has.bytes ≡ gave has.bytes ∷ [] = some_received has.bytes (omega (arith, some, has.size)) in
     record {
       events = before.events ++ gave has.bytes ∷ [];
       passed = has.passed ∙ ap (λ (es : List Event). middle ++ es) gives ∙ ap (λ (es : List Event). es ++ gave has.bytes ∷ []) before.passed ∙ append_assoc start before.events (gave has.bytes ∷ []);
-      same = even ∙ sym open_yet ∙ before.same;
       on = λ more all heard hears.
-          let here : Hears (mid.held ++ has.bytes) false more all heard = subst (λ (h : List ℕ). Hears h false more all heard) has.behind (subst (λ e. Hears new.held e more all heard) even hears) in
-          let there : Hears mid.held mid.ended (gave has.bytes ∷ more) all heard = subst (λ e. Hears mid.held e (gave has.bytes ∷ more) all heard) (sym open_yet) (piece has.bytes (some_bytes has.bytes (omega (arith, some, more_of mid.held new.held has.bytes n has.behind size))) needs here) in
-          subst (λ (es : List Event). Hears old.held old.ended es all heard) (sym (append_assoc before.events (gave has.bytes ∷ []) more)) (before.on (gave has.bytes ∷ more) all heard there);
+          let here : Hears (with_received mid has.bytes) more all heard = subst (λ (r : Reading). Hears r more all heard) has.now hears in
+          let there : Hears mid (gave has.bytes ∷ more) all heard = step mid all has.bytes more heard needs may (omega (arith, some, has.size)) (omega (arith, has.few, has.size)) here in
+          subst (λ (es : List Event). Hears old es all heard) (sym (append_assoc before.events (gave has.bytes ∷ []) more)) (before.on (gave has.bytes ∷ more) all heard there);
     }
 
--- what is held says what comes next
-pub known_now : (start now : List Event) (old new : Reading) → SoFar start now old new → NeedsNoMore new.held → HasHeard start now old new enough
-known_now start now old new before needs = record {
+-- nothing more is heard
+stopped : (start now : List Event) (old new : Reading) (heard : Heard) → SoFar start now old new → Hears new [] new heard → HasHeard start now old new heard
+stopped start now old new heard before hears = record {
   events = before.events ++ [];
   passed = before.passed ∙ ap (λ (es : List Event). start ++ es) (sym (append-nil before.events));
-  hears = before.on [] new.held enough (known needs);
-  over = before.same;
+  hears = before.on [] new heard hears;
 }
 
+-- where neither was found, more is needed
+pub needs_more : (held : List ℕ) → IsFound found.Neither held → ¬ NeedsNoMore held
+needs_more held is (inl there) = omega (arith, is.0, there)
+needs_more held is (inr many) = omega (arith, is.1, many)
+
+-- all that may be lines has come
+pub spent_now : (start now : List Event) (old new : Reading) → SoFar start now old new → ¬ NeedsNoMore new.held → new.beyond ≢ [] → HasHeard start now old new spent
+spent_now start now old new before needs some = stopped start now old new spent before (beyond needs some)
+
 -- the end has come before
-pub over_now : (start now : List Event) (old new : Reading) → SoFar start now old new → (NeedsNoMore new.held → ⊥) → new.ended ≡ true → HasHeard start now old new at_end
-over_now start now old new before needs is_over = record {
-  events = before.events ++ [];
-  passed = before.passed ∙ ap (λ (es : List Event). start ++ es) (sym (append-nil before.events));
-  hears = before.on [] new.held at_end (subst (λ e. Hears new.held e [] new.held at_end) (sym is_over) (over needs));
-  over = is_over;
+pub over_now : (start now : List Event) (old new : Reading) → SoFar start now old new → ¬ NeedsNoMore new.held → new.beyond ≡ [] → new.ended ≡ true → HasHeard start now old new at_end
+over_now start now old new before needs none is_over = stopped start now old new at_end before (over needs none is_over)
+
+-- one thing more is heard, and it is the last
+last_heard : (start middle now : List Event) (event : Event) (old mid new : Reading) (heard : Heard) → SoFar start middle old mid → now ≡ middle ++ event ∷ [] → Hears mid (event ∷ []) new heard → HasHeard start now old new heard
+last_heard start middle now event old mid new heard before passed hears = record {
+  events = before.events ++ event ∷ [];
+  passed = passed ∙ ap (λ (es : List Event). es ++ event ∷ []) before.passed ∙ append_assoc start before.events (event ∷ []);
+  hears = before.on (event ∷ []) new heard hears;
 }
 
 -- the end has come
 pub ends_now :
-    (start middle now : List Event) (old mid new : Reading) → SoFar start middle old mid → mid.ended ≡ false → (NeedsNoMore mid.held → ⊥) → HasReceived middle now mid.held new.held → length new.held ≡ length mid.held + 0 → new.ended ≡ true → HasHeard start now old new at_end
-ends_now start middle now old mid new before open_yet needs has size is_over =
-    let none : length has.bytes ≡ 0 = more_of mid.held new.held has.bytes 0 has.behind size in
-    let gives : received has.bytes ≡ ended ∷ [] = none_received has.bytes none in
-    let held : mid.held ≡ new.held = sym (append-nil mid.held) ∙ ap (λ (bs : List ℕ). mid.held ++ bs) (sym (no_bytes has.bytes none)) ∙ sym has.behind in
-    record {
-      events = before.events ++ ended ∷ [];
-      passed = has.passed ∙ ap (λ (es : List Event). middle ++ es) gives ∙ ap (λ (es : List Event). es ++ ended ∷ []) before.passed ∙ append_assoc start before.events (ended ∷ []);
-      hears = before.on (ended ∷ []) new.held at_end (subst (λ (h : List ℕ). Hears mid.held mid.ended (ended ∷ []) h at_end) held (subst (λ e. Hears mid.held e (ended ∷ []) mid.held at_end) (sym open_yet) (ends needs)));
-      over = is_over;
-    }
-  where
-    no_bytes : (bytes : List ℕ) → length bytes ≡ 0 → bytes ≡ []
-    no_bytes [] none = refl
-    no_bytes (b ∷ bs) none = absurd (omega (arith, none))
+    (left rest : Option (List ℕ)) (start middle now : List Event) (old mid new : Reading) (n : ℕ) → SoFar start middle old mid → MayReceive mid → ¬ NeedsNoMore mid.held → HasReceived left rest middle now n mid new → n ≡ 0 → HasHeard start now old new at_end
+ends_now left rest start middle now old mid new n before may needs has is =
+    let none : length has.bytes ≡ 0 = has.size ∙ is in
+    last_heard start middle now ended old mid new at_end before (has.passed ∙ ap (λ (es : List Event). middle ++ es) (none_received has.bytes none))
+    (subst (λ (r : Reading). Hears mid (ended ∷ []) r at_end) (sym (with_received-none mid has.bytes none may.0) ∙ sym has.now) (ends needs may))
 
 -- the receive has failed
-pub fails_now :
-    (start middle now : List Event) (old mid new : Reading) → SoFar start middle old mid → mid.ended ≡ false → (NeedsNoMore mid.held → ⊥) → now ≡ middle ++ gave_not ∷ [] → new.held ≡ mid.held → new.ended ≡ mid.ended → HasHeard start now old new cut_off
-fails_now start middle now old mid new before open_yet needs passed held even = record {
-  events = before.events ++ gave_not ∷ [];
-  passed = passed ∙ ap (λ (es : List Event). es ++ gave_not ∷ []) before.passed ∙ append_assoc start before.events (gave_not ∷ []);
-  hears = before.on (gave_not ∷ []) new.held cut_off (subst (λ (h : List ℕ). Hears mid.held mid.ended (gave_not ∷ []) h cut_off) (sym held) (subst (λ e. Hears mid.held e (gave_not ∷ []) mid.held cut_off) (sym open_yet) (fails needs)));
-  over = even ∙ before.same;
-}
+pub fails_now : (start middle now : List Event) (old mid new : Reading) → SoFar start middle old mid → MayReceive mid → ¬ NeedsNoMore mid.held → now ≡ middle ++ gave_not ∷ [] → new ≡ mid → HasHeard start now old new cut_off
+fails_now start middle now old mid new before may needs passed same =
+    last_heard start middle now gave_not old mid new cut_off before passed (subst (λ (r : Reading). Hears mid (gave_not ∷ []) r cut_off) (sym same) (fails needs may))
 
--- where neither was found, more is needed
-pub needs_more : (held : List ℕ) → IsFound found.Neither held → NeedsNoMore held → ⊥
-needs_more held is (inl there) = omega (arith, is.0, there)
-needs_more held is (inr many) = omega (arith, is.1, many)
+-- what was found in what is held says what comes next
+pub known_now : (start now : List Event) (old new : Reading) → SoFar start now old new → NeedsNoMore new.held → HasHeard start now old new enough
+known_now start now old new before needs = stopped start now old new enough before (known needs)
 
--- where something was found, what is held says what comes next
+-- a reader hears the same, whatever line it gave last
+Hears-line : {reading all : Reading} {events : List Event} {heard : Heard} (text : List ℕ) → Hears reading events all heard → Hears (record reading { line = text }) events (record all { line = text }) heard
+Hears-line text (known needs) = known needs
+Hears-line text (beyond needs some) = beyond needs some
+Hears-line text (over needs none is) = over needs none is
+Hears-line text (ends needs may) = ends needs may
+Hears-line text (fails needs may) = fails needs may
+Hears-line text (piece bytes needs may some within rest) = piece bytes needs may some within (Hears-line text rest)
+Hears-line text (piece_beyond bytes last needs may within rest) = piece_beyond bytes last needs may within (Hears-line text rest)
+
+KeepsRoom-line : (all after : Reading) (text : List ℕ) → KeepsRoom all after → KeepsRoom (record all { line = text }) after
+KeepsRoom-line all after text keeps = record { room = keeps.room; beyond = keeps.beyond; ended = keeps.ended }
+
+Keeps-line : (all after : Reading) (text : List ℕ) → Keeps all after → Keeps (record all { line = text }) after
+Keeps-line all after text keeps = record { line = keeps.line; held = keeps.held; rest = KeepsRoom-line all after text keeps.rest }
+
+GivesHeldLine-line : (all after : Reading) (text : List ℕ) → GivesHeldLine all after → GivesHeldLine (record all { line = text }) after
+GivesHeldLine-line all after text gives = record { begins = gives.begins; rest = KeepsRoom-line all after text gives.rest }
+
+-- an answer says the same
+SaysNext-line : (heard : Heard) (all after : Reading) (told : Result Next Failed) (text : List ℕ) → SaysNext heard all after told → SaysNext heard (record all { line = text }) after told
+SaysNext-line enough all after (Ok next.Line) text says = GivesHeldLine-line all after text says
+SaysNext-line enough all after (Ok next.TooLong) text says = (says.0, Keeps-line all after text says.1)
+SaysNext-line at_end all after (Ok next.Line) text says = GivesHeldLine-line all after text says
+SaysNext-line at_end all after (Ok next.End) text says = (says.0, Keeps-line all after text says.1)
+SaysNext-line spent all after (Ok next.Spent) text says = Keeps-line all after text says
+SaysNext-line cut_off all after (Err e) text says = Keeps-line all after text says
+SaysNext-line _ all after _ text says = absurd says
+
+-- an answer is told, of a reader that has forgotten its line
+pub told_next :
+    (start now : List Event) (old clear mid new : Reading) (heard : Heard) (told : Result Next Failed) → clear ≡ record old { line = [] } → HasHeard start now clear mid heard → SaysNext heard mid new told → (events : List Event) × (now ≡ start ++ events) × Tells old events new told
+told_next start now old clear mid new heard told is has says = (
+  has.events,
+  has.passed,
+  record {
+    all = record mid { line = old.line };
+    heard = heard;
+    hears = subst (λ (r : Reading). Hears (record r { line = old.line }) has.events (record mid { line = old.line }) heard) is (Hears-line old.line has.hears);
+    answer = SaysNext-line heard mid new told old.line says;
+  },
+)
+
+-- what look finds, is found
+pub finds_now : (f : Found) (reading : Reading) → (f ≡ found.Neither → ⊥) → IsFound f reading.held → Finds f reading
+finds_now (found.Lf n) reading other is = is
+finds_now found.TooLong reading other is = is
+finds_now found.Neither reading other is = absurd (other refl)
+finds_now found.Spent reading other is = absurd is
+
 pub found_now : (start now : List Event) (old new : Reading) (f : Found) → SoFar start now old new → (f ≡ found.Neither → ⊥) → IsFound f new.held → HasHeard start now old new (heard_of (Ok f))
 found_now start now old new (found.Lf n) before other is = known_now start now old new before (inl (omega (arith, is.0, is.1)))
 found_now start now old new found.TooLong before other is =
     let within : line_length new.held ≤ length new.held = prefix_len-le-length (λ x. not (is_lf x)) new.held in
     known_now start now old new before (inr (omega (arith, is, within)))
 found_now start now old new found.Neither before other is = absurd (other refl)
+found_now start now old new found.Spent before other is = absurd is
 
--- what the bytes that are held begin with is an answer
-answer_of : (heard : Heard) (all line rest : List ℕ) (answer : Next) → (heard ≡ cut_off → ⊥) → Begins all (front_told answer line rest) → ((answer ≡ next.Line → ⊥) → rest ≡ all) → SaysNext heard all line rest (Ok answer)
-answer_of cut_off all line rest answer heard begins kept = absurd (heard refl)
-answer_of enough all line rest next.Line heard begins kept = begins
-answer_of enough all line rest next.TooLong heard begins kept = (begins, kept (λ e. absurd (cc e)))
-answer_of enough all line rest next.End heard begins kept = (begins, kept (λ e. absurd (cc e)))
-answer_of at_end all line rest next.Line heard begins kept = begins
-answer_of at_end all line rest next.TooLong heard begins kept = (begins, kept (λ e. absurd (cc e)))
-answer_of at_end all line rest next.End heard begins kept = (begins, kept (λ e. absurd (cc e)))
-
-not_cut_off : (f : Found) → heard_of (Ok f) ≡ cut_off → ⊥
-not_cut_off (found.Lf n) e = absurd (cc e)
-not_cut_off found.TooLong e = absurd (cc e)
-not_cut_off found.Neither e = absurd (cc e)
-
--- what was found is told
-pub told_next :
-    (start now : List Event) (old mid new : Reading) (f : Found) (answer : Next) → HasHeard start now old mid (heard_of (Ok f)) → ((rest : List ℕ) → (f ≡ found.Neither → rest ≡ []) → Begins (mid.held ++ rest) (front_told answer new.line (new.held ++ rest)))
-    → ((answer ≡ next.Line → ⊥) → new.held ≡ mid.held) → new.ended ≡ mid.ended → (events : List Event) × (now ≡ start ++ events) × Tells old events new (Ok answer)
-told_next start now old mid new f answer heard begins kept even =
-    let here : Begins mid.held (front_told answer new.line new.held) =
-    subst (λ (bytes : List ℕ). Begins bytes (front_told answer new.line new.held)) (append-nil mid.held)
-    (subst (λ (rest : List ℕ). Begins (mid.held ++ []) (front_told answer new.line rest)) (append-nil new.held) (begins [] (λ neither. refl))) in (
-      heard.events,
-      heard.passed,
-      record {
-        all = mid.held;
-        heard = heard_of (Ok f);
-        hears = heard.hears;
-        over = even ∙ heard.over;
-        answer = answer_of (heard_of (Ok f)) mid.held new.line new.held answer (not_cut_off f) here kept;
-      },
-    )
-
--- a failure is told
-pub told_failure : (start now : List Event) (old new : Reading) (e : Failed) → HasHeard start now old new cut_off → (events : List Event) × (now ≡ start ++ events) × Tells old events new (Err e)
-told_failure start now old new e heard = (heard.events, heard.passed, record { all = new.held; heard = cut_off; hears = heard.hears; over = heard.over; answer = refl })
-
--- what is heard depends of a reader on what it holds, and on whether the end has come
-pub heard_from : (start now : List Event) (old same new : Reading) (heard : Heard) → same.held ≡ old.held → same.ended ≡ old.ended → HasHeard start now same new heard → HasHeard start now old new heard
-heard_from start now old same new heard held even has = record {
-  events = has.events;
-  passed = has.passed;
-  hears = subst (λ (h : List ℕ). Hears h old.ended has.events new.held heard) held (subst (λ e. Hears same.held e has.events new.held heard) even has.hears);
-  over = has.over ∙ ap (λ e. is_over e heard) even;
-}
+-- where more is needed, so it was at first
+pub needs_something : (old now : Reading) → (NeedsNothing old → now ≡ old) → ¬ NeedsNoMore now.held → now.beyond ≡ [] → ¬ NeedsNothing old
+needs_something old now same needs none nothing =
+    by (subst (λ (r : Reading). NeedsNothing r) (sym (same nothing)) nothing)
+  where
+    by : NeedsNothing now → ⊥
+    by (inl no_more) = needs no_more
+    by (inr some) = some none

@@ -1,6 +1,9 @@
 pub mod LineLemmas
 pub mod Fronts
+pub mod Receiving
 pub mod Tells
 pub mod Taking
-pub mod Words
 pub mod Hearing
+pub mod Falling
+pub mod Words
+pub mod Arguments

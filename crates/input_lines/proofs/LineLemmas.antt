@@ -1,15 +1,15 @@
 -- What the first bytes of an input say of its first line.
 use Rattle.std.proofs.Common.{◌≡◌, ℕ, ◌+◌, ◌<◌, ◌≤◌, List, ◌++◌, ◌-◌, ◌∙◌, subst, inl, inr, Bool, not, true, false, length, get_or, take, drop, refl, arith, ap, sym}
-use Rattle.std.specs.Prelude.{◌==◌, slice_index, All, min, Option, None, Some, if◌then◌else◌}
+use Rattle.std.specs.Prelude.{◌==◌, slice_index, All, min, None, Some, if◌then◌else◌}
 use Rattle.std.specs.List.{position_or_len}
 use Rattle.std.proofs.lemmas.Grind.{common_steps}
 use Rattle.std.proofs.lemmas.Bool.Decides.{nat_tests}
-use Rattle.std.proofs.lemmas.List.{length-take, get_or-take, length-append, length-drop, get_or-drop}
+use Rattle.std.proofs.lemmas.List.{length-take, get_or-take, length-drop, get_or-drop}
 use Rattle.std.proofs.lemmas.Bool.{cases_lt}
 use Rattle.std.proofs.lemmas.List.Sums.{position_or_len_is, fails_before_first, prefix_len-le-length}
 use Rattle.std.proofs.lemmas.List.Folds.{prefix_len-append}
 use Rattle.memchr.specs.Find.{IsFirstByte, Nowhere, Passes, is_byte}
-use Rattle.input_lines.specs.Reader.{is_lf, line_length, without_cr, HasTaken, NeedsNoMore}
+use Rattle.input_lines.specs.Reader.{is_lf, line_length, without_cr}
 
 -- the first place that passes stays, whatever comes behind it
 pub position_or_len-front : {X : Type 0} (p : X → Bool) (xs ys : List X) → position_or_len p xs < length xs → position_or_len p (xs ++ ys) ≡ position_or_len p xs
@@ -47,21 +47,10 @@ line_length-none xs hay looked is clear first =
     sym (position_or_len_is is_lf xs (length xs) 0 (omega arith) (subst (λ (n : ℕ). (k : ℕ) → k < n → is_lf (get_or xs k 0) ≡ false) all (not_before xs hay looked (length hay) is clear first)) (λ past. absurd (omega arith)))
 
 -- bytes with no LF, and more behind them
-pub line_length-taken : (before after : Option (List ℕ)) (held new : List ℕ) → HasTaken before after held new → line_length held ≡ length held → length held ≤ line_length new
-line_length-taken before after held new has none =
-    let e = has.behind in
-    let f = prefix_len-append (λ x. not (is_lf x)) held has.bytes in
-    rw e (rw f (grind (arith, nat_tests)))
-
--- where all bytes are to be looked at and are not too many, so were those before them
-pub needs_more-taken : (before after : Option (List ℕ)) (held new : List ℕ) → HasTaken before after held new → line_length new ≡ length new → length new ≤ 65536 → NeedsNoMore held → ⊥
-needs_more-taken before after held new has none few (inl there) =
-    let same : line_length new ≡ line_length held = ap line_length has.behind ∙ position_or_len-front is_lf held has.bytes there in
-    let size : length new ≡ length held + length has.bytes = ap length has.behind ∙ length-append held has.bytes in
-    omega arith
-needs_more-taken before after held new has none few (inr many) =
-    let size : length new ≡ length held + length has.bytes = ap length has.behind ∙ length-append held has.bytes in
-    omega arith
+pub line_length-more : (held bytes : List ℕ) → line_length held ≡ length held → length held ≤ line_length (held ++ bytes)
+line_length-more held bytes none =
+    let f = prefix_len-append (λ x. not (is_lf x)) held bytes in
+    rw f (grind (arith, nat_tests))
 
 -- no LF stands among the bytes before the first one
 pub no_lf-take : (held : List ℕ) (n : ℕ) → n ≤ line_length held → All (λ b. b ≡ 10 → ⊥) (take n held)

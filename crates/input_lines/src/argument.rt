@@ -1,8 +1,8 @@
 //! The command of a line, and its argument.
 ghost use Rattle.std.specs.Prelude.{◌≡◌, ◌⊎◌, ◌<◌, ◌≤◌, ◌+◌, ℕ, IfSome, bytes_eq, drop, get_or, length, not, option_map, position};
 ghost use Rattle.std.specs.List.{position_or_len};
-ghost use Rattle.olap_meaning.specs.Requests.{argument_of, is_blank, is_letter};
-ghost use Rattle.olap_meaning.specs.Tokens.{in_capitals, is_white};
+ghost use Rattle.query_meaning.specs.Requests.{argument_of, is_blank, is_letter};
+ghost use Rattle.query_meaning.specs.Tokens.{in_capitals, is_white};
 
 // Whether a byte is a space or a tab.
 fn is_white(byte: u8) -> bool

@@ -1,7 +1,7 @@
 //! What follows of lines from their definition alone. Each function does nothing: its contract is the law.
-ghost use Rattle.olap_meaning.specs.Lines.{LinesAreOne};
+ghost use Rattle.query_meaning.specs.Lines.{BeginningsAreOne};
 
-/// No input has two lists of lines.
-pub fn lines_are_one()
-    ensures { LinesAreOne }
+/// No bytes begin with two things.
+pub fn beginnings_are_one()
+    ensures { BeginningsAreOne }
 {}

@@ -9,6 +9,8 @@ pub enum Next {
     TooLong,
     /// No byte is left.
     End,
+    /// No LF is among the bytes that may be lines, and one byte more has come.
+    Spent,
 }
 
 // What was found in the bytes that are held.
@@ -20,4 +22,6 @@ pub(crate) enum Found {
     TooLong,
     // Neither yet.
     Neither,
+    // Neither, and all that may be lines has come.
+    Spent,
 }

@@ -1,11 +1,12 @@
 //! What a line asks for.
-ghost use Rattle.std.specs.Prelude.{◌≡◌, IfOk, MatchOption, OnErr, codes, false, true};
-ghost use Rattle.std.specs.Option.{IsSome};
+ghost use Rattle.std.specs.Prelude.{◌≡◌, IfOk, MatchOption, OnErr, codes, false, is_some, true};
 ghost use Rattle.std.specs.Str.{is_utf8};
-ghost use Rattle.olap_meaning.specs.Requests.{IsRequest, argument_of, is_quit};
-ghost use Rattle.input_lines.specs.Asked.{asked};
+ghost use Rattle.query_meaning.specs.Requests.{MayFindNoMemory, argument_of, has_one_of, unbuilt_commands};
+ghost use Rattle.input_lines.specs.Asked.{Asks, asked};
+ghost use Rattle.input_lines.specs.Requests.{IsRequest};
 
 use crate::argument::{argument_of, is_blank};
+use command_arguments::{AppendArgument, ReadFault, read_append, read_blank, read_position};
 use mdx_reader::{CellQuery, read_cell_query};
 use olap_meaning::OutOfMemory;
 use std::alloc::Global;
@@ -18,8 +19,16 @@ pub enum Request {
     NotText,
     /// Nothing: the line is white.
     Blank,
+    /// Nothing: the line has no command.
+    NoCommand,
+    /// Nothing: its argument is none of its command's form, and stops at this byte of the argument.
+    Stops(usize),
     /// The end of the session.
     Quit,
+    /// That the cache has so many entries.
+    After(u64),
+    /// That the batch of a file is appended to a cube.
+    Append(AppendArgument),
     /// One cell.
     OneCell(CellQuery),
     /// What is not built.
@@ -37,21 +46,75 @@ fn text_of(line: &[u8]) -> Option<&str>
     }
 }
 
-// Whether a line ends the session.
-fn is_quit(line: &str) -> bool
-    ensures { result ≡ is_quit line.now }
+// Whether a line has a command, by the command's word in capital letters.
+fn has_command(word: &str, line: &str) -> bool
+    ensures { result ≡ is_some (argument_of word.now line.now) }
 {
-    match argument_of("QUIT", line) {
-        Some(argument) => is_blank(argument.as_bytes()),
-        None => false,
+    argument_of(word, line).is_some()
+}
+
+// Whether a line has a command of which nothing is built.
+fn has_unbuilt_command(line: &str) -> bool
+    ensures { result ≡ has_one_of unbuilt_commands line.now }
+{
+    if has_command("FLUSH", line) {
+        return true;
+    }
+    if has_command("AGG", line) {
+        return true;
+    }
+    has_command("CACHE", line)
+}
+
+// What the command MDX with this argument asks for.
+fn ask_cell(alloc: Global, argument: &str) -> Result<Request, OutOfMemory>
+    ensures { IfOk result (λ request. Asks (codes "MDX") argument.now (asked request)) }
+{
+    match read_cell_query(alloc, argument)? {
+        Some(query) => Ok(Request::OneCell(query)),
+        None => Ok(Request::Unbuilt),
     }
 }
 
-/// What a line asks for. Only a line with the command MDX takes memory.
+// What the command APPEND with this argument asks for.
+fn ask_append(alloc: Global, argument: &str) -> Result<Request, OutOfMemory>
+    ensures { IfOk result (λ request. Asks (codes "APPEND") argument.now (asked request)) }
+{
+    match read_append(alloc, argument) {
+        Ok(append) => Ok(Request::Append(append)),
+        Err(ReadFault::StopsAt { byte }) => Ok(Request::Stops(byte)),
+        Err(ReadFault::OutOfMemory) => Err(OutOfMemory),
+    }
+}
+
+// What the command AFTER with this argument asks for.
+fn ask_after(alloc: Global, argument: &str) -> Result<Request, OutOfMemory>
+    ensures request { IfOk result (λ request. Asks (codes "AFTER") argument.now (asked request)) }
+    ensures never { OnErr result ⊥ }
+{
+    match read_position(alloc, argument) {
+        Ok(position) => Ok(Request::After(position)),
+        Err(ReadFault::StopsAt { byte }) => Ok(Request::Stops(byte)),
+        Err(ReadFault::OutOfMemory) => Err(OutOfMemory),
+    }
+}
+
+// What the command QUIT with this argument asks for.
+fn ask_quit(alloc: Global, argument: &str) -> Result<Request, OutOfMemory>
+    ensures request { IfOk result (λ request. Asks (codes "QUIT") argument.now (asked request)) }
+    ensures never { OnErr result ⊥ }
+{
+    match read_blank(alloc, argument) {
+        Ok(()) => Ok(Request::Quit),
+        Err(ReadFault::StopsAt { byte }) => Ok(Request::Stops(byte)),
+        Err(ReadFault::OutOfMemory) => Err(OutOfMemory),
+    }
+}
+
+/// What a line asks for. Only a line with the command MDX or APPEND takes memory.
 pub fn read_request(alloc: Global, line: &[u8]) -> Result<Request, OutOfMemory>
     ensures request { IfOk result (λ request. IsRequest line.now (asked request)) }
-    ensures err { OnErr result
-        ((is_utf8 line.now ≡ true) × IsSome (argument_of (codes "MDX") line.now)) }
+    ensures err { OnErr result (MayFindNoMemory line.now) }
 {
     let Some(text) = text_of(line) else {
         return Ok(Request::NotText);
@@ -59,14 +122,20 @@ pub fn read_request(alloc: Global, line: &[u8]) -> Result<Request, OutOfMemory>
     if is_blank(line) {
         return Ok(Request::Blank);
     }
-    if is_quit(text) {
-        return Ok(Request::Quit);
+    if let Some(argument) = argument_of("MDX", text) {
+        return ask_cell(alloc, argument);
     }
-    let Some(argument) = argument_of("MDX", text) else {
+    if let Some(argument) = argument_of("APPEND", text) {
+        return ask_append(alloc, argument);
+    }
+    if let Some(argument) = argument_of("AFTER", text) {
+        return ask_after(alloc, argument);
+    }
+    if let Some(argument) = argument_of("QUIT", text) {
+        return ask_quit(alloc, argument);
+    }
+    if has_unbuilt_command(text) {
         return Ok(Request::Unbuilt);
-    };
-    match read_cell_query(alloc, argument)? {
-        Some(query) => Ok(Request::OneCell(query)),
-        None => Ok(Request::Unbuilt),
     }
+    Ok(Request::NoCommand)
 }

@@ -1,101 +1,99 @@
 -- One turn of a conversation after another.
-use Rattle.std.proofs.Common.{◌≡◌, refl, sym, ◌∙◌, ap, subst, ℕ, ◌+◌, ◌-◌, ◌^◌, List, [], ◌∷◌, ◌++◌, append_assoc, append-nil, Bool, ◌⊎◌, inl, inr, Option, Some, None}
-use Rattle.std.specs.Prelude.{MatchOption, Result, Ok, Err}
-use Rattle.outside.specs.Event.{Event, took}
+use Rattle.std.proofs.Common.{◌≡◌, refl, sym, ◌∙◌, ap, subst, ℕ, ◌<◌, List, [], ◌++◌, append_assoc, append-nil, Option, Some, None}
+use Rattle.std.specs.Prelude.{Result, Ok, Err}
+use Rattle.std.proofs.lemmas.List.Elements.{All-append}
+use Rattle.outside.specs.Event.{Event}
+use Rattle.outside.specs.Fetched.{Fetched}
+use Rattle.outside.specs.Told.{AreTheirs, Files, IsOf}
 use Rattle.outside.specs.declared.source.Failed.{Failed}
-use Rattle.olap_meaning.specs.Requests.{too_long_reply}
-use Rattle.input_lines.specs.Reader.{Heard, Hears, known, over, ends as ends_now, fails as fails_now, piece, Reading, Tells}
+use Rattle.input_lines.specs.Reader.{Reading, Tells, allowed}
+use Rattle.input_lines.proofs.Falling.{tells_fewer}
 use Rattle.input_lines.specs.declared.next.Next.{Next}
-use Rattle.outside.specs.Talks.{taken}
-use Rattle.outside.proofs.TalkFacts.{taken-append}
 use Rattle.input_lines.specs.declared.next.Next.TheVariants as next
-use Rattle.history_core.specs.Cache.{CacheOf}
-use Rattle.line_session.specs.Conversations.{Converses, turn, quits, cut_off, too_long, too_long_cut_off, ends, fails, too_many, HasConversed, IsCutOff, PassesReply, PassesTurn, sent}
-use Rattle.line_session.specs.declared.session.SessionEnd.{SessionEnd}
-use Rattle.line_session.specs.declared.session.SessionEnd.TheVariants.{Quit, EndOfInput, LongLine, ReceiveFault, SendFault, TooManyLines}
+use Rattle.line_session.specs.Desks.{DeskOf}
+use Rattle.line_session.specs.Replies.{Dealing}
+use Rattle.line_session.specs.Conversations.{Converses, HasConversed, turn, quits, cut_off, too_long, too_long_cut_off, ends, spends, fails}
+use Rattle.line_session.specs.Turns.{Answers, HasPassed, IsStill, Turn}
+use Rattle.line_session.specs.declared.end.SessionEnd.{SessionEnd}
+use Rattle.line_session.specs.declared.end.SessionEnd.TheVariants.{Quit, EndOfInput, LongLine, Budget, ReceiveFault, SendFault}
+use Rattle.line_session.proofs.Taking.{on_from}
 
--- what passes between two states, and then more
-on_from : (a b c : List Event) (first last : List Event) → b ≡ a ++ first → c ≡ b ++ last → c ≡ a ++ (first ++ last)
-on_from a b c first last here then = then ∙ ap (λ (es : List Event). es ++ last) here ∙ append_assoc a first last
+-- a conversation for which nothing was asked
+still : (reading : Reading) (around : Dealing) (events last given : List Event) (end : SessionEnd) → IsStill around → last ≡ given → Converses reading around.before (events ++ given) [] around.before end → Converses reading around.before (events ++ last) around.asked around.after end
+still reading around events last given end is same passes =
+    subst (λ (es : List Event). Converses reading around.before (events ++ es) around.asked around.after end) (sym same)
+    (subst (λ (asked : List Fetched). Converses reading around.before (events ++ given) asked around.after end) (sym is.1)
+    (subst (λ (desk : DeskOf). Converses reading around.before (events ++ given) [] desk end) (sym is.0) passes))
 
--- nothing is taken while a reader hears
-hears_takes_none : {held all : List ℕ} {over_before : Bool} {events : List Event} {heard : Heard} → Hears held over_before events all heard → taken events ≡ []
-hears_takes_none (known needs) = refl
-hears_takes_none (over needs) = refl
-hears_takes_none (ends_now needs) = refl
-hears_takes_none (fails_now needs) = refl
-hears_takes_none (piece bytes some needs rest) = hears_takes_none rest
+-- where nothing is answered
+quiet : (reading : Reading) (around : Dealing) (events last : List Event) (end : SessionEnd) → IsStill around → last ≡ [] → Converses reading around.before events [] around.before end → Converses reading around.before (events ++ last) around.asked around.after end
+quiet reading around events last end is same passes =
+    still reading around events last [] end is same (subst (λ (es : List Event). Converses reading around.before es [] around.before end) (sym (append-nil events)) passes)
 
-pub untaken : (a b : List Event) (old new : Reading) (answer : Result Next Failed) → (events : List Event) × (b ≡ a ++ events) × Tells old events new answer → taken b ≡ taken a
-untaken a b old new answer (events, passed, tells) = ap taken passed ∙ taken-append a events ∙ ap (λ (bs : List ℕ). taken a ++ bs) (hears_takes_none tells.hears) ∙ append-nil (taken a)
+-- what ends a session is a conversation
+ended_by : (reading then : Reading) (around : Dealing) (heard last : List Event) (told : Result Next Failed) (end : SessionEnd) → Tells reading heard then told → Answers told around then.line last (Some end) → Converses reading around.before (heard ++ last) around.asked around.after end
+ended_by reading then around heard last (Ok next.Line) Quit tells answers =
+    subst (λ (es : List Event). Converses reading around.before (heard ++ es) around.asked around.after Quit) (sym answers.ends.1) (quits heard around.asked answers.position answers.reply tells answers.handles answers.ends.0)
+ended_by reading then around heard last (Ok next.Line) SendFault tells answers =
+    cut_off heard last around.asked answers.position answers.reply tells answers.handles answers.ends
+ended_by reading then around heard last (Ok next.Line) _ tells answers = absurd answers.ends
+ended_by reading then around heard last (Ok next.TooLong) LongLine tells answers = still reading around heard last _ LongLine answers.0 answers.1 (too_long heard tells)
+ended_by reading then around heard last (Ok next.TooLong) SendFault tells answers = still reading around heard last last SendFault answers.0 refl (too_long_cut_off heard last tells answers.1)
+ended_by reading then around heard last (Ok next.End) EndOfInput tells answers = quiet reading around heard last EndOfInput answers.0 answers.1 (ends heard tells)
+ended_by reading then around heard last (Ok next.Spent) Budget tells answers = quiet reading around heard last Budget answers.0 answers.1 (spends heard tells)
+ended_by reading then around heard last (Err e) ReceiveFault tells answers = quiet reading around heard last ReceiveFault answers.0 answers.1 (fails heard e tells)
+ended_by reading then around heard last _ _ tells answers = absurd answers
 
--- a line came, and was answered
-pub line_passed :
-    (reading then : Reading) (number : ℕ) (before after : CacheOf) (a b c : List Event) (result : Option SessionEnd) (line : List ℕ) → then.line ≡ line → (events : List Event) × (b ≡ a ++ events) × Tells reading events then (Ok next.Line)
-    → (last : List Event) × (c ≡ b ++ last) × PassesReply number before after line last result
-    → MatchOption result ((events : List Event) × (c ≡ a ++ events) × PassesTurn reading number before after events then) (λ end. HasConversed a c reading number before after end)
-line_passed reading then number before after a b c None line same (heard, here, tells) (last, passed, (reply, handles, goes, is)) = (
-  heard ++ last,
-  on_from a b c heard last here passed,
-  record {
-    heard = heard;
-    reply = reply;
-    tells = tells;
-    handles = rw same handles;
-    goes_on = rw same goes;
-    events_are = ap (λ (es : List Event). heard ++ es) is;
-  },
-)
-line_passed reading then number before after a b c (Some Quit) line same (heard, here, tells) (last, passed, (reply, handles, quitting, is)) = record {
-  events = heard ++ last;
-  passed = on_from a b c heard last here passed;
-  converses = subst (λ (es : List Event). Converses reading number before (heard ++ es) after Quit) (sym is) (quits heard reply tells (rw same handles) (rw same quitting));
+-- a turn that ends the session
+pub turn_ends :
+    (reading then : Reading) (before after : DeskOf) (a b : List Event) (answers answered : List Fetched) (files : Option Files) (left rest : Option (List ℕ)) (end : SessionEnd)
+    → (events : List Event) × (asked : List Fetched) × HasPassed a b answers answered files events asked × Turn reading then (record { before = before; after = after; asked = asked }) events left rest (Some end)
+    → HasConversed a b answers answered files reading before after end
+turn_ends reading then before after a b answers answered files left rest end (events, asked, passed, one) = record {
+  events = events;
+  passed = passed.passed;
+  asked = asked;
+  answered = passed.answered;
+  theirs = passed.theirs;
+  converses = subst (λ (es : List Event). Converses reading before es asked after end) (sym one.events_are) (ended_by reading then (record { before = before; after = after; asked = asked }) one.heard one.last one.told end one.tells one.answers);
 }
-line_passed reading then number before after a b c (Some SendFault) line same (heard, here, tells) (last, passed, (reply, handles, cut)) = record {
-  events = heard ++ last;
-  passed = on_from a b c heard last here passed;
-  converses = cut_off heard last reply tells (rw same handles) cut;
+
+-- what was asked for, first and then
+all_theirs : (files : Option Files) (first later : List Fetched) → AreTheirs files first → AreTheirs files later → AreTheirs files (first ++ later)
+all_theirs None first later one other = tt
+all_theirs (Some all) first later one other = All-append (IsOf all) first later one other
+
+pub asked_from : (a b c : List Fetched) (first last : List Fetched) → b ≡ a ++ first → c ≡ b ++ last → c ≡ a ++ (first ++ last)
+asked_from a b c first last here then = then ∙ ap (λ (es : List Fetched). es ++ last) here ∙ append_assoc a first last
+
+-- a turn that goes on, and then a conversation
+goes_on_by : (reading then : Reading) (around : Dealing) (after : DeskOf) (heard last more : List Event) (later : List Fetched) (told : Result Next Failed) (end : SessionEnd) → Tells reading heard then told → Answers told around then.line last None → Converses then around.after more later after end
+    → Converses reading around.before ((heard ++ last) ++ more) (around.asked ++ later) after end
+goes_on_by reading then around after heard last more later (Ok next.Line) end tells answers rest =
+    subst (λ (es : List Event). Converses reading around.before ((heard ++ es) ++ more) (around.asked ++ later) after end) (sym answers.ends.1) (turn heard more around.asked later answers.position answers.reply tells answers.handles answers.ends.0 rest)
+goes_on_by reading then around after heard last more later _ end tells answers rest = absurd answers
+
+pub turn_goes_on :
+    (reading then : Reading) (before middle after : DeskOf) (a b c : List Event) (answers answered told : List Fetched) (files : Option Files) (left rest : Option (List ℕ)) (end : SessionEnd)
+    → (events : List Event) × (asked : List Fetched) × HasPassed a b answers answered files events asked × Turn reading then (record { before = before; after = middle; asked = asked }) events left rest None
+    → HasConversed b c answered told files then middle after end → HasConversed a c answers told files reading before after end
+turn_goes_on reading then before middle after a b c answers answered told files left rest end (events, asked, passed, one) later = record {
+  events = events ++ later.events;
+  passed = on_from a b c events later.events passed.passed later.passed;
+  asked = asked ++ later.asked;
+  answered = asked_from answers answered told asked later.asked passed.answered later.answered;
+  theirs = all_theirs files asked later.asked passed.theirs later.theirs;
+  converses = subst (λ (es : List Event). Converses reading before (es ++ later.events) (asked ++ later.asked) after end) (sym one.events_are) (goes_on_by reading then (record { before = before; after = middle; asked = asked }) after one.heard one.last later.events later.asked one.told end one.tells one.answers later.converses);
 }
-line_passed reading then number before after a b c (Some EndOfInput) line same heard (last, passed, none) = absurd none
-line_passed reading then number before after a b c (Some LongLine) line same heard (last, passed, none) = absurd none
-line_passed reading then number before after a b c (Some ReceiveFault) line same heard (last, passed, none) = absurd none
-line_passed reading then number before after a b c (Some TooManyLines) line same heard (last, passed, none) = absurd none
 
--- too long a line came
-pub long_passed :
-    (reading then : Reading) (number : ℕ) (cache : CacheOf) (a b c : List Event) (end : SessionEnd) → (events : List Event) × (b ≡ a ++ events) × Tells reading events then (Ok next.TooLong)
-    → (end ≡ LongLine) ⊎ (end ≡ SendFault) → (end ≡ LongLine → c ≡ b ++ took too_long_reply ∷ []) → (end ≡ SendFault → (last : List Event) × (c ≡ b ++ last) × IsCutOff too_long_reply last) → HasConversed a c reading number cache cache end
-long_passed reading then number cache a b c end (heard, here, tells) (inl is) all front = rw is (record {
-  events = heard ++ took too_long_reply ∷ [];
-  passed = on_from a b c heard (took too_long_reply ∷ []) here (all is);
-  converses = too_long heard tells;
-})
-long_passed reading then number cache a b c end (heard, here, tells) (inr is) all front =
-    let cut : (last : List Event) × (c ≡ b ++ last) × IsCutOff too_long_reply last = front is in
-    rw is (record {
-      events = heard ++ cut.0;
-      passed = on_from a b c heard cut.0 here cut.1;
-      converses = too_long_cut_off heard cut.0 tells cut.2;
-    })
+-- a turn that goes on gave a line, and so fewer bytes may be lines
+line_told : (around : Dealing) (line : List ℕ) (last : List Event) (told : Result Next Failed) → Answers told around line last None → told ≡ Ok next.Line
+line_told around line last (Ok next.Line) answers = refl
+line_told around line last _ answers = absurd answers
 
--- the end came
-pub end_passed : (reading then : Reading) (number : ℕ) (cache : CacheOf) (a b : List Event) → (events : List Event) × (b ≡ a ++ events) × Tells reading events then (Ok next.End) → HasConversed a b reading number cache cache EndOfInput
-end_passed reading then number cache a b (heard, here, tells) = record { events = heard; passed = here; converses = ends heard tells }
-
--- a receive has failed
-pub failure_passed : (reading then : Reading) (number : ℕ) (cache : CacheOf) (a b : List Event) (e : Failed) → (events : List Event) × (b ≡ a ++ events) × Tells reading events then (Err e) → HasConversed a b reading number cache cache ReceiveFault
-failure_passed reading then number cache a b e (heard, here, tells) = record { events = heard; passed = here; converses = fails heard e tells }
-
--- no number is left
-pub many_passed : (reading : Reading) (number : ℕ) (cache : CacheOf) (a : List Event) → number ≡ 2 ^ 64 - 1 → HasConversed a a reading number cache cache TooManyLines
-many_passed reading number cache a last = record { events = []; passed = sym (append-nil a); converses = too_many last }
-
--- a turn, and then a conversation from there on
-pub turn_conversed :
-    (reading then : Reading) (number : ℕ) (before middle after : CacheOf) (a b c : List Event) (end : SessionEnd) → (events : List Event) × (b ≡ a ++ events) × PassesTurn reading number before middle events then → HasConversed b c then (number + 1) middle after end
-    → HasConversed a c reading number before after end
-turn_conversed reading then number before middle after a b c end (events, here, passes) rest = record {
-  events = (passes.heard ++ sent passes.reply) ++ rest.events;
-  passed = on_from a b c (passes.heard ++ sent passes.reply) rest.events (here ∙ ap (λ (es : List Event). a ++ es) passes.events_are) rest.passed;
-  converses = turn passes.heard rest.events passes.reply passes.tells passes.handles passes.goes_on rest.converses;
-}
+pub turn_fewer :
+    (reading then : Reading) (before after : DeskOf) (a b : List Event) (answers answered : List Fetched) (files : Option Files) (left rest : Option (List ℕ))
+    → (events : List Event) × (asked : List Fetched) × HasPassed a b answers answered files events asked × Turn reading then (record { before = before; after = after; asked = asked }) events left rest None
+    → allowed then < allowed reading
+turn_fewer reading then before after a b answers answered files left rest (events, asked, passed, one) =
+    tells_fewer reading then one.heard (subst (λ (told : Result Next Failed). Tells reading one.heard then told) (line_told (record { before = before; after = after; asked = asked }) then.line one.last one.told one.answers) one.tells)

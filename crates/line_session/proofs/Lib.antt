@@ -1,8 +1,11 @@
-pub mod Ending
-pub mod Asking
-pub mod Parts
+pub mod GoingOn
+pub mod LineEnds
+pub mod Replying
+pub mod Appending
+pub mod Wanting
 pub mod Handling
-pub mod Turning
-pub mod Quitting
-pub mod Sending
+pub mod Taking
 pub mod Conversing
+pub mod Sending
+pub mod Serving
+pub mod Rows

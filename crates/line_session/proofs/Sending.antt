@@ -1,24 +1,39 @@
--- What passes where a reply is sent.
+-- What is taken of a link while a session is served.
 use Rattle.std.proofs.Common.{◌≡◌, refl, ◌∙◌, ap, ℕ, List, [], ◌∷◌, ◌++◌, take, append-nil}
-use Rattle.outside.specs.Event.{Event, took}
-use Rattle.outside.specs.Talks.{cut, taken}
+use Rattle.std.specs.Prelude.{Result}
+use Rattle.outside.specs.Event.{Event}
+use Rattle.outside.specs.Talks.{taken}
 use Rattle.outside.specs.Told.{TakesFront}
+use Rattle.outside.specs.declared.source.Failed.{Failed}
 use Rattle.outside.proofs.TalkFacts.{taken-append}
-use Rattle.line_session.specs.Conversations.{sent}
-
--- bytes are sent as one
-pub sent_some : (bytes : List ℕ) → (bytes ≡ [] → ⊥) → sent bytes ≡ took bytes ∷ []
-sent_some [] some = absurd (some refl)
-sent_some (b ∷ bs) some = refl
+use Rattle.input_lines.specs.Reader.{Heard, Hears, Reading, Tells, beyond, ends, fails, known, over, piece, piece_beyond}
+use Rattle.input_lines.specs.declared.next.Next.{Next}
+use Rattle.line_session.specs.Conversations.{IsCutOff, sent}
 
 -- what was taken where a reply was sent whole
-pub taken_sent : (talk : List Event) (reply : List ℕ) → taken (talk ++ sent reply) ≡ taken talk ++ reply
-taken_sent talk [] = taken-append talk []
-taken_sent talk (b ∷ bs) = taken-append talk (took (b ∷ bs) ∷ []) ∙ ap (λ (x : List ℕ). taken talk ++ x) (append-nil (b ∷ bs))
+taken_sent : (reply : List ℕ) → taken (sent reply) ≡ reply
+taken_sent [] = refl
+taken_sent (b ∷ bs) = append-nil (b ∷ bs)
 
--- what was taken where it was cut off
-pub taken_cut : (talk : List Event) (n : ℕ) (reply : List ℕ) → taken (talk ++ cut n reply) ≡ taken talk ++ take n reply
-taken_cut talk n reply = taken-append talk (cut n reply) ∙ ap (λ (x : List ℕ). taken talk ++ x) (append-nil (take n reply))
+-- nothing is taken while a reader hears
+hears_takes_none : {reading all : Reading} {events : List Event} {heard : Heard} → Hears reading events all heard → taken events ≡ []
+hears_takes_none (known needs) = refl
+hears_takes_none (beyond needs some) = refl
+hears_takes_none (over needs none is) = refl
+hears_takes_none (ends needs may) = refl
+hears_takes_none (fails needs may) = refl
+hears_takes_none (piece bytes needs may some within rest) = hears_takes_none rest
+hears_takes_none (piece_beyond bytes last needs may within rest) = hears_takes_none rest
 
-pub front_cut : (before after : List Event) (n : ℕ) (reply : List ℕ) → after ≡ before ++ cut n reply → TakesFront (taken before) (taken after) reply
-front_cut before after n reply passed = (n, ap taken passed ∙ taken_cut before n reply)
+-- what is taken while a reader hears and then more passes is what is taken of this
+pub taken_behind : (a b : List Event) (reading then : Reading) (told : Result Next Failed) (heard last : List Event) → Tells reading heard then told → b ≡ a ++ (heard ++ last) → taken b ≡ taken a ++ taken last
+taken_behind a b reading then told heard last tells passed =
+    ap taken passed ∙ taken-append a (heard ++ last) ∙ ap (λ (bs : List ℕ). taken a ++ bs) (taken-append heard last ∙ ap (λ (bs : List ℕ). bs ++ taken last) (hears_takes_none tells.hears))
+
+-- a reply that was sent whole
+pub sent_whole : (before after : List ℕ) (last : List Event) (reply : List ℕ) → after ≡ before ++ taken last → last ≡ sent reply → after ≡ before ++ reply
+sent_whole before after last reply passed is = passed ∙ ap (λ (es : List Event). before ++ taken es) is ∙ ap (λ (bs : List ℕ). before ++ bs) (taken_sent reply)
+
+-- one that was cut off
+pub sent_front : (before after : List ℕ) (last : List Event) (reply : List ℕ) → after ≡ before ++ taken last → IsCutOff reply last → TakesFront before after reply
+sent_front before after last reply passed is = (is.taken, passed ∙ ap (λ (es : List Event). before ++ taken es) is.events_are ∙ ap (λ (bs : List ℕ). before ++ bs) (append-nil (take is.taken reply)))

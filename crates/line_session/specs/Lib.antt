@@ -1,4 +1,6 @@
-pub mod Asks
+pub mod Desks
+pub mod ReplyBytes
 pub mod Replies
 pub mod Sessions
 pub mod Conversations
+pub mod Turns

@@ -1,9 +1,17 @@
-//! What a session does with the manager of a cache: it asks for cells, and runs the loads that are missing.
+//! A session: lines that come over a link, each with its reply, asked of a desk at a cache.
+//!
+//! What a session is stands in `specs/`: what a desk's calls add to what its seat has seen (`Desks`), what is replied to a
+//! line (`Replies`), which lines of an input are handled (`Sessions`), and what passes over the link (`Conversations`).
 #![tactic(auto)]
 
+mod append;
 mod desk;
+mod end;
+mod handle;
 mod query;
+mod reply;
 mod session;
 
-pub use desk::ask;
-pub use session::{SessionEnd, serve};
+pub use desk::Desk;
+pub use end::{BYTE_LIMIT, SessionEnd};
+pub use session::serve;

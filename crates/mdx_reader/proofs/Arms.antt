@@ -5,11 +5,11 @@ use Rattle.std.specs.Char.{to_ascii_uppercase}
 use Rattle.std.proofs.lemmas.Str.{encode_ascii}
 use Rattle.std.proofs.lemmas.Str.Ascii.{uppercase_ascii}
 use Rattle.olap_meaning.specs.declared.OutOfMemory.{OutOfMemory}
-use Rattle.olap_meaning.specs.declared.queries.Token.{Token}
+use Rattle.query_meaning.specs.declared.Token.{Token}
 use Rattle.mdx_reader.specs.declared.mode.Start.TheVariants as start
 use Rattle.mdx_reader.specs.declared.mode.Mode.{Mode}
 use Rattle.mdx_reader.specs.declared.mode.Mode.TheVariants as mode
-use Rattle.olap_meaning.specs.Tokens.{Spells}
+use Rattle.query_meaning.specs.Tokens.{Spells}
 use Rattle.mdx_reader.specs.Lexer.{start_of, InWord, Closing, Continues, Steps, Ends, EndsWord, EndsName}
 use Rattle.mdx_reader.proofs.Starts.{word_ascii}
 use Rattle.mdx_reader.proofs.Characters.{ends_word, ends_name}

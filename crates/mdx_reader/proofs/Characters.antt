@@ -5,7 +5,7 @@ use Rattle.std.proofs.lemmas.Bool.{cases_lt}
 use Rattle.std.proofs.lemmas.List.{append-nil}
 use Rattle.std.proofs.lemmas.Str.{encode_ascii, inside_one, length-encode, len_utf8_bounds}
 use Rattle.mdx_reader.specs.declared.mode.Start.TheVariants as start
-use Rattle.olap_meaning.specs.Tokens.{escaped}
+use Rattle.query_meaning.specs.Tokens.{escaped}
 use Rattle.mdx_reader.specs.Lexer.{start_of, EndsWord, EndsName}
 use Rattle.mdx_reader.proofs.Starts.{above_starts}
 use Rattle.mdx_reader.proofs.Within.{escaped_other}

@@ -5,10 +5,10 @@ use Rattle.std.specs.Str.{IsUtf8, chars}
 use Rattle.std.proofs.lemmas.List.{drop_more, drop_all, length_push, append-nil}
 use Rattle.std.proofs.lemmas.Str.{encodes-chars}
 use Rattle.std.specs.Prelude.{encode_utf8_all}
-use Rattle.olap_meaning.specs.declared.queries.Token.{Token}
+use Rattle.query_meaning.specs.declared.Token.{Token}
 use Rattle.mdx_reader.specs.declared.mode.Mode.{Mode}
 use Rattle.mdx_reader.specs.declared.mode.Mode.TheVariants as mode
-use Rattle.olap_meaning.specs.Tokens.{Spells, ended}
+use Rattle.query_meaning.specs.Tokens.{Spells, ended}
 use Rattle.mdx_reader.specs.Lexer.{Continues, Completes, Steps, Ends, IsSoFar}
 use Rattle.mdx_reader.proofs.Arms.{IsEnd}
 

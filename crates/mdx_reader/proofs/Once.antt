@@ -1,13 +1,13 @@
 -- A text has one list of tokens, and a list of tokens one query.
 use Rattle.std.proofs.Common.{◌≡◌, ℕ, Bool, true, false, List, [], ◌∷◌, ◌++◌, refl, sym, ap, subst, ◌∙◌, codes, append_assoc}
 use Rattle.std.specs.Char.{to_ascii_uppercase}
-use Rattle.olap_meaning.specs.declared.queries.Keyword.{Keyword}
-use Rattle.olap_meaning.specs.declared.queries.Sign.{Sign}
-use Rattle.olap_meaning.specs.declared.queries.Sign.TheVariants.{OpenBrace, CloseBrace, Dot}
-use Rattle.olap_meaning.specs.declared.queries.Token.{Token}
-use Rattle.olap_meaning.specs.declared.queries.Token.TheVariants as token
+use Rattle.query_meaning.specs.declared.Keyword.{Keyword}
+use Rattle.query_meaning.specs.declared.Sign.{Sign}
+use Rattle.query_meaning.specs.declared.Sign.TheVariants.{OpenBrace, CloseBrace, Dot}
+use Rattle.query_meaning.specs.declared.Token.{Token}
+use Rattle.query_meaning.specs.declared.Token.TheVariants as token
 use Rattle.mdx_reader.specs.declared.mode.Start.TheVariants as start
-use Rattle.olap_meaning.specs.Tokens.{keyword_text, in_capitals, sign_text, escaped, bracketed, Spells, ended, white, keyword, sign, name}
+use Rattle.query_meaning.specs.Tokens.{keyword_text, in_capitals, sign_text, escaped, bracketed, Spells, ended, white, keyword, sign, name}
 use Rattle.mdx_reader.specs.Lexer.{start_of, InWord, InName, EndsWord, EndsName}
 use Rattle.mdx_reader.proofs.Starts.{Begins, a_white, a_word, a_name, a_sign, begins, white_starts, sign_starts, open_starts, letter_starts, keyword_some, keywords_apart}
 use Rattle.mdx_reader.proofs.Within.{no_tokens, touches, letter_not, close_not, word_ends, words_more, names_more, name_close, closing_ends}

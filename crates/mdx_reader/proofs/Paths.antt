@@ -1,14 +1,14 @@
 -- The tokens of paths and of queries.
 use Rattle.std.proofs.Common.{◌≡◌, ◌≢◌, ℕ, false, List, [], ◌∷◌, ◌++◌, refl, sym, ap, subst, ◌∙◌, append_assoc, flat_map, Option, Some, None, Result, Ok, Err, IfOk, MatchOption}
 use Rattle.olap_meaning.specs.declared.OutOfMemory.{OutOfMemory}
-use Rattle.olap_meaning.specs.declared.queries.Keyword.TheVariants.{Select, On, Columns, From}
-use Rattle.olap_meaning.specs.declared.queries.Sign.{Sign as AnySign}
-use Rattle.olap_meaning.specs.declared.queries.Sign.TheVariants.{OpenBrace, CloseBrace, Dot}
-use Rattle.olap_meaning.specs.declared.queries.Token.{Token}
-use Rattle.olap_meaning.specs.declared.queries.Token.TheVariants.{Keyword, Sign, Name}
-use Rattle.olap_meaning.specs.declared.queries.CellQuery.{CellQuery}
-use Rattle.olap_meaning.specs.Tokens.{Spells}
-use Rattle.olap_meaning.specs.Queries.{path_tokens, query_tokens, IsCellQuery, CellQueriesAreOne}
+use Rattle.query_meaning.specs.declared.Keyword.TheVariants.{Select, On, Columns, From}
+use Rattle.query_meaning.specs.declared.Sign.{Sign as AnySign}
+use Rattle.query_meaning.specs.declared.Sign.TheVariants.{OpenBrace, CloseBrace, Dot}
+use Rattle.query_meaning.specs.declared.Token.{Token}
+use Rattle.query_meaning.specs.declared.Token.TheVariants.{Keyword, Sign, Name}
+use Rattle.query_meaning.specs.declared.CellQuery.{CellQuery}
+use Rattle.query_meaning.specs.Tokens.{Spells}
+use Rattle.query_meaning.specs.Queries.{path_tokens, query_tokens, IsCellQuery, CellQueriesAreOne}
 use Rattle.mdx_reader.specs.Parser.{IsPathThen, AreTokensOf}
 use Rattle.mdx_reader.proofs.Once.{spells_once}
 

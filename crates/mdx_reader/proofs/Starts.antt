@@ -2,14 +2,14 @@
 use Rattle.std.proofs.Common.{◌≡◌, ◌≢◌, ℕ, ◌<◌, ◌≤◌, Bool, true, false, List, [], ◌∷◌, ◌++◌, refl, sym, ap, subst, ◌∙◌, arith, codes, append_assoc}
 use Rattle.std.specs.Char.{to_ascii_uppercase}
 use Rattle.std.proofs.lemmas.Bool.Decides.{nat_tests}
-use Rattle.olap_meaning.specs.declared.queries.Keyword.{Keyword}
-use Rattle.olap_meaning.specs.declared.queries.Keyword.TheVariants.{Select, On, Columns, From}
-use Rattle.olap_meaning.specs.declared.queries.Sign.{Sign}
-use Rattle.olap_meaning.specs.declared.queries.Sign.TheVariants.{OpenBrace, CloseBrace, Dot}
-use Rattle.olap_meaning.specs.declared.queries.Token.{Token}
-use Rattle.olap_meaning.specs.declared.queries.Token.TheVariants as token
+use Rattle.query_meaning.specs.declared.Keyword.{Keyword}
+use Rattle.query_meaning.specs.declared.Keyword.TheVariants.{Select, On, Columns, From}
+use Rattle.query_meaning.specs.declared.Sign.{Sign}
+use Rattle.query_meaning.specs.declared.Sign.TheVariants.{OpenBrace, CloseBrace, Dot}
+use Rattle.query_meaning.specs.declared.Token.{Token}
+use Rattle.query_meaning.specs.declared.Token.TheVariants as token
 use Rattle.mdx_reader.specs.declared.mode.Start.TheVariants as start
-use Rattle.olap_meaning.specs.Tokens.{is_white, keyword_text, in_capitals, sign_text, escaped, Spells, white, keyword, sign, name}
+use Rattle.query_meaning.specs.Tokens.{is_white, keyword_text, in_capitals, sign_text, escaped, Spells, white, keyword, sign, name}
 use Rattle.mdx_reader.specs.Lexer.{start_of, InWord, InName}
 
 pub white_starts : (c : ℕ) → is_white c ≡ true → start_of c ≡ start.White

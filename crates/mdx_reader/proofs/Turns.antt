@@ -6,15 +6,15 @@ use Rattle.std.specs.Char.{to_ascii_uppercase}
 use Rattle.std.specs.Prelude.{String}
 use Rattle.std.specs.Global.{Global}
 use Rattle.std.proofs.lemmas.Str.{encode_ascii}
-use Rattle.olap_meaning.specs.declared.queries.Keyword.{Keyword}
-use Rattle.olap_meaning.specs.declared.queries.Sign.{Sign}
-use Rattle.olap_meaning.specs.declared.queries.Token.{Token}
-use Rattle.olap_meaning.specs.declared.queries.Token.TheVariants as token
+use Rattle.query_meaning.specs.declared.Keyword.{Keyword}
+use Rattle.query_meaning.specs.declared.Sign.{Sign}
+use Rattle.query_meaning.specs.declared.Token.{Token}
+use Rattle.query_meaning.specs.declared.Token.TheVariants as token
 use Rattle.mdx_reader.specs.declared.mode.Start.{Start}
 use Rattle.mdx_reader.specs.declared.mode.Start.TheVariants as start
 use Rattle.mdx_reader.specs.declared.mode.Mode.{Mode}
 use Rattle.mdx_reader.specs.declared.mode.Mode.TheVariants as mode
-use Rattle.olap_meaning.specs.Tokens.{keyword_text, Spells}
+use Rattle.query_meaning.specs.Tokens.{keyword_text, Spells}
 use Rattle.mdx_reader.specs.Lexer.{start_of, InWord, InName, Closing, Continues, Completes, Steps, Ends, EndsWord, EndsName}
 use Rattle.mdx_reader.proofs.Starts.{Begins, a_white, a_word, a_name, a_sign, begins, begun, word_ascii, above_starts, keywords_apart}
 use Rattle.mdx_reader.proofs.Within.{word_more, word_more_up, word_ends, word_ends_up, names_more, names_more_up, name_close, name_close_up, closing_more, closing_more_up, closing_ends}

@@ -6,13 +6,13 @@ use Rattle.std.specs.Char.{to_ascii_uppercase}
 use Rattle.std.proofs.lemmas.List.{append-nil}
 use Rattle.std.proofs.lemmas.Bool.{cases_eq}
 use Rattle.std.proofs.lemmas.Bool.Decides.{nat_tests}
-use Rattle.olap_meaning.specs.declared.queries.Keyword.{Keyword}
-use Rattle.olap_meaning.specs.declared.queries.Sign.{Sign}
-use Rattle.olap_meaning.specs.declared.queries.Sign.TheVariants.{OpenBrace, CloseBrace, Dot}
-use Rattle.olap_meaning.specs.declared.queries.Token.{Token}
-use Rattle.olap_meaning.specs.declared.queries.Token.TheVariants as token
+use Rattle.query_meaning.specs.declared.Keyword.{Keyword}
+use Rattle.query_meaning.specs.declared.Sign.{Sign}
+use Rattle.query_meaning.specs.declared.Sign.TheVariants.{OpenBrace, CloseBrace, Dot}
+use Rattle.query_meaning.specs.declared.Token.{Token}
+use Rattle.query_meaning.specs.declared.Token.TheVariants as token
 use Rattle.mdx_reader.specs.declared.mode.Start.TheVariants as start
-use Rattle.olap_meaning.specs.Tokens.{keyword_text, in_capitals, sign_text, escaped, Spells, ended, white, keyword, sign, name}
+use Rattle.query_meaning.specs.Tokens.{keyword_text, in_capitals, sign_text, escaped, Spells, ended, white, keyword, sign, name}
 use Rattle.mdx_reader.specs.Lexer.{start_of, InWord, InName, AfterName, Closing, EndsWord, EndsName}
 use Rattle.mdx_reader.proofs.Starts.{Begins, a_white, a_word, a_name, a_sign, begins, begun, letter_starts, close_starts, keyword_some}
 

@@ -1,15 +1,15 @@
 -- What may still come where a text was read so far.
 use Rattle.std.specs.Prelude.{◌≡◌, ◌≢◌, ◌⊎◌, ◌++◌, ◌↔◌, ℕ, Bool, true, false, List, [], ◌∷◌, codes, string_bytes, Option, Some, None, ◌==◌, ◌||◌, if◌then◌else◌}
-use Rattle.olap_meaning.specs.declared.queries.Keyword.{Keyword}
-use Rattle.olap_meaning.specs.declared.queries.Token.{Token}
-use Rattle.olap_meaning.specs.declared.queries.Token.TheVariants as token
+use Rattle.query_meaning.specs.declared.Keyword.{Keyword}
+use Rattle.query_meaning.specs.declared.Token.{Token}
+use Rattle.query_meaning.specs.declared.Token.TheVariants as token
 use Rattle.std.specs.Char.{is_ascii_alphanumeric}
-use Rattle.olap_meaning.specs.declared.queries.Sign.TheVariants.{OpenBrace, CloseBrace, Dot}
+use Rattle.query_meaning.specs.declared.Sign.TheVariants.{OpenBrace, CloseBrace, Dot}
 use Rattle.mdx_reader.specs.declared.mode.Start.{Start}
 use Rattle.mdx_reader.specs.declared.mode.Start.TheVariants as start
 use Rattle.mdx_reader.specs.declared.mode.Mode.{Mode}
 use Rattle.mdx_reader.specs.declared.mode.Mode.TheVariants as mode
-use Rattle.olap_meaning.specs.Tokens.{Spells, keyword_text, in_capitals, escaped}
+use Rattle.query_meaning.specs.Tokens.{Spells, keyword_text, in_capitals, escaped}
 
 -- what a character begins
 unfoldable pub start_of : ℕ → Start

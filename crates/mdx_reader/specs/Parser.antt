@@ -1,11 +1,11 @@
 -- What is taken off the front of a list of tokens.
 use Rattle.std.specs.Prelude.{◌≡◌, ◌≢◌, ◌++◌, ℕ, Bool, true, false, List, [], ◌∷◌, Option, Some, None}
-use Rattle.olap_meaning.specs.declared.queries.Sign.{Sign}
-use Rattle.olap_meaning.specs.declared.queries.Sign.TheVariants.{CloseBrace}
-use Rattle.olap_meaning.specs.declared.queries.Token.{Token}
-use Rattle.olap_meaning.specs.declared.queries.Token.TheVariants as token
-use Rattle.olap_meaning.specs.declared.queries.CellQuery.{CellQuery}
-use Rattle.olap_meaning.specs.Queries.{path_tokens, query_tokens}
+use Rattle.query_meaning.specs.declared.Sign.{Sign}
+use Rattle.query_meaning.specs.declared.Sign.TheVariants.{CloseBrace}
+use Rattle.query_meaning.specs.declared.Token.{Token}
+use Rattle.query_meaning.specs.declared.Token.TheVariants as token
+use Rattle.query_meaning.specs.declared.CellQuery.{CellQuery}
+use Rattle.query_meaning.specs.Queries.{path_tokens, query_tokens}
 
 -- the token stood in front, or it did not
 abbrev pub Took : Token → List Token → List Token → Bool → Type 0

@@ -1,11 +1,11 @@
 //! The query of one cell.
 ghost use Rattle.std.specs.Prelude.{◌≡◌, None, IfOk, IfSome};
-ghost use Rattle.olap_meaning.specs.Queries.{IsCellQuery, WritesNoCellQuery};
+ghost use Rattle.query_meaning.specs.Queries.{IsCellQuery, WritesNoCellQuery};
 
 use crate::lexer::read_tokens;
 use crate::parser::query_of_tokens;
 use olap_meaning::OutOfMemory;
-use olap_meaning::queries::CellQuery;
+use query_meaning::CellQuery;
 use std::alloc::Global;
 
 /// Reads a query of one cell. None exactly where the text is not of this form.

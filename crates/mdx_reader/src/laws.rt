@@ -1,6 +1,6 @@
 //! Laws of the definitions alone: each is the contract of a function with an empty body.
-ghost use Rattle.olap_meaning.specs.Queries.{CellQueriesAreOne};
-ghost use Rattle.olap_meaning.specs.Tokens.{TokensAreOne};
+ghost use Rattle.query_meaning.specs.Queries.{CellQueriesAreOne};
+ghost use Rattle.query_meaning.specs.Tokens.{TokensAreOne};
 
 /// No text spells two lists of tokens.
 pub fn tokens_are_one()

@@ -1,11 +1,11 @@
 //! Reads a text into its tokens, a character at a time.
 ghost use Rattle.std.specs.Prelude.{◌≡◌, ◌≢◌, MatchBool, [], IfOk, MatchOption, string_bytes, encode_utf8, false};
-ghost use Rattle.olap_meaning.specs.Tokens.{Spells, keyword_text};
+ghost use Rattle.query_meaning.specs.Tokens.{Spells, keyword_text};
 ghost use Rattle.mdx_reader.specs.Lexer.{start_of, IsNoKeyword, HasNoTokens, InWord, Closing, Continues, Steps, Ends, EndsWord, EndsName};
 
 use crate::mode::{Mode, Start};
-use olap_meaning::queries::{Keyword, Sign, Token};
 use olap_meaning::{OutOfMemory, Text};
+use query_meaning::{Keyword, Sign, Token};
 use std::alloc::Global;
 use std::collections::VecDeque;
 

@@ -17,4 +17,4 @@ mod mode;
 mod parser;
 
 pub use cell_query::read_cell_query;
-pub use olap_meaning::queries::{CellQuery, Keyword, Sign, Token};
+pub use query_meaning::{CellQuery, Keyword, Sign, Token};

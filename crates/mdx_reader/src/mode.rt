@@ -1,6 +1,6 @@
 //! Where a reader of tokens stands.
 
-use olap_meaning::queries::Sign;
+use query_meaning::Sign;
 
 /// What a character begins.
 #[derive(Clone, Copy)]

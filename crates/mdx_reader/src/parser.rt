@@ -2,8 +2,8 @@
 ghost use Rattle.std.specs.Prelude.{IfOk, MatchOption};
 ghost use Rattle.mdx_reader.specs.Parser.{Took, TookSign, TookName, TookPath, AreTokensOf, AreTokensOfNone};
 
-use olap_meaning::queries::{CellQuery, Keyword, Sign, Token};
 use olap_meaning::{List, OutOfMemory, Text};
+use query_meaning::{CellQuery, Keyword, Sign, Token};
 use std::alloc::Global;
 use std::collections::VecDeque;
 

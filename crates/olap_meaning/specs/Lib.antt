@@ -16,9 +16,3 @@ pub mod Legal
 pub mod Laws
 pub mod Equivalents
 pub mod Growth
-pub mod Lines
-pub mod Tokens
-pub mod Queries
-pub mod Grids
-pub mod CellQueries
-pub mod Requests

@@ -8,7 +8,6 @@ mod cells;
 mod ids;
 pub mod laws;
 mod list;
-pub mod queries;
 mod regions;
 pub mod schema;
 pub mod tables;

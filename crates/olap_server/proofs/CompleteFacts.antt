@@ -1,30 +1,36 @@
 -- A run in which nothing has failed is complete.
-use Rattle.std.proofs.Common.{◌≡◌, ◌≢◌, refl, sym, ap, subst, ℕ, ◌≤◌, List, ◌++◌, Option, Bool, inl, inr, arith}
+use Rattle.std.proofs.Common.{◌≡◌, ◌≢◌, refl, sym, ap, ℕ, ◌≤◌, List, ◌++◌, Option, Some, inl, inr, arith}
 use Rattle.std.specs.Prelude.{Err}
 use Rattle.outside.specs.Event.{Event}
-use Rattle.outside.specs.Talks.{cut, failures}
+use Rattle.outside.specs.Fetched.{Fetched}
+use Rattle.outside.specs.Talks.{failures}
+use Rattle.outside.specs.Told.{Files}
 use Rattle.outside.specs.declared.source.Failed.{Failed}
 use Rattle.outside.proofs.TalkFacts.{failures-append, failures_cut, failures_took}
-use Rattle.olap_meaning.specs.Requests.{too_long_reply}
-use Rattle.input_lines.specs.Reader.{Heard, enough, at_end, cut_off, Hears, known, over, ends, fails, piece, Reading, Tells}
+use Rattle.query_meaning.specs.Replies.{too_long_reply}
+use Rattle.input_lines.specs.Reader.{Heard, enough, at_end, spent, cut_off, Hears, known, beyond, over, ends, fails, piece, piece_beyond, Reading, Tells}
 use Rattle.history_core.specs.Cache.{CacheOf}
 use Rattle.history_core.specs.History.{HistoryOf}
 use Rattle.line_session.specs.Conversations as talk
 use Rattle.line_session.specs.Conversations.{Converses, HasConversed, fresh, sent}
-use Rattle.line_session.specs.declared.session.SessionEnd.{SessionEnd}
-use Rattle.line_session.specs.declared.session.SessionEnd.TheVariants as end
-use Rattle.olap_server.specs.Complete.{IsComplete}
-use Rattle.olap_server.specs.Run.{EndsRun, HasServed, IsLast, IsLastLine, cache_of}
+use Rattle.line_session.specs.Desks.{DeskOf}
+use Rattle.line_session.specs.declared.end.SessionEnd.{SessionEnd}
+use Rattle.line_session.specs.declared.end.SessionEnd.TheVariants as end
+use Rattle.line_session.specs.Sessions.{byte_limit}
+use Rattle.olap_server.specs.Complete.{IsComplete, status_by_itself}
+use Rattle.olap_server.specs.Run.{Around, EndsRun, HasServed, IsLast, IsLastLine, cache_of, desk_over}
 use Rattle.olap_server.specs.declared.status.Status.{Status}
-use Rattle.olap_server.specs.declared.status.Status.TheVariants.{Memory}
+use Rattle.olap_server.specs.declared.status.Status.TheVariants.{Budget, Memory}
 
 -- where a reader hears a failure, one has passed
-heard_failure : {held all : List ℕ} {before : Bool} {events : List Event} {heard : Heard} → Hears held before events all heard → heard ≡ cut_off → 1 ≤ failures events
+heard_failure : {before all : Reading} {events : List Event} {heard : Heard} → Hears before events all heard → heard ≡ cut_off → 1 ≤ failures events
 heard_failure (known needs) is = absurd (cc is)
-heard_failure (over needs) is = absurd (cc is)
-heard_failure (ends needs) is = absurd (cc is)
-heard_failure (fails needs) is = omega arith
-heard_failure (piece bytes some needs rest) is = heard_failure rest is
+heard_failure (beyond needs some) is = absurd (cc is)
+heard_failure (over needs none done) is = absurd (cc is)
+heard_failure (ends needs may) is = absurd (cc is)
+heard_failure (fails needs may) is = omega arith
+heard_failure (piece bytes needs may some fit rest) is = heard_failure rest is
+heard_failure (piece_beyond bytes last needs may fit rest) is = heard_failure rest is
 
 told_failure : (before after : Reading) (events : List Event) (e : Failed) → Tells before events after (Err e) → 1 ≤ failures events
 told_failure before after events e tells = by tells.heard refl
@@ -32,6 +38,7 @@ told_failure before after events e tells = by tells.heard refl
     by : (h : Heard) → tells.heard ≡ h → 1 ≤ failures events
     by enough is = absurd (rw is at tells.answer)
     by at_end is = absurd (rw is at tells.answer)
+    by spent is = absurd (rw is at tells.answer)
     by cut_off is = heard_failure tells.hears is
 
 -- how often one of two has failed
@@ -51,22 +58,23 @@ later_failure : (e : SessionEnd) (es fs : List Event) → HasFailed e fs → Has
 later_failure end.Quit es fs h = tt
 later_failure end.EndOfInput es fs h = tt
 later_failure end.LongLine es fs h = tt
+later_failure end.Budget es fs h = tt
 later_failure end.ReceiveFault es fs h = last_failure es fs h
 later_failure end.SendFault es fs h = last_failure es fs h
-later_failure end.TooManyLines es fs h = tt
+later_failure end.Memory es fs h = tt
 
 cut_failure : (reply : List ℕ) (events : List Event) → talk.IsCutOff reply events → 1 ≤ failures events
 cut_failure reply events is = rw is.events_are (omega arith)
 
-ended_failure : {reading : Reading} {number : ℕ} {before after : CacheOf} {events : List Event} {e : SessionEnd} → Converses reading number before events after e → HasFailed e events
-ended_failure (talk.turn {end = e} heard more reply tells handles goes rest) = later_failure e (heard ++ sent reply) more (ended_failure rest)
-ended_failure (talk.quits heard reply tells handles quitting) = tt
-ended_failure (talk.cut_off heard last reply tells handles cut) = last_failure heard last (cut_failure reply last cut)
+ended_failure : {reading : Reading} {before after : DeskOf} {events : List Event} {asked : List Fetched} {e : SessionEnd} → Converses reading before events asked after e → HasFailed e events
+ended_failure (talk.turn {end = e} heard more asked later position reply tells handles goes rest) = later_failure e (heard ++ sent reply) more (ended_failure rest)
+ended_failure (talk.quits heard asked position reply tells handles quitting) = tt
+ended_failure (talk.cut_off heard last asked position reply tells handles cut) = last_failure heard last (cut_failure reply last cut)
 ended_failure (talk.too_long heard tells) = tt
 ended_failure (talk.too_long_cut_off heard last tells cut) = last_failure heard last (cut_failure too_long_reply last cut)
 ended_failure (talk.ends heard tells) = tt
+ended_failure (talk.spends heard tells) = tt
 ended_failure (talk.fails {reading = reading} {then = then} heard e tells) = told_failure reading then heard e tells
-ended_failure (talk.too_many last) = tt
 
 -- the last that is said never takes failures away, and a front of it is one more
 line_failures : (last : Status) (text : List ℕ) (before after : List Event) (status : Status) → IsLastLine last text before after status → failures before ≤ failures after
@@ -81,20 +89,21 @@ line_whole last text before after status (inr (is, front)) none = absurd (omega 
 more_than : (before middle after : List Event) (events : List Event) → middle ≡ before ++ events → 1 ≤ failures events → failures middle ≤ failures after → failures after ≡ failures before → ⊥
 more_than before middle after events passed some grown none = omega (arith, ap failures passed, failures-append before events, some, grown, none)
 
-served_complete : (opened cache : CacheOf) (left : Option (List ℕ)) (before after : List Event) (status : Status) → HasServed opened cache left before after status → failures after ≡ failures before → status ≢ Memory → IsComplete opened cache before after status
-served_complete opened cache left before after status served none memory = by served.end refl served.conversed served.last
+served_complete : (files : Option Files) (opened cache : CacheOf) (start finish : Around) (status : Status) → HasServed files opened cache start finish status → failures finish.talk ≡ failures start.talk → status ≢ Memory → IsComplete files opened cache start finish status
+served_complete files opened cache start finish status served none memory = by served.end refl served.conversed served.last
   where
-    whole : (e : SessionEnd) → HasConversed before served.talk fresh 1 opened cache e → after ≡ served.talk → HasConversed before after fresh 1 opened cache e
-    whole e conversed same = subst (λ (t : List Event). HasConversed before t fresh 1 opened cache e) (sym same) conversed
+    complete : (e : SessionEnd) → served.end ≡ e → status_by_itself e ≡ Some status → IsComplete files opened cache start finish status
+    complete e is itself = record { end = served.end; by_itself = rw is itself; talk = served.talk; conversed = served.conversed; last = served.last }
 
-    by : (e : SessionEnd) → served.end ≡ e → HasConversed before served.talk fresh 1 opened cache e → IsLast e served.talk after status → IsComplete opened cache before after status
-    by end.Quit is conversed last = record { done = last.0; end = end.Quit; by_itself = tt; conversed = whole end.Quit conversed last.1 }
-    by end.EndOfInput is conversed last = record { done = last.0; end = end.EndOfInput; by_itself = tt; conversed = whole end.EndOfInput conversed last.1 }
-    by end.LongLine is conversed last = record { done = last.0; end = end.LongLine; by_itself = tt; conversed = whole end.LongLine conversed last.1 }
-    by end.ReceiveFault is conversed last = absurd (more_than before served.talk after conversed.events conversed.passed (ended_failure conversed.converses) (line_failures _ _ served.talk after status last) none)
-    by end.SendFault is conversed last = absurd (more_than before served.talk after conversed.events conversed.passed (ended_failure conversed.converses) (omega (arith, ap failures last.1)) none)
-    by end.TooManyLines is conversed last = absurd (memory (line_whole Memory _ served.talk after status last (omega (arith, none, line_failures _ _ served.talk after status last, ap failures conversed.passed, failures-append before conversed.events))))
+    by : (e : SessionEnd) → served.end ≡ e → HasConversed start.talk served.talk start.answers finish.answers files (fresh byte_limit) (desk_over opened) (desk_over cache) e → IsLast e served.talk finish.talk status → IsComplete files opened cache start finish status
+    by end.Quit is conversed last = complete end.Quit is (ap Some (sym last.0))
+    by end.EndOfInput is conversed last = complete end.EndOfInput is (ap Some (sym last.0))
+    by end.LongLine is conversed last = complete end.LongLine is (ap Some (sym last.0))
+    by end.Budget is conversed last = complete end.Budget is (ap Some (sym (line_whole Budget _ served.talk finish.talk status last (omega (arith, none, line_failures _ _ served.talk finish.talk status last, ap failures conversed.passed, failures-append start.talk conversed.events)))))
+    by end.ReceiveFault is conversed last = absurd (more_than start.talk served.talk finish.talk conversed.events conversed.passed (ended_failure conversed.converses) (line_failures _ _ served.talk finish.talk status last) none)
+    by end.SendFault is conversed last = absurd (more_than start.talk served.talk finish.talk conversed.events conversed.passed (ended_failure conversed.converses) (omega (arith, ap failures last.1)) none)
+    by end.Memory is conversed last = absurd last
 
-pub run_complete : (opened : CacheOf) (history : HistoryOf) (left left_after : Option (List ℕ)) (before after : List Event) (status : Status) → EndsRun opened history left left_after before after status → failures after ≡ failures before → status ≢ Memory → IsComplete opened (cache_of history) before after status
-run_complete opened history left left_after before after status (inl served) none memory = served_complete opened (cache_of history) left before after status served none memory
-run_complete opened history left left_after before after status (inr begun) none memory = absurd (memory (line_whole Memory _ before after status begun.last none))
+pub run_complete : (files : Option Files) (opened : CacheOf) (history : HistoryOf) (start finish : Around) (status : Status) → EndsRun files opened history start finish status → failures finish.talk ≡ failures start.talk → status ≢ Memory → IsComplete files opened (cache_of history) start finish status
+run_complete files opened history start finish status (inl served) none memory = served_complete files opened (cache_of history) start finish status served none memory
+run_complete files opened history start finish status (inr begun) none memory = absurd (memory (line_whole Memory _ start.talk finish.talk status begun.last none))

@@ -5,21 +5,17 @@ use Rattle.std.proofs.lemmas.List.Elements.{All-nil}
 use Rattle.olap_meaning.specs.declared.tables.Setting.{Setting}
 use Rattle.olap_meaning.specs.Commands.{Command, Cell, Run}
 use Rattle.olap_meaning.specs.History.{Entry}
-use Rattle.outside.specs.Event.{Event}
 use Rattle.outside.specs.Fetched.{Fetched}
-use Rattle.outside.specs.Talks.{taken}
 use Rattle.outside.specs.Told.{Files}
-use Rattle.cache_opening.specs.Asking.{Asking, IsOf, Leads, stopped}
+use Rattle.cache_opening.specs.Asking.{Asking, Leads, stopped}
+use Rattle.outside.specs.Told.{IsOf}
 use Rattle.cache_opening.specs.Opening.{opening_from}
 use Rattle.cache_opening.specs.declared.fault.OpenFault.{OpenFault}
 use Rattle.cache_opening.specs.declared.fault.OpenFault.TheVariants as fault
 use Rattle.history_core.specs.History.{HistoryOf}
 use Rattle.history_core.specs.Cache.{CacheOf}
-use Rattle.line_session.specs.declared.session.SessionEnd.{SessionEnd}
-use Rattle.line_session.specs.Conversations.{HasConversed, fresh}
-use Rattle.line_session.specs.Sessions.{IsServed}
 use Rattle.olap_server.specs.Asked.{IsAsked, MayLackMemory}
-use Rattle.olap_server.specs.Run.{Around, AskedTells, EndsRun, IsCutOff, IsLast, IsLastLine, IsTold, OpeningTells, SayTells, Tells, cache_of}
+use Rattle.olap_server.specs.Run.{Around, AskedTells, EndsRun, IsCutOff, IsLastLine, IsTold, OpeningTells, SayTells, ServesDesk, Tells, cache_of}
 use Rattle.olap_server.specs.Said.{Said, no_memory, told_opening}
 use Rattle.olap_server.specs.declared.status.Status.{Status}
 use Rattle.olap_server.specs.declared.status.Status.TheVariants.{Sink}
@@ -32,28 +28,20 @@ cache_is history after same entries =
     let with_setting : Setting → CacheOf = λ s. record { setting = s; entries = after.entries } in
     ap with_entries entries ∙ ap with_setting same
 
--- a session was served, and then the last was said
-pub served_run :
-    (opened after : CacheOf) (history : HistoryOf) (left left_after : Option (List ℕ)) (before talk finish : List Event) (end : SessionEnd) (status : Status) → history.setting ≡ after.setting → history.entries ≡ after.entries
-    → HasConversed before talk fresh 1 opened after end → IsServed 1 end opened after left (taken before) (taken talk) → IsLast end talk finish status → EndsRun opened history left left_after before finish status
-served_run opened after history left left_after before talk finish end status same entries conversed served last =
-    let is = sym (cache_is history after same entries) in
-    inl (record {
-      end = end;
-      talk = talk;
-      conversed = subst (λ (k : CacheOf). HasConversed before talk fresh 1 opened k end) is conversed;
-      served = subst (λ (k : CacheOf). IsServed 1 end opened k left (taken before) (taken talk)) is served;
-      last = last;
-    })
+-- a session over a cache is one over the cache of its history
+pub ends_run : (files : Option Files) (opened after : CacheOf) (history : HistoryOf) (start finish : Around) (status : Status) → history.setting ≡ after.setting → history.entries ≡ after.entries
+    → ServesDesk files opened after start finish status → EndsRun files opened history start finish status
+ends_run files opened after history start finish status same entries serves = subst (λ (k : CacheOf). ServesDesk files opened k start finish status) (sym (cache_is history after same entries)) serves
 
 -- there was no memory to begin
-pub unserved_run :
-    (opened after : CacheOf) (history : HistoryOf) (left left_after : Option (List ℕ)) (before talk finish : List Event) (status : Status) (said : Said) → history.setting ≡ after.setting → history.entries ≡ after.entries
-    → after ≡ opened → talk ≡ before → said ≡ no_memory → IsLastLine said.status said.text talk finish status → left_after ≡ left → EndsRun opened history left left_after before finish status
-unserved_run opened after history left left_after before talk finish status said same entries unserved unsent is last unread =
+pub has_not_begun :
+    (files : Option Files) (opened after : CacheOf) (start finish : Around) (status : Status) (said : Said) → after ≡ opened → said ≡ no_memory → IsLastLine said.status said.text start.talk finish.talk status → finish.answers ≡ start.answers → finish.left ≡ start.left
+    → ServesDesk files opened after start finish status
+has_not_begun files opened after start finish status said unserved is last unasked unread =
     inr (record {
-      same = cache_is history after same entries ∙ unserved;
-      last = subst (λ (t : List Event). IsLastLine no_memory.status no_memory.text t finish status) unsent (subst (λ (s : Said). IsLastLine s.status s.text talk finish status) is last);
+      same = unserved;
+      last = subst (λ (s : Said). IsLastLine s.status s.text start.talk finish.talk status) is last;
+      unasked = unasked;
       unread = unread;
     })
 

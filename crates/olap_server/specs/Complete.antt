@@ -1,38 +1,44 @@
 -- Runs in which nothing fails.
-use Rattle.std.specs.Prelude.{◌≡◌, ◌≢◌, ℕ, List, Option, ⊤}
-use Rattle.outside.specs.Event.{Event}
+use Rattle.std.specs.Prelude.{◌≡◌, ◌≢◌, List, Option, Some, None}
 use Rattle.outside.specs.Talks.{failures}
+use Rattle.outside.specs.Told.{Files}
 use Rattle.history_core.specs.Cache.{CacheOf}
 use Rattle.history_core.specs.History.{HistoryOf}
 use Rattle.line_session.specs.Conversations.{HasConversed, fresh}
-use Rattle.line_session.specs.declared.session.SessionEnd.{SessionEnd}
-use Rattle.line_session.specs.declared.session.SessionEnd.TheVariants as end
-use Rattle.olap_server.specs.Run.{EndsRun, cache_of}
+use Rattle.line_session.specs.Sessions.{byte_limit}
+use Rattle.line_session.specs.declared.end.SessionEnd.{SessionEnd}
+use Rattle.line_session.specs.declared.end.SessionEnd.TheVariants as end
+use Rattle.outside.specs.Event.{Event}
+use Rattle.olap_server.specs.Run.{Around, EndsRun, IsLast, cache_of, desk_over}
 use Rattle.olap_server.specs.declared.status.Status.{Status}
-use Rattle.olap_server.specs.declared.status.Status.TheVariants.{Done, Memory}
+use Rattle.olap_server.specs.declared.status.Status.TheVariants.{Done, Memory, Budget}
 
--- a session was ended by what was received: by a line, by the end, or by too long a line
-abbrev pub EndsByItself : SessionEnd → Type 0
-EndsByItself end.Quit = ⊤
-EndsByItself end.EndOfInput = ⊤
-EndsByItself end.LongLine = ⊤
-EndsByItself end.ReceiveFault = ⊥
-EndsByItself end.SendFault = ⊥
-EndsByItself end.TooManyLines = ⊥
+-- the status of a run whose session was ended by what was received: by a line, by the end, by too long a line, or by more
+-- bytes than it takes
+abbrev pub status_by_itself : SessionEnd → Option Status
+status_by_itself end.Quit = Some Done
+status_by_itself end.EndOfInput = Some Done
+status_by_itself end.LongLine = Some Done
+status_by_itself end.Budget = Some Budget
+status_by_itself end.ReceiveFault = None
+status_by_itself end.SendFault = None
+status_by_itself end.Memory = None
 
--- all that has passed is a conversation to its end, in which each line was handled and replied to, and the status is 0
-pub record IsComplete (opened cache : CacheOf) (before after : List Event)
+-- a conversation has passed to its end, in which each line was handled and replied to, and then at most the line of the
+-- status; no failure has ended it
+pub record IsComplete (files : Option Files) (opened cache : CacheOf) (start finish : Around)
     (status : Status) : Type 0 where
-  pub done : status ≡ Done
   pub end : SessionEnd
-  pub by_itself : EndsByItself end
-  pub conversed : HasConversed before after fresh 1 opened cache end
+  pub by_itself : status_by_itself end ≡ Some status
+  pub talk : List Event
+  pub conversed : HasConversed start.talk talk start.answers finish.answers files
+      (fresh byte_limit) (desk_over opened) (desk_over cache) end
+  pub last : IsLast end talk finish.talk status
 
 -- where nothing has failed on the link, and no want of memory is answered, a run over a cache is complete
 abbrev pub RunsAreComplete : Type 0
 RunsAreComplete =
-    (opened : CacheOf) (history : HistoryOf) (left_before left_after : Option (List ℕ))
-    (before after : List Event) (status : Status)
-    → EndsRun opened history left_before left_after before after status
-    → failures after ≡ failures before → status ≢ Memory
-    → IsComplete opened (cache_of history) before after status
+    (files : Option Files) (opened : CacheOf) (history : HistoryOf) (start finish : Around)
+    (status : Status) → EndsRun files opened history start finish status
+    → failures finish.talk ≡ failures start.talk → status ≢ Memory
+    → IsComplete files opened (cache_of history) start finish status

@@ -1,5 +1,5 @@
 -- What a run of the command line tells, and why.
-use Rattle.std.specs.Prelude.{◌≡◌, ◌≢◌, ◌≤◌, ◌+◌, ◌⊎◌, ◌++◌, ℕ, List, [], ◌∷◌, Option, Some, None, Result, Ok, Err, IfSome, length, map, string_bytes}
+use Rattle.std.specs.Prelude.{◌≡◌, ◌≢◌, ◌≤◌, ◌+◌, ◌⊎◌, ◌++◌, ℕ, List, [], ◌∷◌, Option, Some, None, Result, Ok, Err, IfSome, length, map, string_bytes, true}
 use Rattle.csv_records.specs.Files.{file_records}
 use Rattle.history_core.specs.History.{HistoryOf}
 use Rattle.history_core.specs.Cache.{CacheOf}
@@ -7,11 +7,11 @@ use Rattle.cache_opening.specs.declared.fault.OpenFault.{OpenFault}
 use Rattle.cache_opening.specs.declared.fault.OpenFault.TheVariants as fault
 use Rattle.cache_opening.specs.Asking.{Leads}
 use Rattle.cache_opening.specs.Opening.{IsOpened, opening_from}
-use Rattle.line_session.specs.declared.session.SessionEnd.{SessionEnd}
-use Rattle.line_session.specs.declared.session.SessionEnd.TheVariants as end
-use Rattle.line_session.specs.Asks.{rows_started}
+use Rattle.line_session.specs.declared.end.SessionEnd.{SessionEnd}
+use Rattle.line_session.specs.declared.end.SessionEnd.TheVariants as end
+use Rattle.line_session.specs.Desks.{DeskOf, rows_started}
 use Rattle.line_session.specs.Conversations.{HasConversed, fresh}
-use Rattle.line_session.specs.Sessions.{IsServed}
+use Rattle.line_session.specs.Sessions.{IsServed, byte_limit}
 use Rattle.fault_texts.specs.FaultTexts.{fact_line}
 use Rattle.olap_meaning.specs.Commands.{CellCommand, Command, Cell, Run, command_of}
 use Rattle.olap_meaning.specs.FileQuery.{FileFault, answer_of}
@@ -25,9 +25,9 @@ use Rattle.outside.specs.declared.depot.DepotRefusal.{DepotRefusal}
 use Rattle.outside.specs.declared.depot.DepotRefusal.TheVariants.{Missing, Failed}
 use Rattle.olap_server.specs.Asked.{IsAsked}
 use Rattle.olap_server.specs.Faults.{refusal_text, told_fault}
-use Rattle.olap_server.specs.Said.{Said, memory_line, no_file_line, no_memory, source_line, told_opening, usage_line}
+use Rattle.olap_server.specs.Said.{Said, budget_line, memory_line, no_file_line, no_memory, source_line, told_opening, usage_line}
 use Rattle.olap_server.specs.declared.status.Status.{Status}
-use Rattle.olap_server.specs.declared.status.Status.TheVariants.{Done, Usage, Schema, Source, Sink, Memory, NoFile}
+use Rattle.olap_server.specs.declared.status.Status.TheVariants.{Done, Usage, Schema, Source, Sink, Memory, NoFile, Budget}
 use Rattle.olap_server.specs.declared.words.Words.{Words}
 use Rattle.olap_server.specs.declared.words.Words.TheVariants as words
 
@@ -40,6 +40,7 @@ number_of Source = 4
 number_of Sink = 5
 number_of Memory = 6
 number_of NoFile = 8
+number_of Budget = 9
 
 -- what a depot was asked for, and what has passed of a link, at one time; and the bytes that are left to be received,
 -- where the link tells them
@@ -109,6 +110,7 @@ CellTells command files before after Source text = IsUnread command before after
 CellTells command files before after Sink text = ⊥
 CellTells command files before after Memory text = IsWanting command before after text
 CellTells command files before after NoFile text = IsMissing command files before after text
+CellTells command files before after Budget text = ⊥
 
 -- what was asked for leads to a fault of the opening, of which this status and this text are told
 abbrev pub FaultTells : List ℕ → Option Files → List Fetched → List Fetched → Status → List ℕ
@@ -132,6 +134,7 @@ OpeningTells file files before after Memory text =
     × Leads files before after (opening_from file) (Err reason) × (text ≡ memory_line)
 OpeningTells file files before after NoFile text =
     FaultTells file files before after NoFile text
+OpeningTells file files before after Budget text = ⊥
 
 -- the same of what words ask for: a command; or they are no command line, and just that is told
 abbrev pub AskedTells : Option Command → Option Files → List Fetched → List Fetched → Status
@@ -192,49 +195,69 @@ abbrev pub IsLast : SessionEnd → List Event → List Event → Status → Type
 IsLast end.Quit before after status = (status ≡ Done) × (after ≡ before)
 IsLast end.EndOfInput before after status = (status ≡ Done) × (after ≡ before)
 IsLast end.LongLine before after status = (status ≡ Done) × (after ≡ before)
+IsLast end.Budget before after status = IsLastLine Budget budget_line before after status
 IsLast end.ReceiveFault before after status = IsLastLine Source source_line before after status
 IsLast end.SendFault before after status = (status ≡ Sink) × (after ≡ before)
-IsLast end.TooManyLines before after status = IsLastLine Memory memory_line before after status
+IsLast end.Memory before after status = ⊥
+
+-- the desk of a run over a cache: seat 1, and nobody else adds entries
+abbrev pub desk_over : CacheOf → DeskOf
+desk_over cache = record { cache = cache; seat = 1; alone = true; fronts = None }
 
 -- a session was served over a cache, which was a conversation, and then the last was said; where the link tells what
 -- is left, the lines that were handled are those of it
-pub record HasServed (opened cache : CacheOf) (left : Option (List ℕ)) (before after : List Event)
+pub record HasServed (files : Option Files) (opened cache : CacheOf) (start finish : Around)
     (status : Status) : Type 0 where
   pub end : SessionEnd
   pub talk : List Event
-  pub conversed : HasConversed before talk fresh 1 opened cache end
-  pub served : IsServed 1 end opened cache left (taken before) (taken talk)
-  pub last : IsLast end talk after status
+  pub asked : List Fetched
+  pub conversed : HasConversed start.talk talk start.answers finish.answers files
+      (fresh byte_limit) (desk_over opened) (desk_over cache) end
+  pub answered : finish.answers ≡ start.answers ++ asked
+  pub served : IsServed byte_limit end
+      (record { before = desk_over opened; after = desk_over cache; asked = asked }) start.left
+      (taken start.talk) (taken talk)
+  pub last : IsLast end talk finish.talk status
 
--- there was no memory to begin a session: nothing was received, and just that was said
-pub record HasNotBegun (opened cache : CacheOf) (left_before left_after : Option (List ℕ))
-    (before after : List Event) (status : Status) : Type 0 where
+-- there was no memory to begin a session: nothing was received or asked for, and just that was said
+pub record HasNotBegun (opened cache : CacheOf) (start finish : Around)
+    (status : Status) : Type 0 where
   pub same : cache ≡ opened
-  pub last : IsLastLine Memory memory_line before after status
-  pub unread : left_after ≡ left_before
+  pub last : IsLastLine Memory memory_line start.talk finish.talk status
+  pub unasked : finish.answers ≡ start.answers
+  pub unread : finish.left ≡ start.left
 
 -- the cache of a history
 abbrev pub cache_of : HistoryOf → CacheOf
 cache_of history = record { setting = history.setting; entries = history.entries }
 
+-- a session over a cache was served, or could not begin
+abbrev pub ServesDesk : Option Files → CacheOf → CacheOf → Around → Around → Status → Type 0
+ServesDesk files opened cache start finish status =
+    HasServed files opened cache start finish status
+    ⊎ HasNotBegun opened cache start finish status
+
 -- a run ends over a cache that was opened: its session was served, or could not begin
-abbrev pub EndsRun : CacheOf → HistoryOf → Option (List ℕ) → Option (List ℕ) → List Event
-    → List Event → Status → Type 0
-EndsRun opened history left_before left_after before after status =
-    HasServed opened (cache_of history) left_before before after status
-    ⊎ HasNotBegun opened (cache_of history) left_before left_after before after status
+abbrev pub EndsRun : Option Files → CacheOf → HistoryOf → Around → Around → Status → Type 0
+EndsRun files opened history start finish status =
+    ServesDesk files opened (cache_of history) start finish status
 
 -- as many steps were added at most as the loads have rows that were started in a cache
 abbrev pub IsWithin : CacheOf → HistoryOf → ℕ → ℕ → Type 0
 IsWithin opened history before after =
-    (before ≤ after) × (after ≤ before + rows_started opened.entries history.entries)
+    (before ≤ after) × (after ≤ before + rows_started 1 opened.entries history.entries)
 
--- a run of the words opened a cache from their schema's file, and served a session over it
+-- the same time, but for what a depot was asked for
+abbrev pub with_answers : Around → List Fetched → Around
+with_answers around answers = record around { answers = answers }
+
+-- a run of the words opened a cache from their schema's file, and then served a session over it
 pub record RunsSession (words : Words) (files : Option Files) (start finish : Around)
     (steps_before steps_after : ℕ) (history : HistoryOf) (status : Status) : Type 0 where
   pub file : List ℕ
   pub command : IsAsked words (Some (Run file))
   pub cache : CacheOf
-  pub opened : IsOpened files start.answers finish.answers file cache
-  pub ends : EndsRun cache history start.left finish.left start.talk finish.talk status
+  pub answers : List Fetched
+  pub opened : IsOpened files start.answers answers file cache
+  pub ends : EndsRun files cache history (with_answers start answers) finish status
   pub steps : IsWithin cache history steps_before steps_after

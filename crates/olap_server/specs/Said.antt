@@ -24,6 +24,10 @@ source_line = line (codes "SOURCE")
 abbrev pub memory_line : List ℕ
 memory_line = line (codes "MEMORY")
 
+-- more bytes came than a session takes
+abbrev pub budget_line : List ℕ
+budget_line = line (codes "INPUT 1099511627776")
+
 -- a file is not there
 abbrev pub no_file_line : List ℕ → List ℕ
 no_file_line name = named_line (codes "NO FILE") name

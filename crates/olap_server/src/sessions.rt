@@ -1,10 +1,10 @@
 //! The command `run`: a cache is opened, and a session served over it.
-ghost use Rattle.std.specs.Prelude.{◌≡◌, ◌≢◌, IfSome, IsTrue, MatchResult, None};
-ghost use Rattle.cache_manager.specs.Jobs.{NoneFlies};
-ghost use Rattle.line_session.specs.Sessions.{asker};
-ghost use Rattle.olap_meaning.specs.Legal.{Legal, is_next_call};
-ghost use Rattle.olap_server.specs.Run.{EndsRun, IsLast, IsWithin, SayTells};
-ghost use Rattle.olap_server.specs.Said.{no_memory};
+ghost use Rattle.std.specs.Prelude.{◌≡◌, ◌≢◌, ◌≤◌, ◌+◌, [], IfSome, MatchResult, None};
+ghost use Rattle.history_core.specs.Seats.{NoneFlies, entries_of};
+ghost use Rattle.line_session.specs.Desks.{rows_started};
+ghost use Rattle.olap_meaning.specs.Legal.{Legal};
+ghost use Rattle.olap_server.specs.Run.{EndsRun, IsLast, IsWithin, SayTells, ServesDesk, around_of};
+ghost use Rattle.olap_server.specs.Said.{budget_line, no_memory};
 
 use crate::reply::Reply;
 use crate::status::Status;
@@ -13,10 +13,13 @@ use cache_opening::OpenFault;
 use fact_versions::Steps;
 use fault_texts::{batch_line, rows_line, schema_line, table_line};
 use history_core::History;
-use line_session::{SessionEnd, serve};
+use line_session::{BYTE_LIMIT, SessionEnd, serve};
+use manager_desk::ManagerDesk;
+use olap_catalog::Catalog;
 use olap_meaning::{OutOfMemory, Text, named_line};
-use outside::Link;
+use outside::{Depot, Link};
 use std::alloc::Global;
+use std::sync::Arc;
 use std::sync::ledger::Ledger;
 
 /// How a command ended, and the history of its cache, where one was opened.
@@ -56,38 +59,91 @@ fn refused(line: Result<Text, OutOfMemory>) -> Reply
     Reply::made(Status::Schema, line)
 }
 
+// What is said where more bytes came than a session takes.
+fn reply_to_budget() -> Reply
+    ensures { result ≡ record { status = Status.Budget; text = budget_line } }
+{
+    Reply::fixed(Status::Budget, "INPUT 1099511627776\n")
+}
+
 // What is said at the end of a session, and the status.
 fn last_word<K: Link>(link: &mut K, end: SessionEnd) -> Status
+    requires begun { end ≢ SessionEnd.Memory }
     ensures { IsLast end (K.talk link.old) (K.talk link.new) result }
 {
     match end {
         SessionEnd::Quit | SessionEnd::EndOfInput | SessionEnd::LongLine => Status::Done,
+        SessionEnd::Budget => reply_to_budget().say(link),
         SessionEnd::ReceiveFault => Reply::fixed(Status::Source, "SOURCE\n").say(link),
         SessionEnd::SendFault => Status::Sink,
-        SessionEnd::TooManyLines => Reply::no_memory().say(link),
+        SessionEnd::Memory => unreachable!(),
+    }
+}
+
+// Serves a session over a desk with this catalog, and says the last.
+fn serve_with<D: Depot, K: Link, L: Ledger>(
+    alloc: Global,
+    desk: &mut ManagerDesk,
+    catalog: &Catalog,
+    depot: &mut D,
+    link: &mut K,
+    steps: &mut Steps<L>,
+) -> Status
+    requires catalog { catalog.now ≡ desk.old.setting.catalog }
+    ensures served { ServesDesk (D.files depot.old) desk.old desk.new
+        (around_of D.answers K.talk K.left depot.old link.old)
+        (around_of D.answers K.talk K.left depot.new link.new) result }
+    ensures at_least { steps.old ≤ steps.new }
+    ensures at_most { steps.new
+        ≤ steps.old + rows_started 1 desk.old.entries desk.new.entries }
+{
+    match serve(alloc, desk, link, depot, catalog, BYTE_LIMIT, steps) {
+        SessionEnd::Memory => Reply::no_memory().say(link),
+        end => last_word(link, end),
+    }
+}
+
+// Serves a session over a desk, and says the last.
+fn serve_desk<D: Depot, K: Link, L: Ledger>(
+    alloc: Global,
+    desk: &mut ManagerDesk,
+    depot: &mut D,
+    link: &mut K,
+    steps: &mut Steps<L>,
+) -> Status
+    ensures served { ServesDesk (D.files depot.old) desk.old desk.new
+        (around_of D.answers K.talk K.left depot.old link.old)
+        (around_of D.answers K.talk K.left depot.new link.new) result }
+    ensures at_least { steps.old ≤ steps.new }
+    ensures at_most { steps.new
+        ≤ steps.old + rows_started 1 desk.old.entries desk.new.entries }
+{
+    match Arc::try_clone(desk.catalog()) {
+        Ok(catalog) => serve_with(alloc, desk, &catalog, depot, link, steps),
+        Err(_) => Reply::no_memory().say(link),
     }
 }
 
 /// Serves a session over a cache that was opened.
-pub(crate) fn serve_opened<K: Link, L: Ledger>(
+pub(crate) fn serve_opened<D: Depot, K: Link, L: Ledger>(
     alloc: Global,
     opened: Manager,
+    depot: &mut D,
     link: &mut K,
     steps: &mut Steps<L>,
 ) -> Ended
-    requires call { IsTrue (is_next_call opened.entries (asker 1)) }
+    requires unused { entries_of opened.entries 1 ≡ [] }
     requires idle { NoneFlies opened.entries }
-    ensures served { IfSome result.history (λ history. EndsRun opened history (K.left link.old)
-        (K.left link.new) (K.talk link.old) (K.talk link.new) result.status) }
+    ensures served { IfSome result.history (λ history. EndsRun (D.files depot.old) opened history
+        (around_of D.answers K.talk K.left depot.old link.old)
+        (around_of D.answers K.talk K.left depot.new link.new) result.status) }
     ensures there { result.history ≢ None }
     ensures legal { IfSome result.history (λ history. Legal history.setting history.entries) }
     ensures cost { IfSome result.history (λ history. IsWithin opened history steps.old steps.new) }
 {
-    let mut manager = opened;
-    let status = match serve(alloc, &mut manager, link, steps) {
-        Ok(end) => last_word(link, end),
-        Err(OutOfMemory) => Reply::no_memory().say(link),
-    };
+    let mut desk = ManagerDesk::new(opened);
+    let status = serve_desk(alloc, &mut desk, depot, link, steps);
+    let manager = desk.into_manager();
     manager.steps_are_legal();
     Ended {
         status,

@@ -19,6 +19,8 @@ pub enum Status {
     Memory = 6,
     /// A file is not there.
     NoFile = 8,
+    /// More bytes came than a session takes.
+    Budget = 9,
 }
 
 impl Status {

@@ -1,5 +1,6 @@
 //! The top call: from the words of a command line to the bytes that are written.
-ghost use Rattle.std.specs.Prelude.{◌≡◌, ◌≢◌, ◌⊎◌, IfOk, IfSome, None};
+ghost use Rattle.std.specs.Prelude.{◌≡◌, ◌≢◌, ◌⊎◌, IfOk, IfSome, List, None};
+ghost use Rattle.outside.specs.Fetched.{Fetched};
 ghost use Rattle.history_core.specs.Cache.{CacheOf};
 ghost use Rattle.cache_opening.specs.Opening.{IsOpened};
 ghost use Rattle.csv_records.specs.Files.{file_records};
@@ -9,7 +10,7 @@ ghost use Rattle.olap_meaning.specs.FileQuery.{answer_of};
 ghost use Rattle.olap_meaning.specs.Legal.{Legal};
 ghost use Rattle.olap_server.specs.Faults.{refusal_text};
 ghost use Rattle.olap_server.specs.Said.{IsSaid, Said, no_memory};
-ghost use Rattle.olap_server.specs.Run.{AnswerTells, CellTells, EndsRun, IsCutOff, IsLastLine, IsTold, IsWithin, OpeningTells, RunsSession, around_of};
+ghost use Rattle.olap_server.specs.Run.{AnswerTells, CellTells, EndsRun, IsCutOff, IsLastLine, IsTold, IsWithin, OpeningTells, RunsSession, around_of, with_answers};
 
 use crate::cell::cell_of_csv;
 use crate::cell_command::CellCommand;
@@ -97,9 +98,11 @@ fn run_session<D: Depot, K: Link, L: Ledger>(
     steps: &mut Steps<L>,
 ) -> Ended
     ensures session { IfSome result.history (λ history. (opened : CacheOf)
-        × IsOpened (D.files depot.old) (D.answers depot.old) (D.answers depot.new) file.now opened
-        × EndsRun opened history (K.left link.old) (K.left link.new) (K.talk link.old)
-        (K.talk link.new) result.status
+        × (answers : List Fetched)
+        × IsOpened (D.files depot.old) (D.answers depot.old) answers file.now opened
+        × EndsRun (D.files depot.old) opened history
+        (with_answers (around_of D.answers K.talk K.left depot.old link.old) answers)
+        (around_of D.answers K.talk K.left depot.new link.new) result.status
         × IsWithin opened history steps.old steps.new) }
     ensures legal { IfSome result.history (λ history. Legal history.setting history.entries) }
     ensures told { result.history ≡ None → (said : Said)
@@ -110,7 +113,7 @@ fn run_session<D: Depot, K: Link, L: Ledger>(
     ensures no_step { result.history ≡ None → steps.new ≡ steps.old }
 {
     match open_cache(alloc, depot, file) {
-        Ok(manager) => serve_opened(alloc, manager, link, steps),
+        Ok(manager) => serve_opened(alloc, manager, depot, link, steps),
         Err(fault) => {
             let reply = reply_to_opening(alloc, &fault);
             without_cache(link, &reply)

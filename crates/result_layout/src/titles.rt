@@ -3,7 +3,7 @@ ghost use Rattle.std.specs.Prelude.{ℕ, ◌≡◌, ◌<◌, true, length, IfOk}
 ghost use Rattle.std.specs.Option.{IsSome};
 ghost use Rattle.olap_catalog.specs.Members.{all_text};
 ghost use Rattle.olap_catalog.specs.MemberOf.{IsMemberOf, measure_count, levels_of, is_path};
-ghost use Rattle.olap_meaning.specs.Grids.{title};
+ghost use Rattle.query_meaning.specs.Grids.{title};
 
 use olap_catalog::Catalog;
 use olap_meaning::{CubeId, HierarchyId, MeasureId, Member, OutOfMemory, Text, ValueId, name_text};

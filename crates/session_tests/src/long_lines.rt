@@ -53,7 +53,7 @@ fn a_line_has_65_536_bytes_before_its_lf(rt: HostRuntime) -> Result<(), Fail> {
     for (size, end, length) in &LIMITS {
         for most in [None, Some(1_000)] {
             let mut link = link(alloc, &[(b'x', *size, *end)], most)?;
-            let mut reader = LineReader::new(alloc)?;
+            let mut reader = LineReader::new(alloc, 1_000_000)?;
             let (first, given, _) = next_line(&mut reader, &mut link);
             let (second, _, _) = next_line(&mut reader, &mut link);
             match length {
@@ -88,7 +88,7 @@ fn a_long_input_is_given_line_by_line(rt: HostRuntime) -> Result<(), Fail> {
     let alloc = rt.alloc();
     for most in [None, Some(70_000), Some(4_096), Some(7)] {
         let mut link = link(alloc, &PIECES, most)?;
-        let mut reader = LineReader::new(alloc)?;
+        let mut reader = LineReader::new(alloc, 1_000_000)?;
         for (byte, size, _) in &PIECES {
             let (next, given, same) = next_line(&mut reader, &mut link);
             assert_eq!(rt; next, Some(Next::Line));

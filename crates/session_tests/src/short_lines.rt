@@ -9,7 +9,8 @@ use std::test::Fail;
 // More answers than any of the inputs here has.
 const MOST_ANSWERS: u32 = 20;
 
-// What a reader answers: each line with a bar behind it, an exclamation mark for a failure, a dot at the end.
+// What a reader answers: each line with a bar behind it, an exclamation mark for a failure, a dot at the end, a dollar
+// sign where a byte has come behind those that may be lines.
 fn answers(
     alloc: Global,
     reader: &mut LineReader,
@@ -27,11 +28,18 @@ fn answers(
                 told.push(b'.')?;
                 return Ok(told);
             }
+            Ok(Next::Spent) => {
+                told.push(b'$')?;
+                return Ok(told);
+            }
             Err(Failed) => told.push(b'!')?,
         }
     }
     Ok(told)
 }
+
+// More bytes than any of them has.
+const MOST_BYTES: u64 = 1_000;
 
 // A link over which these bytes come, of which one receive gives at most so many, and one fails.
 fn link(
@@ -68,7 +76,7 @@ fn lines_are_the_same_however_the_input_is_cut(rt: HostRuntime) -> Result<(), Fa
     let alloc = rt.alloc();
     for (input, told) in &INPUTS {
         for most in 0..15 {
-            let mut reader = LineReader::new(alloc)?;
+            let mut reader = LineReader::new(alloc, MOST_BYTES)?;
             let mut link = link(alloc, *input, Some(most), None)?;
             let given = answers(alloc, &mut reader, &mut link)?;
             assert_eq!(rt; given.as_slice(), *told);
@@ -97,10 +105,39 @@ const FAILURES: [(&[u8], Option<usize>, u64, &[u8]); 7] = [
 fn a_failure_loses_nothing(rt: HostRuntime) -> Result<(), Fail> {
     let alloc = rt.alloc();
     for (input, most, failing, told) in &FAILURES {
-        let mut reader = LineReader::new(alloc)?;
+        let mut reader = LineReader::new(alloc, MOST_BYTES)?;
         let mut link = link(alloc, *input, *most, Some(*failing))?;
         let given = answers(alloc, &mut reader, &mut link)?;
         assert_eq!(rt; given.as_slice(), *told);
+    }
+    Ok(())
+}
+
+// An input, how many of its bytes may be lines, and what a reader answers.
+const BUDGETS: [(&[u8], u64, &[u8]); 11] = [
+    (b"\n\n", 2, b"||."),
+    (b"\n\n\n", 2, b"||$"),
+    (b"ab\n", 3, b"ab|."),
+    (b"ab\n", 2, b"$"),
+    (b"a\nb", 2, b"a|$"),
+    (b"ab", 2, b"ab|."),
+    (b"a\r\n", 2, b"$"),
+    (b"a\r\n", 3, b"a|."),
+    (b"a\nbc\nd\n", 6, b"a|bc|$"),
+    (b"", 0, b"."),
+    (b"a", 0, b"$"),
+];
+
+#[test]
+fn a_byte_behind_those_that_may_be_lines_ends_them(rt: HostRuntime) -> Result<(), Fail> {
+    let alloc = rt.alloc();
+    for (input, budget, told) in &BUDGETS {
+        for most in 0..5 {
+            let mut reader = LineReader::new(alloc, *budget)?;
+            let mut link = link(alloc, *input, Some(most), None)?;
+            let given = answers(alloc, &mut reader, &mut link)?;
+            assert_eq!(rt; given.as_slice(), *told);
+        }
     }
     Ok(())
 }

@@ -12,7 +12,9 @@ use Rattle.olap_meaning.specs.History.{Entry, Load, ends, load_at, rows_of}
 use Rattle.olap_meaning.specs.Legal.{Legal, rise}
 use Rattle.segment_load.specs.Loads.{JobOf}
 use Rattle.history_core.specs.Cache.{CacheOf}
-use Rattle.cache_manager.specs.Jobs.{IsJobOf, IsOwn, actor, entries_of, numbers_from}
+use Rattle.cache_manager.specs.Jobs.{IsJobOf, IsOwn}
+use Rattle.history_core.specs.Seats.{actor, entries_of}
+use Rattle.history_core.specs.Groups.{numbers_from}
 use Rattle.cache_manager.proofs.Pushes.{load_on, recorded, rows_on}
 use Rattle.test_plays.specs.Played.{AreJobsOf}
 

@@ -3,8 +3,8 @@ use crate::lines::{add_line, asked};
 use crate::members::{add_pairs, names_of};
 use cell_request::{QueryFault, Resolved, resolve};
 use olap_catalog::Catalog;
-use olap_meaning::queries::CellQuery;
 use olap_meaning::{Member, Text};
+use query_meaning::CellQuery;
 use std::alloc::{AllocError, Global};
 use std::test::Fail;
 

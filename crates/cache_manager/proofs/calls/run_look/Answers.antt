@@ -5,8 +5,8 @@ use Rattle.olap_meaning.specs.declared.cells.Cell.{Cell}
 use Rattle.olap_meaning.specs.History.{Answer, Start}
 use Rattle.history_core.specs.Answers.{HasSource, IsAnswer, SomeWants, source_of}
 use Rattle.history_core.specs.Cache.{CacheOf}
-use Rattle.cache_manager.specs.Groups.{loads_for}
-use Rattle.cache_manager.specs.Jobs.{numbers_from}
+use Rattle.history_core.specs.Groups.{loads_for}
+use Rattle.history_core.specs.Groups.{numbers_from}
 use Rattle.cache_manager.specs.Runs.{IsRun}
 use Rattle.cache_manager.proofs.Running.{goes_on, next_call, run_later, run_on, run_started, stays}
 use Rattle.cache_manager.proofs.calls.run_look.Goals as goal

@@ -1,6 +1,6 @@
 -- That `first_cells` keeps what holds at each turn.
 use Rattle.std.proofs.Common.{◌∙◌, add-one}
-use Rattle.cache_manager.specs.Groups.{lent}
+use Rattle.cache_manager.specs.Lent.{lent}
 use Rattle.cache_manager.proofs.Grouping.{firsts_next}
 use Rattle.cache_manager.proofs.Lending.{lent_at, lent_within}
 use Rattle.cache_manager.proofs.groups.first_cells.Goals as goal

@@ -1,7 +1,7 @@
 -- One column more of the header.
 use Rattle.std.proofs.Common.{◌∙◌, ◌++◌, ◌∷◌, [], List, ℕ, ap}
 use Rattle.olap_meaning.specs.declared.cells.Allowed.TheVariants.{Set}
-use Rattle.cache_manager.specs.Groups.{lent}
+use Rattle.cache_manager.specs.Lent.{lent}
 use Rattle.cache_manager.proofs.Grouping.{column_more}
 use Rattle.cache_manager.proofs.groups.header_for.Goals as goal
 

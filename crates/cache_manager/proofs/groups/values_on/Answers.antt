@@ -1,6 +1,6 @@
 -- One cell more adds its value, where it is of the group.
 use Rattle.std.proofs.Common.{◌∙◌}
-use Rattle.cache_manager.specs.Groups.{lent}
+use Rattle.cache_manager.specs.Lent.{lent}
 use Rattle.cache_manager.proofs.Grouping.{had_more}
 use Rattle.cache_manager.proofs.Lending.{lent_at, lent_within}
 use Rattle.cache_manager.proofs.groups.values_on.Goals as goal

@@ -1,6 +1,6 @@
 -- The manager is what a schema's file opens, and a fault is that of the step that failed.
 use Rattle.std.proofs.lemmas.Result.{err_from_is_err_and}
-use Rattle.cache_opening.proofs.BaseFacts.{base_idle, base_others}
+use Rattle.cache_opening.proofs.BaseFacts.{base_idle, base_unused}
 use Rattle.cache_opening.proofs.OpenSteps.{batches_unread, begun, catalog_unread, is_opened, manager_stops}
 use Rattle.cache_opening.proofs.opened.open_cache.Goals as goal
 
@@ -31,5 +31,5 @@ returns-clause-opened g c =
 pub returns-clause-idle : goal.returns-clause-idle
 returns-clause-idle g c = let are = c.in_ok-open_cubes.ensures.ok in rw are.entries (base_idle are.batches)
 
-pub returns-clause-by_seat_zero : goal.returns-clause-by_seat_zero
-returns-clause-by_seat_zero g c = let are = c.in_ok-open_cubes.ensures.ok in rw are.entries (base_others are.batches)
+pub returns-clause-unused : goal.returns-clause-unused
+returns-clause-unused g c = let are = c.in_ok-open_cubes.ensures.ok in rw are.entries (base_unused are.batches)

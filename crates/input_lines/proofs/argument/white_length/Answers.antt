@@ -1,6 +1,6 @@
 -- That `white_length` ensures `value` and `within`.
 use Rattle.std.proofs.Common.{◌∙◌, sym, arith, not}
-use Rattle.olap_meaning.specs.Tokens.{is_white}
+use Rattle.query_meaning.specs.Tokens.{is_white}
 use Rattle.input_lines.proofs.Words.{found_place, no_place, position_within}
 use Rattle.input_lines.proofs.argument.white_length.Goals as goal
 

@@ -1,6 +1,6 @@
 -- That `word_length` ensures `value` and `within`.
 use Rattle.std.proofs.Common.{◌∙◌, sym, arith, not}
-use Rattle.olap_meaning.specs.Requests.{is_letter}
+use Rattle.query_meaning.specs.Requests.{is_letter}
 use Rattle.input_lines.proofs.Words.{found_place, no_place, position_within}
 use Rattle.input_lines.proofs.argument.word_length.Goals as goal
 

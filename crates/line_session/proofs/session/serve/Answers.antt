@@ -1,46 +1,45 @@
 -- A turn more goes on with the session, or ends it.
-use Rattle.std.proofs.Common.{◌≡◌, ℕ, List, Option, ap, subst, arith}
+use Rattle.std.proofs.Common.{◌∙◌, subst, arith}
 use Rattle.outside.specs.Talks.{taken}
-use Rattle.input_lines.specs.Reader.{not_given}
-use Rattle.line_session.specs.Sessions.{IsServed}
-use Rattle.line_session.specs.declared.session.SessionEnd.TheVariants.{TooManyLines}
+use Rattle.input_lines.specs.Reader.{Reading}
 use Rattle.line_session.specs.Conversations.{HasConversed}
-use Rattle.line_session.proofs.Conversing.{many_passed, turn_conversed}
-use Rattle.line_session.proofs.Handling.{on_and_on, rows_joined}
-use Rattle.line_session.proofs.Turning.{many_served, none_held, turn_then}
+use Rattle.line_session.proofs.Conversing.{turn_ends, turn_fewer, turn_goes_on}
+use Rattle.line_session.proofs.Rows.{on_and_on, rows_joined}
+use Rattle.line_session.proofs.Serving.{from_begin, turn_ends_served, turn_goes_on_served}
 use Rattle.line_session.proofs.session.serve.Goals as goal
+
+pub returns-in-Some-clause-conversed : goal.returns-in-Some-clause-conversed
+returns-in-Some-clause-conversed g c = λ other.
+    subst (λ (reading : Reading). HasConversed (g.K.Link.talk c.args.link.now) (g.K.Link.talk c.take_turn-turn.new.link) (g.D.Depot.answers c.args.depot.now) (g.D.Depot.answers c.take_turn-turn.new.depot) (g.D.Depot.files c.args.depot.now) reading (g.P.Desk.seen c.args.desk.now) (g.P.Desk.seen c.take_turn-turn.new.desk) c.in-Some.end) c.in-Ok.ensures
+    (c.loop-end.invariant.conversed c.in-Some.end (g.P.Desk.seen c.take_turn-turn.new.desk) (g.D.Depot.answers c.take_turn-turn.new.depot) (g.K.Link.talk c.take_turn-turn.new.link)
+    (turn_ends c.loop-end.reader c.take_turn-turn.new.reader _ _ _ _ _ _ _ _ _ c.in-Some.end (rw c.loop-end.invariant.files at c.in-Some.ensures.turn)))
+
+pub returns-in-Some-clause-served : goal.returns-in-Some-clause-served
+returns-in-Some-clause-served g c = λ other.
+    from_begin c.args.most c.in-Some.end _ _ _ _ _ _ _ c.in-Ok.reader c.in-Ok.ensures
+    (c.loop-end.invariant.served c.in-Some.end (g.P.Desk.seen c.take_turn-turn.new.desk) (g.D.Depot.answers c.take_turn-turn.new.depot) (taken (g.K.Link.talk c.take_turn-turn.new.link)) other
+    (turn_ends_served c.loop-end.reader c.take_turn-turn.new.reader _ _ _ _ _ _ _ _ _ c.in-Some.end c.loop-end.invariant.at_end c.in-Some.ensures.turn))
 
 pub returns-in-Some-clause-at_most : goal.returns-in-Some-clause-at_most
 returns-in-Some-clause-at_most g c =
-    let read = rows_joined c.args.manager.now c.loop-number.manager c.take_turn.new.manager c.steps_are_legal.ensures c.loop-number.invariant.grown c.take_turn.ensures.grown in
-    omega (arith, read, c.loop-number.invariant.at_most, c.take_turn.ensures.at_most)
+    let read = rows_joined (g.P.Desk.seen c.args.desk.now) (g.P.Desk.seen c.loop-end.desk) (g.P.Desk.seen c.take_turn-turn.new.desk) c.loop-end.invariant.legal c.loop-end.invariant.grown c.take_turn-turn.ensures.grown in
+    omega (arith, read, c.loop-end.invariant.at_most, c.take_turn-turn.ensures.at_most)
 
-pub loop-number-preserved : goal.loop-number-preserved
-loop-number-preserved g c =
-    let read = rows_joined c.args.manager.now c.loop-number.manager c.take_turn.new.manager c.steps_are_legal.ensures c.loop-number.invariant.grown c.take_turn.ensures.grown in
+pub loop-end-smaller : goal.loop-end-smaller
+loop-end-smaller g c = turn_fewer c.loop-end.reader c.take_turn-turn.new.reader _ _ _ _ _ _ _ _ _ c.in_default-turn.ensures.turn
+
+pub loop-end-preserved : goal.loop-end-preserved
+loop-end-preserved g c =
+    let read = rows_joined (g.P.Desk.seen c.args.desk.now) (g.P.Desk.seen c.loop-end.desk) (g.P.Desk.seen c.take_turn-turn.new.desk) c.loop-end.invariant.legal c.loop-end.invariant.grown c.take_turn-turn.ensures.grown in
     record {
-      served = λ end after sent rest. c.loop-number.invariant.served end after sent
-          (turn_then c.loop-number.number end c.loop-number.manager c.take_turn.new.manager after (not_given c.loop-number.reader.held (g.K.Link.left c.loop-number.link)) (not_given c.take_turn.new.reader.held (g.K.Link.left c.take_turn.new.link)) (taken (g.K.Link.talk c.loop-number.link)) (taken (g.K.Link.talk c.take_turn.new.link)) sent
-          (c.in_default.ensures.turn c.loop-number.invariant.at_end) rest);
-      call = c.take_turn.ensures.call;
-      idle = c.take_turn.ensures.idle;
-      grown = on_and_on c.args.manager.now c.loop-number.manager c.take_turn.new.manager c.loop-number.invariant.grown c.take_turn.ensures.grown;
-      conversed = λ end after talk rest. c.loop-number.invariant.conversed end after talk
-          (turn_conversed c.loop-number.reader c.take_turn.new.reader c.loop-number.number c.loop-number.manager c.take_turn.new.manager after _ _ talk end c.in_default.ensures.passed rest);
-      at_end = c.take_turn.ensures.end c.loop-number.invariant.at_end;
-      at_least = omega (arith, c.loop-number.invariant.at_least, c.take_turn.ensures.at_least);
-      at_most = omega (arith, read, c.loop-number.invariant.at_most, c.take_turn.ensures.at_most);
+      served = λ end after answers sent other rest. c.loop-end.invariant.served end after answers sent other
+          (turn_goes_on_served c.loop-end.reader c.take_turn-turn.new.reader _ (g.P.Desk.seen c.take_turn-turn.new.desk) after _ _ sent _ (g.D.Depot.answers c.take_turn-turn.new.depot) answers _ _ _ end other c.loop-end.invariant.at_end c.in_default-turn.ensures.turn rest);
+      conversed = λ end after answers talk rest. c.loop-end.invariant.conversed end after answers talk
+          (turn_goes_on c.loop-end.reader c.take_turn-turn.new.reader _ (g.P.Desk.seen c.take_turn-turn.new.desk) after _ _ talk _ (g.D.Depot.answers c.take_turn-turn.new.depot) answers _ _ _ end (rw c.loop-end.invariant.files at c.in_default-turn.ensures.turn) rest);
+      grown = on_and_on _ _ _ c.loop-end.invariant.grown c.take_turn-turn.ensures.grown;
+      legal = c.seen_is_legal-in-loop-end.ensures.legal;
+      at_end = c.take_turn-turn.ensures.end c.loop-end.invariant.at_end;
+      files = c.take_turn-turn.ensures.files ∙ c.loop-end.invariant.files;
+      at_least = omega (arith, c.loop-end.invariant.at_least, c.take_turn-turn.ensures.at_least);
+      at_most = omega (arith, read, c.loop-end.invariant.at_most, c.take_turn-turn.ensures.at_most);
     }
-
-pub returns-clause-served : goal.returns-clause-served
-returns-clause-served g c =
-    let last : c.loop-number.number ≡ 18446744073709551615 = omega (arith, c.loop-number-test.false, c.loop-number.auto.number-end) in
-    let whole = c.loop-number.invariant.served TooManyLines c.loop-number.manager (taken (g.K.Link.talk c.loop-number.link)) (many_served c.loop-number.number c.loop-number.manager (not_given c.loop-number.reader.held (g.K.Link.left c.loop-number.link)) (taken (g.K.Link.talk c.loop-number.link)) last) in
-    subst (λ (left : Option (List ℕ)). IsServed 1 TooManyLines c.args.manager.now c.loop-number.manager left (taken (g.K.Link.talk c.args.link.now)) (taken (g.K.Link.talk c.loop-number.link))) (none_held (g.K.Link.left c.args.link.now))
-    (subst (λ (held : List ℕ). IsServed 1 TooManyLines c.args.manager.now c.loop-number.manager (not_given held (g.K.Link.left c.args.link.now)) (taken (g.K.Link.talk c.args.link.now)) (taken (g.K.Link.talk c.loop-number.link))) (ap (λ reader. reader.held) c.in_ok-reader.ensures) whole)
-
-pub returns-clause-conversed : goal.returns-clause-conversed
-returns-clause-conversed g c =
-    let last : c.loop-number.number ≡ 18446744073709551615 = omega (arith, c.loop-number-test.false, c.loop-number.auto.number-end) in
-    subst (λ reading. HasConversed (g.K.Link.talk c.args.link.now) (g.K.Link.talk c.loop-number.link) reading 1 c.args.manager.now c.loop-number.manager TooManyLines) c.in_ok-reader.ensures
-    (c.loop-number.invariant.conversed TooManyLines c.loop-number.manager (g.K.Link.talk c.loop-number.link) (many_passed c.loop-number.reader c.loop-number.number c.loop-number.manager (g.K.Link.talk c.loop-number.link) last))

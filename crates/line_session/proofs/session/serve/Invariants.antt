@@ -1,30 +1,33 @@
 -- What the session still comes to is what it comes to from its beginning.
-use Rattle.std.proofs.Common.{◌≡◌, ◌+◌, ◌≤◌, ℕ, List, true}
+use Rattle.std.proofs.Common.{◌≡◌, ◌≢◌, ◌+◌, ◌≤◌, ℕ, List}
 use Rattle.outside.specs.Event.{Event}
+use Rattle.outside.specs.Fetched.{Fetched}
 use Rattle.outside.specs.Talks.{taken}
-use Rattle.input_lines.specs.Reader.{IsAtEnd, not_given}
-use Rattle.olap_meaning.specs.Legal.{is_next_call}
-use Rattle.history_core.specs.Cache.{CacheOf}
-use Rattle.cache_manager.specs.Jobs.{NoneFlies}
-use Rattle.line_session.specs.Asks.{rows_started}
+use Rattle.input_lines.specs.Reader.{IsAtEnd, allowed, not_given}
+use Rattle.olap_meaning.specs.Legal.{Legal}
+use Rattle.line_session.specs.Desks.{DeskOf, GoesOn, rows_between}
 use Rattle.line_session.specs.Conversations.{HasConversed}
-use Rattle.line_session.specs.Sessions.{GoesOn, IsServed, asker}
-use Rattle.line_session.specs.declared.session.SessionEnd.{SessionEnd}
+use Rattle.line_session.specs.declared.end.SessionEnd.{SessionEnd}
+use Rattle.line_session.specs.declared.end.SessionEnd.TheVariants.{Memory}
+use Rattle.line_session.proofs.Serving.{Serves}
 use Rattle.line_session.proofs.session.serve.Given as goal
 
 -- whatever session is served from here on, together with the lines so far it is one from the start on
-abbrev pub invariant-loop-number : goal.invariant-loop-number
-invariant-loop-number g l = record {
+abbrev pub invariant-loop-end : goal.invariant-loop-end
+invariant-loop-end g l = record {
   served :
-      (end : SessionEnd) (after : CacheOf) (sent : List ℕ) → IsServed l.number end l.manager after (not_given l.reader.held (g.K.Link.left l.link)) (taken (g.K.Link.talk l.link)) sent
-      → IsServed 1 end l.initial.manager after (not_given l.initial.reader.held (g.K.Link.left l.initial.link)) (taken (g.K.Link.talk l.initial.link)) sent;
-  call : is_next_call l.manager.entries (asker l.number) ≡ true;
-  idle : NoneFlies l.manager.entries;
-  grown : GoesOn l.initial.manager l.manager;
+      (end : SessionEnd) (after : DeskOf) (answers : List Fetched) (sent : List ℕ) → end ≢ Memory → Serves (allowed l.reader) end (g.P.Desk.seen l.desk) after (g.D.Depot.answers l.depot) answers (not_given l.reader (g.K.Link.left l.link)) (taken (g.K.Link.talk l.link)) sent
+      → Serves (allowed l.initial.reader) end (g.P.Desk.seen l.initial.desk) after (g.D.Depot.answers l.initial.depot) answers (not_given l.initial.reader (g.K.Link.left l.initial.link)) (taken (g.K.Link.talk l.initial.link)) sent;
   conversed :
-      (end : SessionEnd) (after : CacheOf) (talk : List Event) → HasConversed (g.K.Link.talk l.link) talk l.reader l.number l.manager after end
-      → HasConversed (g.K.Link.talk l.initial.link) talk l.initial.reader 1 l.initial.manager after end;
+      (end : SessionEnd) (after : DeskOf) (answers : List Fetched) (talk : List Event) → HasConversed (g.K.Link.talk l.link) talk (g.D.Depot.answers l.depot) answers (g.D.Depot.files l.initial.depot) l.reader (g.P.Desk.seen l.desk) after end
+      → HasConversed (g.K.Link.talk l.initial.link) talk (g.D.Depot.answers l.initial.depot) answers (g.D.Depot.files l.initial.depot) l.initial.reader (g.P.Desk.seen l.initial.desk) after end;
+  grown : GoesOn (g.P.Desk.seen l.initial.desk) (g.P.Desk.seen l.desk);
+  legal : Legal (g.P.Desk.seen l.desk).cache.setting (g.P.Desk.seen l.desk).cache.entries;
   at_end : IsAtEnd l.reader.ended (g.K.Link.left l.link);
+  files : g.D.Depot.files l.depot ≡ g.D.Depot.files l.initial.depot;
   at_least : l.initial.steps ≤ l.steps;
-  at_most : l.steps ≤ l.initial.steps + rows_started l.initial.manager.entries l.manager.entries;
+  at_most : l.steps ≤ l.initial.steps + rows_between (g.P.Desk.seen l.initial.desk) (g.P.Desk.seen l.desk);
 }
+
+abbrev pub decreases-loop-end : goal.decreases-loop-end
+decreases-loop-end g l = allowed l.reader

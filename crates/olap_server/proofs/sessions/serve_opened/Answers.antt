@@ -1,22 +1,23 @@
--- A session that was served, or that there was no memory to begin.
-use Rattle.std.proofs.Common.{ap, ◌∙◌}
-use Rattle.olap_server.proofs.RunFacts.{served_run, unserved_run}
-use Rattle.olap_server.proofs.sessions.serve_opened.Goals.{in-Ok, in-Err+in-Made-1, in-Err+in-Fixed-1}
+-- A session that was served over the desk of a cache.
+use Rattle.std.proofs.Common.{◌≤◌, ◌+◌, List, ap, ◌∙◌, subst}
+use Rattle.olap_meaning.specs.History.{Entry}
+use Rattle.line_session.specs.Desks.{rows_started}
+use Rattle.history_core.specs.Cache.{CacheOf}
+use Rattle.olap_server.specs.Run.{ServesDesk, around_of}
+use Rattle.olap_server.proofs.RunFacts.{ends_run}
 use Rattle.olap_server.proofs.sessions.serve_opened.Goals as goal
 
 pub returns-clause-served : goal.returns-clause-served
 returns-clause-served g c =
-    elim c.match-serve.branch [
-      | in-Ok w ↦
-          rw (w.link-is, w.status-is)
-          (served_run c.args.opened c.serve.new.manager c.into_history.result (g.K.Link.left c.args.link.now) (g.K.Link.left w.last_word-status.new.link) (g.K.Link.talk c.args.link.now) (g.K.Link.talk c.serve.new.link) (g.K.Link.talk w.last_word-status.new.link)
-          w.in-Ok.end w.last_word-status.result c.into_history.ensures.setting c.into_history.ensures.entries w.in-Ok.ensures.conversed w.in-Ok.ensures.served w.last_word-status.ensures)
-      | in-Err+in-Made-1 w ↦
-          rw (w.link-is, w.status-is)
-          (unserved_run c.args.opened c.serve.new.manager c.into_history.result (g.K.Link.left c.args.link.now) (g.K.Link.left w.say-status.new.link) (g.K.Link.talk c.args.link.now) (g.K.Link.talk c.serve.new.link) (g.K.Link.talk w.say-status.new.link)
-          w.say-status.result w.no_memory.result c.into_history.ensures.setting c.into_history.ensures.entries w.in-Err.ensures.unserved.0 (ap g.K.Link.talk w.in-Err.ensures.unserved.1) w.no_memory.ensures w.say-status.ensures.last (w.say-status.ensures.unread ∙ ap g.K.Link.left w.in-Err.ensures.unserved.1))
-      | in-Err+in-Fixed-1 w ↦
-          rw (w.link-is, w.status-is)
-          (unserved_run c.args.opened c.serve.new.manager c.into_history.result (g.K.Link.left c.args.link.now) (g.K.Link.left w.say-status.new.link) (g.K.Link.talk c.args.link.now) (g.K.Link.talk c.serve.new.link) (g.K.Link.talk w.say-status.new.link)
-          w.say-status.result w.no_memory.result c.into_history.ensures.setting c.into_history.ensures.entries w.in-Err.ensures.unserved.0 (ap g.K.Link.talk w.in-Err.ensures.unserved.1) w.no_memory.ensures w.say-status.ensures.last (w.say-status.ensures.unread ∙ ap g.K.Link.left w.in-Err.ensures.unserved.1))
-    ]
+    let start = around_of g.D.Depot.answers g.K.Link.talk g.K.Link.left c.args.depot.now c.args.link.now in
+    let finish = around_of g.D.Depot.answers g.K.Link.talk g.K.Link.left c.serve_desk-status.new.depot c.serve_desk-status.new.link in
+    let same = c.into_manager-manager.ensures.same in
+    ends_run (g.D.Depot.files c.args.depot.now) c.args.opened c.serve_desk-status.new.desk c.into_history.result start finish c.serve_desk-status.result
+    (c.into_history.ensures.setting ∙ ap (λ (k : CacheOf). k.setting) same) (c.into_history.ensures.entries ∙ ap (λ (k : CacheOf). k.entries) same)
+    (subst (λ (k : CacheOf). ServesDesk (g.D.Depot.files c.args.depot.now) k c.serve_desk-status.new.desk start finish c.serve_desk-status.result) c.new-desk.ensures c.serve_desk-status.ensures.served)
+
+pub returns-clause-cost : goal.returns-clause-cost
+returns-clause-cost g c =
+    let after = c.into_history.ensures.entries ∙ ap (λ (k : CacheOf). k.entries) c.into_manager-manager.ensures.same in
+    let most : List Entry → Type 0 = λ es. c.serve_desk-status.new.steps ≤ c.args.steps.now + rows_started 1 es c.serve_desk-status.new.desk.entries in
+    (c.serve_desk-status.ensures.at_least, rw (after) (subst most (ap (λ (k : CacheOf). k.entries) c.new-desk.ensures) c.serve_desk-status.ensures.at_most))

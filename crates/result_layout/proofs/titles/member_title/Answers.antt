@@ -2,7 +2,7 @@
 use Rattle.std.proofs.Common.{◌∙◌, sym, ap}
 use Rattle.std.proofs.lemmas.Result.{IfOk-weaker}
 use Rattle.olap_meaning.specs.declared.cells.Member.TheVariants as member
-use Rattle.olap_meaning.specs.Grids.{title}
+use Rattle.query_meaning.specs.Grids.{title}
 use Rattle.result_layout.proofs.titles.member_title.Goals as goal
 
 pub returns-in-All : goal.returns-in-All

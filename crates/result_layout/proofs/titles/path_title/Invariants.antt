@@ -4,7 +4,7 @@ use Rattle.std.specs.List.{zip}
 use Rattle.olap_meaning.specs.declared.cells.LevelRef.TheVariants.{Whole}
 use Rattle.olap_meaning.specs.Catalog.{root_name}
 use Rattle.olap_meaning.specs.Texts.{name_text}
-use Rattle.olap_meaning.specs.Grids.{value_part}
+use Rattle.query_meaning.specs.Grids.{value_part}
 use Rattle.result_layout.proofs.titles.path_title.Given as goal
 
 abbrev pub invariant-loop-i : goal.invariant-loop-i

@@ -2,7 +2,7 @@
 use Rattle.std.proofs.Common.{◌≡◌, ◌∙◌, ap, sym, subst, length}
 use Rattle.std.proofs.lemmas.Bool.{eqb-true, eq-eqb}
 use Rattle.history_core.specs.Cache.{CacheOf}
-use Rattle.cache_manager.specs.Jobs.{NoneFlies}
+use Rattle.history_core.specs.Seats.{NoneFlies}
 use Rattle.cache_manager.proofs.Managing.{idle_from, idle_to}
 use Rattle.cache_manager.proofs.manager.Manager.is_idle.Goals as goal
 

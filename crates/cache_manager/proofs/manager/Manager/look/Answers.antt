@@ -6,7 +6,8 @@ use Rattle.std.proofs.lemmas.Bool.{eqb-false, eqb-true}
 use Rattle.olap_meaning.specs.declared.cells.Cell.{Cell}
 use Rattle.olap_meaning.specs.History.{exact_source}
 use Rattle.olap_meaning.specs.Legal.{is_cell}
-use Rattle.cache_manager.specs.Groups.{lent, wanting}
+use Rattle.cache_manager.specs.Lent.{lent}
+use Rattle.history_core.specs.Groups.{wanting}
 use Rattle.cache_manager.proofs.Lending.{length-lent}
 use Rattle.cache_manager.proofs.Looking.{all_served, kept_all, kept_pass, none_wanted, some_wants}
 use Rattle.cache_manager.proofs.manager.Manager.look.Goals as goal

@@ -1,7 +1,8 @@
 -- The header of a group is well formed, and can be loaded; what is prepared is the load of the group.
 use Rattle.std.proofs.Common.{◌≡◌, refl, ◌∙◌, ap, filter}
 use Rattle.segment_load.specs.Loads.{JobOf, rows_in}
-use Rattle.cache_manager.specs.Groups.{alike, header_for, lent}
+use Rattle.history_core.specs.Groups.{alike, header_for}
+use Rattle.cache_manager.specs.Lent.{lent}
 use Rattle.cache_manager.proofs.Grouping.{group_loadable, header_formed}
 use Rattle.cache_manager.proofs.manager.Manager.plan.Goals as goal
 

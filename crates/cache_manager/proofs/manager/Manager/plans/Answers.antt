@@ -3,7 +3,8 @@ use Rattle.std.proofs.Common.{◌≡◌, ◌∙◌, ◌+◌, ◌<◌, ◌≤◌,
 use Rattle.std.proofs.lemmas.List.{length-take-le}
 use Rattle.olap_meaning.specs.declared.cells.Cell.{Cell}
 use Rattle.olap_meaning.specs.Legal.{is_cell}
-use Rattle.cache_manager.specs.Groups.{firsts, lent}
+use Rattle.history_core.specs.Groups.{firsts}
+use Rattle.cache_manager.specs.Lent.{lent}
 use Rattle.cache_manager.proofs.Grouping.{first_contained, first_passes}
 use Rattle.cache_manager.proofs.Fronts.{front_more}
 use Rattle.cache_manager.proofs.Lending.{length-lent, lent_at, lent_within}

@@ -1,6 +1,6 @@
 -- What holds at each turn of `plans`.
 use Rattle.std.proofs.Common.{◌≡◌, ◌+◌, length, take}
-use Rattle.cache_manager.specs.Groups.{lent}
+use Rattle.cache_manager.specs.Lent.{lent}
 use Rattle.cache_manager.specs.Plans.{ArePlanned}
 use Rattle.cache_manager.proofs.manager.Manager.plans.Given as goal
 

@@ -7,8 +7,10 @@ use Rattle.segment_load.specs.Loads.{JobOf}
 use Rattle.olap_meaning.specs.History.{Entry, exact_source}
 use Rattle.olap_meaning.specs.Legal.{Legal, is_cell}
 use Rattle.history_core.specs.Cache.{CacheOf}
-use Rattle.cache_manager.specs.Groups.{firsts, lent}
-use Rattle.cache_manager.specs.Jobs.{IsJobOf, NoneFlies}
+use Rattle.history_core.specs.Groups.{firsts}
+use Rattle.cache_manager.specs.Lent.{lent}
+use Rattle.cache_manager.specs.Jobs.{IsJobOf}
+use Rattle.history_core.specs.Seats.{NoneFlies}
 use Rattle.cache_manager.specs.Plans.{AreLegalSteps, ArePlanned}
 use Rattle.cache_manager.proofs.Ends.{cache_of}
 use Rattle.cache_manager.proofs.Looking.{all_legal, jobs_started, manager_started}

@@ -2,8 +2,9 @@
 use Rattle.std.proofs.Common.{◌≡◌, ◌+◌, ◌++◌, ◌∷◌, [], All, map, length, refl}
 use Rattle.olap_meaning.specs.History.{Answer}
 use Rattle.history_core.specs.Answers.{source_of}
-use Rattle.cache_manager.specs.Groups.{loads_for}
-use Rattle.cache_manager.specs.Jobs.{IsJobOf, numbers_from}
+use Rattle.history_core.specs.Groups.{loads_for}
+use Rattle.cache_manager.specs.Jobs.{IsJobOf}
+use Rattle.history_core.specs.Groups.{numbers_from}
 use Rattle.test_plays.proofs.JobFacts.{jobs_are, jobs_on}
 use Rattle.test_plays.proofs.played.Played.look.Goals as goal
 

@@ -1,0 +1,37 @@
+-- What the arguments of commands say of a line.
+use Rattle.std.proofs.Common.{◌≡◌, ◌∙◌, ℕ, List, [], ◌∷◌, ◌++◌, inl, inr, true, Some, Result, Ok, Err, IfOk, refl, sym, ap, subst, arith}
+use Rattle.std.specs.Prelude.{codes, encode_utf8, encode_utf8_all}
+use Rattle.std.specs.Str.{is_utf8}
+use Rattle.std.proofs.lemmas.Str.{encode_ascii, encodes-chars}
+use Rattle.query_meaning.specs.Requests.{argument_of, is_blank, is_quit}
+use Rattle.text_forms.specs.Forms.{Writes}
+use Rattle.text_forms.specs.White.{IsWhite, White, End}
+use Rattle.command_arguments.specs.Blank.{IsBlank}
+use Rattle.olap_meaning.specs.declared.OutOfMemory.{OutOfMemory}
+use Rattle.input_lines.specs.Asked.{Asks, asked}
+use Rattle.input_lines.specs.Requests.{IsRequest}
+use Rattle.input_lines.specs.declared.request.Request.{Request}
+
+-- a white character is one white byte
+white_byte : (c : ℕ) (bytes : List ℕ) → IsWhite c → is_blank bytes ≡ true → is_blank (encode_utf8 c ++ bytes) ≡ true
+white_byte c bytes (inl e) h = rw (e, encode_ascii 32 (omega arith)) h
+white_byte c bytes (inr e) h = rw (e, encode_ascii 9 (omega arith)) h
+
+-- white characters are white bytes
+white_bytes : (cs : List ℕ) → White End cs → is_blank (encode_utf8_all cs) ≡ true
+white_bytes [] h = refl
+white_bytes (c ∷ cs) (inl h) = white_byte c (encode_utf8_all cs) h.0 (white_bytes cs h.1)
+white_bytes (c ∷ cs) (inr e) = absurd cc
+
+-- a text of white characters is one of white bytes
+pub blank_text : (text : List ℕ) (value : Unit {0}) → Writes IsBlank text value → is_blank text ≡ true
+blank_text text value w = subst (λ x. is_blank x ≡ true) (encodes-chars text w.utf8) (white_bytes _ w.means)
+
+-- QUIT and white end the session
+pub quits : (line argument : List ℕ) (value : Unit {0}) → argument_of (codes "QUIT") line ≡ Some argument → Writes IsBlank argument value → is_quit line ≡ true
+quits line argument value e w = rw e (blank_text argument value w)
+
+-- a line of text that has a command asks for what the command asks for with its argument
+pub asked_by : (word argument text line : List ℕ) (r : Result Request OutOfMemory) → is_utf8 line ≡ true → text ≡ line → Some argument ≡ argument_of word text → IfOk r (λ request. Asks word argument (asked request)) → IfOk r (λ request. IsRequest line (asked request))
+asked_by word argument text line (Ok request) utf8 same is h = h line utf8 (ap (argument_of word) (sym same) ∙ sym is)
+asked_by word argument text line (Err error) utf8 same is h = tt

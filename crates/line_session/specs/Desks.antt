@@ -1,0 +1,214 @@
+-- A desk as contracts see it, and what its calls add to what its seat has seen.
+use Rattle.std.specs.Prelude.{ℕ, ◌≡◌, ◌⊎◌, ◌+◌, ◌<◌, ◌≤◌, ⊤, List, [], ◌∷◌, ◌++◌, Bool, true, false, Contains, Option, Some, None, drop, length, map, option_map, sum_by, take, filter, is_some, not}
+use Rattle.std.specs.List.{list_all}
+use Rattle.olap_meaning.specs.declared.cells.Cell.{Cell}
+use Rattle.olap_meaning.specs.declared.cells.Who.{Who}
+use Rattle.olap_meaning.specs.declared.tables.Row.{Row}
+use Rattle.olap_meaning.specs.History as history
+use Rattle.olap_meaning.specs.History.{Entry, Start, Done, Drop, Load, awaited_load, flying, load_at, version}
+use Rattle.olap_meaning.specs.Legal.{is_next_call}
+use Rattle.olap_meaning.specs.Worth.{cost}
+use Rattle.fact_versions.specs.Facts.{append_fault}
+use Rattle.fact_versions.specs.declared.faults.AppendFault.{AppendFault}
+use Rattle.fact_versions.specs.declared.faults.AppendFault.TheVariants as fault
+use Rattle.history_core.specs.Answers.{IsAnswer, source_of}
+use Rattle.history_core.specs.Arrivals.{arrival_in}
+use Rattle.history_core.specs.Cache.{CacheOf}
+use Rattle.history_core.specs.Groups.{loads_for, numbers_from}
+use Rattle.history_core.specs.Seats.{actor, entries_of}
+use Rattle.history_core.specs.declared.answers.Answer.{Answer}
+use Rattle.history_core.specs.declared.answers.Appended.{Appended}
+
+-- a desk: what its seat has seen of a cache, the seat, whether nobody else adds entries, and the fronts that it has
+-- read, oldest first, where it tells them
+pub record DeskOf : Type 0 where
+  pub cache : CacheOf
+  pub seat : ℕ
+  pub alone : Bool
+  pub fronts : Option (List ℕ)
+
+-- a cache to which these entries were added
+abbrev pub with_more : CacheOf → List Entry → CacheOf
+with_more cache more =
+    record { setting = cache.setting; entries = cache.entries ++ more }
+
+-- what is seen goes on by these entries; where nobody else adds any, all of them are the seat's
+pub record GoesOnBy (before after : DeskOf) (more : List Entry) : Type 0 where
+  pub cache : after.cache ≡ with_more before.cache more
+  pub seat : after.seat ≡ before.seat
+  pub alone : after.alone ≡ before.alone
+  pub own : before.alone ≡ true → entries_of more before.seat ≡ more
+
+-- what is seen goes on
+abbrev pub GoesOn : DeskOf → DeskOf → Type 0
+GoesOn before after = (more : List Entry) × GoesOnBy before after more
+
+-- what is seen may have gone on, but by no entry of the seat, and no front was read
+pub record AddsNone (before after : DeskOf) : Type 0 where
+  pub more : List Entry
+  pub goes_on : GoesOnBy before after more
+  pub none : entries_of more before.seat ≡ []
+  pub fronts : after.fronts ≡ before.fronts
+
+-- a call of the seat was added behind these entries, as the last that is seen
+pub record AddsCall (before after : DeskOf) (more : List Entry) (call : Entry) : Type 0 where
+  pub goes_on : GoesOnBy before after (more ++ call ∷ [])
+  pub fronts : after.fronts ≡ before.fronts
+
+-- no load of the seat flies in what is seen
+abbrev pub IsIdle : DeskOf → Type 0
+IsIdle desk =
+    (j : ℕ) (load : Load) → load_at desk.cache.entries j ≡ Some load → load.who.seat ≡ desk.seat
+    → flying desk.cache.entries j ≡ false
+
+-- an entry is a part of a load: its Start or its end
+abbrev pub is_of_load : Entry → Bool
+is_of_load (Start load) = true
+is_of_load (Done who load) = true
+is_of_load (Drop who load) = true
+is_of_load _ = false
+
+-- an entry ends a load: it was delivered, or given up
+abbrev pub is_end : Entry → Bool
+is_end (Done who load) = true
+is_end (Drop who load) = true
+is_end _ = false
+
+-- an entry is a Start, or says that a load was delivered
+abbrev pub is_start_or_done : Entry → Bool
+is_start_or_done (Start load) = true
+is_start_or_done (Done who load) = true
+is_start_or_done _ = false
+
+-- no load is started behind one that was given up
+abbrev pub none_behind_drops : List Entry → Bool
+none_behind_drops [] = true
+none_behind_drops (Drop who load ∷ entries) = list_all is_end entries
+none_behind_drops (entry ∷ entries) = none_behind_drops entries
+
+-- the cells for which no flying load is awaited
+abbrev pub unawaited : List Entry → List Cell → List Cell
+unawaited entries cells = filter (λ cell. not (is_some (awaited_load entries cell))) cells
+
+-- the loads that a look at some cells starts over these entries: those that the cells lack for which none is awaited
+abbrev pub loads_of_look : CacheOf → List Entry → Who → List Cell → List Load
+loads_of_look cache entries who cells =
+    loads_for
+    (record { setting = cache.setting; entries = entries }) who (unawaited entries cells)
+
+-- the Start at a position is one of a look at some cells, behind so many entries: that look gives it over what was
+-- seen then, and since then there are only Starts of the same call
+pub record IsOfLook (cache : CacheOf) (begun : ℕ) (who : Who) (cells : List Cell) (p : ℕ)
+    (load : Load) : Type 0 where
+  pub front : ℕ
+  pub late : begun ≤ front
+  pub earlier : front < p
+  pub together : (q : ℕ) → front < q → q < p
+      → (other : Load) × (load_at cache.entries q ≡ Some other) × (other.who ≡ who)
+  pub given : Contains (loads_of_look cache (take front cache.entries) who cells) load
+
+-- the entries of a seat among some that were added are parts of loads for some cells, all of one call: each Start is
+-- one of a look at just these cells
+pub record AreLoadsFor (before : CacheOf) (who : Who) (cells : List Cell)
+    (more : List Entry) : Type 0 where
+  pub parts : list_all is_of_load (entries_of more who.seat) ≡ true
+  pub call : (entry : Entry) → Contains (entries_of more who.seat) entry → actor entry ≡ who
+  pub starts : (p : ℕ) (load : Load) → length before.entries < p
+      → load_at (before.entries ++ more) p ≡ Some load → load.who ≡ who
+      → IsOfLook (with_more before more) (length before.entries) who cells p load
+
+-- the numbers of the loads that some cells lack, in the order of their Starts
+abbrev pub load_numbers : CacheOf → Who → List Cell → List ℕ
+load_numbers cache who cells =
+    numbers_from (length cache.entries + 1) (length (loads_for cache who cells))
+
+-- the loads that some cells lack are started and then delivered, each in its turn
+abbrev pub loads_delivered : CacheOf → Who → List Cell → List Entry
+loads_delivered cache who cells =
+    map Start (loads_for cache who cells) ++ map (Done who) (load_numbers cache who cells)
+
+-- AreEnds who numbers entries: these loads are ended, each in its turn: delivered, or given up
+abbrev pub AreEnds : Who → List ℕ → List Entry → Type 0
+AreEnds who [] [] = ⊤
+AreEnds who (j ∷ js) (entry ∷ entries) =
+    ((entry ≡ Done who j) ⊎ (entry ≡ Drop who j)) × AreEnds who js entries
+AreEnds who numbers entries = ⊥
+
+-- nothing is added, or the loads that some cells lack are started, and then each is ended
+abbrev pub AreLoadsEnded : CacheOf → Who → List Cell → List Entry → Type 0
+AreLoadsEnded cache who cells more =
+    (more ≡ [])
+    ⊎ ((ends : List Entry) × AreEnds who (load_numbers cache who cells) ends
+    × (more ≡ map Start (loads_for cache who cells) ++ ends))
+
+-- cells were answered: the loads that they lack, each delivered, and then, as the last entry, the answer to the cells
+-- at that time; no load of the seat flies. A desk alone starts the loads of one look, and none where each cell has a
+-- source
+pub record HasAsked (before after : DeskOf) (cells : List Cell) (answer : Answer) : Type 0 where
+  pub who : Who
+  pub own : who.seat ≡ before.seat
+  pub more : List Entry
+  pub adds : AddsCall before after more
+      (history.Answer who (map (source_of (with_more before.cache more).entries) cells))
+  pub loads : AreLoadsFor before.cache who cells more
+  pub delivered : list_all is_start_or_done (entries_of more before.seat) ≡ true
+  pub alone : before.alone ≡ true → more ≡ loads_delivered before.cache who cells
+  pub answered : IsAnswer (with_more before.cache more) cells answer
+  pub idle : IsIdle after
+
+-- cells were not answered: at most loads that they lack were started, for the seat's next call, and no load of the seat
+-- flies; behind one that was given up none was started
+pub record HasNotAsked (before after : DeskOf) (cells : List Cell) : Type 0 where
+  pub who : Who
+  pub own : who.seat ≡ before.seat
+  pub next : is_next_call before.cache.entries who ≡ true
+  pub more : List Entry
+  pub goes_on : GoesOnBy before after more
+  pub fronts : after.fronts ≡ before.fronts
+  pub loads : AreLoadsFor before.cache who cells more
+  pub given_up : none_behind_drops (entries_of more before.seat) ≡ true
+  pub idle : IsIdle after
+  pub alone : before.alone ≡ true → AreLoadsEnded before.cache who cells more
+
+-- rows were appended to a cube: as the last entry, by the seat; it makes the cube's next version
+pub record HasAppended (before after : DeskOf) (cube : ℕ) (rows : List Row)
+    (told : Appended) : Type 0 where
+  pub who : Who
+  pub own : who.seat ≡ before.seat
+  pub more : List Entry
+  pub others : entries_of more before.seat ≡ []
+  pub adds : AddsCall before after more
+      (history.Append who cube (version (with_more before.cache more).entries cube + 1) rows)
+  pub admitted : append_fault (arrival_in (with_more before.cache more) cube rows) ≡ None
+  pub position : told.position ≡ length after.cache.entries
+  pub version_is : told.version ≡ version after.cache.entries cube
+
+-- rows were refused: the fault is true of what is seen then, or there was no memory
+pub record HasNotAppended (before after : DeskOf) (cube : ℕ) (rows : List Row)
+    (reason : AppendFault) : Type 0 where
+  pub adds : AddsNone before after
+  pub cause : (reason ≡ fault.OutOfMemory)
+      ⊎ (append_fault (arrival_in after.cache cube rows) ≡ Some reason)
+
+-- the front was read: just so many entries are seen then, and none of them is a new one of the seat
+pub record HasReadFront (before after : DeskOf) (front : ℕ) : Type 0 where
+  pub more : List Entry
+  pub goes_on : GoesOnBy before after more
+  pub none : entries_of more before.seat ≡ []
+  pub front_is : front ≡ length after.cache.entries
+  pub fronts : after.fronts ≡ option_map (λ fronts. fronts ++ front ∷ []) before.fronts
+
+-- the rows that an entry asks to read: where it starts a load, those of the load's version
+abbrev pub rows_to_read : List Entry → Entry → ℕ
+rows_to_read history (Start load) = cost history load
+rows_to_read history _ = 0
+
+-- the rows of the loads that a seat has started behind a history
+abbrev pub rows_started : ℕ → List Entry → List Entry → ℕ
+rows_started seat before after =
+    sum_by (rows_to_read after) (entries_of (drop (length before) after) seat)
+
+-- the rows of the loads that a desk's seat has started between two states
+abbrev pub rows_between : DeskOf → DeskOf → ℕ
+rows_between before after =
+    rows_started before.seat before.cache.entries after.cache.entries

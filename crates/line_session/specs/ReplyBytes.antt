@@ -1,0 +1,10 @@
+-- The bytes of a reply.
+use Rattle.std.specs.Prelude.{ℕ, List}
+use Rattle.line_session.specs.declared.reply.Bytes.{Bytes}
+use Rattle.line_session.specs.declared.reply.Bytes.TheVariants.{Fixed, Short, Made}
+
+-- the bytes of a reply, wherever they stand
+abbrev pub bytes_in : Bytes → List ℕ
+bytes_in (Fixed text) = text.now
+bytes_in (Short text) = text.bytes
+bytes_in (Made text) = text

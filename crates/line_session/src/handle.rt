@@ -1,0 +1,105 @@
+//! What is replied to a line.
+ghost use Rattle.std.specs.Prelude.{◌≡◌, ◌≤◌, ◌+◌, ◌++◌, [], List, Option, ℕ};
+ghost use Rattle.input_lines.specs.Asked.{asked};
+ghost use Rattle.input_lines.specs.Requests.{IsRequest};
+ghost use Rattle.outside.specs.Fetched.{Fetched};
+ghost use Rattle.outside.specs.Told.{AreTheirs};
+ghost use Rattle.line_session.specs.Desks.{GoesOn, rows_between};
+ghost use Rattle.line_session.specs.Replies.{AnswersRequest, Handles, TellsWhatIsSeen};
+ghost use Rattle.line_session.specs.Sessions.{ends_session};
+
+use crate::append::reply_to_append;
+use crate::desk::Desk;
+use crate::query::reply_to_query;
+use crate::reply::Reply;
+use fact_versions::Steps;
+use input_lines::{Request, read_request};
+use olap_catalog::Catalog;
+use olap_meaning::OutOfMemory;
+use outside::Depot;
+use std::alloc::Global;
+use std::sync::ledger::Ledger;
+
+// The reply to a line that asks whether there are so many entries. It takes no memory.
+fn reply_to_after<P: Desk>(desk: &mut P, count: u64) -> Reply
+    ensures { (position : Option ℕ)
+        × TellsWhatIsSeen (record { before = P.seen desk.old; after = P.seen desk.new; asked = [] })
+        count position result }
+{
+    match desk.after(count) {
+        Ok(front) => Reply::number("SEEN ", front),
+        Err(not_yet) => Reply::two_numbers("ERR 14 NOT YET ", not_yet.asked, not_yet.front),
+    }
+}
+
+// The reply to a line that asks for this.
+fn reply_to_request<P: Desk, D: Depot, L: Ledger>(
+    alloc: Global,
+    desk: &mut P,
+    depot: &mut D,
+    catalog: &Catalog,
+    request: &Request,
+    steps: &mut Steps<L>,
+) -> Reply
+    requires catalog { catalog.now ≡ (P.seen desk.old).cache.setting.catalog }
+    requires meant { (line : List ℕ) × IsRequest line (asked request.now) }
+    ensures answered { (position : Option ℕ) × (fetched : List Fetched)
+        × (D.answers depot.new ≡ D.answers depot.old ++ fetched)
+        × AreTheirs (D.files depot.old) fetched
+        × AnswersRequest
+        (record { before = P.seen desk.old; after = P.seen desk.new; asked = fetched })
+        (asked request.now) position result }
+    ensures files { D.files depot.new ≡ D.files depot.old }
+    ensures at_least { steps.old ≤ steps.new }
+    ensures at_most { steps.new ≤ steps.old + rows_between (P.seen desk.old) (P.seen desk.new) }
+{
+    match request {
+        Request::NotText => Reply::fixed("ERR 2 UTF8\n"),
+        Request::Blank => Reply::fixed(""),
+        Request::NoCommand => Reply::fixed("ERR 3 COMMAND\n"),
+        Request::Stops(byte) => Reply::number("ERR 4 SYNTAX ", *byte as u64),
+        Request::Quit => Reply::fixed("BYE\n"),
+        Request::After(count) => reply_to_after(desk, *count),
+        Request::Append(argument) => reply_to_append(alloc, desk, depot, catalog, argument),
+        Request::OneCell(query) => reply_to_query(alloc, desk, catalog, query, steps),
+        Request::Unbuilt => Reply::fixed("ERR 17 UNBUILT\n"),
+    }
+}
+
+// Whether a line that asks for this ends the session.
+fn is_end(request: &Request) -> bool
+    ensures { (line : List ℕ) → IsRequest line (asked request.now) → result ≡ ends_session line }
+{
+    matches!(request, Request::Quit)
+}
+
+/// The reply to a line of a session, and whether it ends the session.
+pub(crate) fn reply_to_line<P: Desk, D: Depot, L: Ledger>(
+    alloc: Global,
+    desk: &mut P,
+    depot: &mut D,
+    catalog: &Catalog,
+    line: &[u8],
+    steps: &mut Steps<L>,
+) -> (Reply, bool)
+    requires catalog { catalog.now ≡ (P.seen desk.old).cache.setting.catalog }
+    ensures handled { (position : Option ℕ) × (asked : List Fetched)
+        × (D.answers depot.new ≡ D.answers depot.old ++ asked)
+        × AreTheirs (D.files depot.old) asked
+        × Handles
+        (record { before = P.seen desk.old; after = P.seen desk.new; asked = asked })
+        (record { line = line.now; position = position; reply = result.0 }) }
+    ensures files { D.files depot.new ≡ D.files depot.old }
+    ensures ends { result.1 ≡ ends_session line.now }
+    ensures grown { GoesOn (P.seen desk.old) (P.seen desk.new) }
+    ensures at_least { steps.old ≤ steps.new }
+    ensures at_most { steps.new ≤ steps.old + rows_between (P.seen desk.old) (P.seen desk.new) }
+{
+    match read_request(alloc, line) {
+        Ok(request) => {
+            let reply = reply_to_request(alloc, desk, depot, catalog, &request, steps);
+            (reply, is_end(&request))
+        }
+        Err(OutOfMemory) => (Reply::no_memory(), false),
+    }
+}

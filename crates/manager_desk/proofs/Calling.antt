@@ -1,0 +1,228 @@
+-- What seat 1 has done at its manager, as a desk alone.
+use Rattle.std.proofs.Common.{◌≡◌, refl, sym, ◌∙◌, ap, subst, ℕ, ◌+◌, ◌≤◌, List, [], ◌∷◌, ◌++◌, append_assoc, length, map, filter, Bool, true, false, ◌==◌, inl, inr, None, Result, Ok, Err, arith, All}
+use Rattle.std.specs.Prelude.{OnErr}
+use Rattle.std.specs.List.{list_all}
+use Rattle.std.proofs.lemmas.Bool.{and_from, and_parts, eq-eqb, lt-ltb, ltb-true}
+use Rattle.std.proofs.lemmas.List.{append-nil}
+use Rattle.std.proofs.lemmas.List.Elements.{All-append, All-cons, All-nil, filter-append}
+use Rattle.std.proofs.lemmas.List.Folds.{list_all-append}
+use Rattle.olap_meaning.specs.declared.cells.Cell.{Cell}
+use Rattle.olap_meaning.specs.declared.cells.Who.{Who}
+use Rattle.olap_meaning.specs.declared.tables.Row.{Row}
+use Rattle.olap_meaning.specs.History.{Entry, Append, Flush, Start, Done, Drop, Answer, Saw, version}
+use Rattle.olap_meaning.specs.Legal.{is_call_below, is_call_of, is_next_call, Legal}
+use Rattle.fact_versions.specs.Facts.{append_fault}
+use Rattle.history_core.specs.declared.answers.Answer.{Answer as Told}
+use Rattle.history_core.specs.declared.answers.Appended.{Appended}
+use Rattle.history_core.specs.Arrivals.{arrival_in}
+use Rattle.history_core.specs.Answers.{source_of}
+use Rattle.history_core.specs.Cache.{CacheOf}
+use Rattle.history_core.specs.Groups.{loads_for}
+use Rattle.history_core.specs.Seats.{NoneFlies, actor, entries_of}
+use Rattle.line_session.specs.Desks.{AddsCall, AreLoadsFor, DeskOf, GoesOnBy, HasAppended, HasAsked, HasNotAsked, is_start_or_done, load_numbers, loads_delivered, none_behind_drops, with_more}
+use Rattle.manager_desk.specs.Ends.{AddsAnswer, AddsEnded}
+use Rattle.manager_desk.specs.Keeping.{IsDesk}
+use Rattle.manager_desk.proofs.Counting.{count_one}
+use Rattle.manager_desk.proofs.Joining.{parts_uncalled, same_cache, still_idle}
+use Rattle.manager_desk.proofs.Looks.{are_loads_for, look_parts, no_loads_for, none_behind}
+use Rattle.manager_desk.proofs.Own.{IsPartOf, delivered_all, dones_are_ends, own_entries, parts_all, parts_seat}
+
+-- a cache as a desk that seat 1 has alone
+abbrev pub desk_of : CacheOf → DeskOf
+desk_of cache = record { cache = cache; seat = 1; alone = true; fronts = None }
+
+-- what is seen goes on by entries of the seat
+pub goes_on : (before after : CacheOf) (more : List Entry) → after.setting ≡ before.setting → after.entries ≡ before.entries ++ more → All (λ e. (actor e).seat ≡ 1) more → GoesOnBy (desk_of before) (desk_of after) more
+goes_on before after more setting entries own = record {
+  cache = same_cache after (with_more before more) setting entries;
+  seat = refl;
+  alone = refl;
+  own = λ _. own_entries 1 more own;
+}
+
+-- a call behind entries of the seat
+pub adds_call :
+    (before after : CacheOf) (more : List Entry) (call : Entry) → after.setting ≡ before.setting → after.entries ≡ (before.entries ++ more) ++ call ∷ [] → All (λ e. (actor e).seat ≡ 1) more → (actor call).seat ≡ 1
+    → AddsCall (desk_of before) (desk_of after) more call
+adds_call before after more call setting entries own last = record {
+  goes_on =
+      goes_on before after (more ++ call ∷ []) setting (entries ∙ append_assoc before.entries more (call ∷ []))
+      (All-append (λ e. (actor e).seat ≡ 1) more (call ∷ []) own (All-cons (λ e. (actor e).seat ≡ 1) call [] last (All-nil (λ e. (actor e).seat ≡ 1))));
+  fronts = refl;
+}
+
+module _ (before : CacheOf) (who : Who) (cells : List Cell) where
+  delivered_parts : All (IsPartOf who) (loads_delivered before who cells)
+  delivered_parts = look_parts before who cells (map (Done who) (load_numbers before who cells)) (dones_are_ends who (load_numbers before who cells))
+
+  -- cells that were answered
+  pub has_asked : (after : CacheOf) (answer : Told) → NoneFlies before.entries → NoneFlies after.entries → who.seat ≡ 1 → AddsAnswer before after who cells answer → HasAsked (desk_of before) (desk_of after) cells answer
+  has_asked after answer idle quiet seat adds =
+      let own : All (λ e. (actor e).seat ≡ 1) (loads_delivered before who cells) = parts_seat who 1 (loads_delivered before who cells) seat delivered_parts in
+      record {
+        who = who;
+        own = seat;
+        more = loads_delivered before who cells;
+        adds = adds_call before after (loads_delivered before who cells) (Answer who (map (source_of (before.entries ++ loads_delivered before who cells)) cells)) adds.setting adds.entries own seat;
+        loads = are_loads_for before who cells (map (Done who) (load_numbers before who cells)) idle (dones_are_ends who (load_numbers before who cells));
+        delivered = ap (list_all is_start_or_done) (own_entries 1 (loads_delivered before who cells) own) ∙ delivered_all who (loads_for before who cells) (load_numbers before who cells);
+        alone = λ _. refl;
+        answered = adds.answered;
+        idle = λ j load at own. quiet j;
+      }
+
+  ended_parts : (after : CacheOf) (adds : AddsEnded before after who cells) → All (IsPartOf who) adds.more
+  ended_parts after adds = elim adds.ended [
+    | inl none ↦ subst (λ (es : List Entry). All (IsPartOf who) es) (sym none) (All-nil (IsPartOf who))
+    | inr some ↦ subst (λ (es : List Entry). All (IsPartOf who) es) (sym some.2) (look_parts before who cells some.0 some.1)
+  ]
+
+  ended_loads : (after : CacheOf) (adds : AddsEnded before after who cells) → NoneFlies before.entries → AreLoadsFor before who cells adds.more
+  ended_loads after adds idle = elim adds.ended [
+    | inl none ↦ subst (λ (es : List Entry). AreLoadsFor before who cells es) (sym none) (no_loads_for before who cells)
+    | inr some ↦ subst (λ (es : List Entry). AreLoadsFor before who cells es) (sym some.2) (are_loads_for before who cells some.0 idle some.1)
+  ]
+
+  ended_behind : (after : CacheOf) (adds : AddsEnded before after who cells) → none_behind_drops adds.more ≡ true
+  ended_behind after adds = elim adds.ended [
+    | inl none ↦ ap none_behind_drops none
+    | inr some ↦ ap none_behind_drops some.2 ∙ none_behind who (loads_for before who cells) (load_numbers before who cells) some.0 some.1
+  ]
+
+  -- cells that were not answered
+  pub has_not_asked : (after : CacheOf) → NoneFlies before.entries → NoneFlies after.entries → who.seat ≡ 1 → is_next_call before.entries who ≡ true → AddsEnded before after who cells → HasNotAsked (desk_of before) (desk_of after) cells
+  has_not_asked after idle quiet seat next adds =
+      let parts = ended_parts after adds in
+      let own : All (λ e. (actor e).seat ≡ 1) adds.more = parts_seat who 1 adds.more seat parts in
+      record {
+        who = who;
+        own = seat;
+        next = next;
+        more = adds.more;
+        goes_on = goes_on before after adds.more adds.setting adds.entries own;
+        fronts = refl;
+        loads = ended_loads after adds idle;
+        given_up = ap none_behind_drops (own_entries 1 adds.more own) ∙ ended_behind after adds;
+        idle = λ j load at own. quiet j;
+        alone = λ _. adds.ended;
+      }
+
+-- where nothing was added, cells were not answered
+pub nothing_asked : (cache : CacheOf) (who : Who) (cells : List Cell) → NoneFlies cache.entries → who.seat ≡ 1 → is_next_call cache.entries who ≡ true → HasNotAsked (desk_of cache) (desk_of cache) cells
+nothing_asked cache who cells idle seat next = has_not_asked cache who cells cache idle idle seat next (record { more = []; setting = refl; entries = sym (append-nil cache.entries); ended = inl refl })
+
+-- calls below a number are below a greater one
+below_rises : (n m : ℕ) (entry : Entry) → n ≤ m → is_call_below n entry ≡ true → is_call_below m entry ≡ true
+below_rises n m (Append who cube version rows) le below = lt-ltb who.call m (let l = ltb-true who.call n below in omega (arith, l, le))
+below_rises n m (Flush who region) le below = lt-ltb who.call m (let l = ltb-true who.call n below in omega (arith, l, le))
+below_rises n m (Start load) le below = absurd (cc)
+below_rises n m (Done who j) le below = absurd (cc)
+below_rises n m (Drop who j) le below = absurd (cc)
+below_rises n m (Answer who cells) le below = lt-ltb who.call m (let l = ltb-true who.call n below in omega (arith, l, le))
+below_rises n m (Saw who) le below = lt-ltb who.call m (let l = ltb-true who.call n below in omega (arith, l, le))
+
+all_below : (n m : ℕ) (es : List Entry) → n ≤ m → list_all (is_call_below n) es ≡ true → list_all (is_call_below m) es ≡ true
+all_below n m [] le all = refl
+all_below n m (e ∷ es) le all = and_from _ _ (below_rises n m e le (and_parts _ _ all).0) (all_below n m es le (and_parts _ _ all).1)
+
+-- the next call, where the entries that were added have no call beyond the last number
+pub next_after : (before after more : List Entry) (seat n m : ℕ) → after ≡ before ++ more → n ≤ m → list_all (is_call_below m) (filter (is_call_of seat) more) ≡ true → is_next_call before (record { seat = seat; call = n }) ≡ true → is_next_call after (record { seat = seat; call = m }) ≡ true
+next_after before after more seat n m grown le new next =
+    ap (λ (es : List Entry). list_all (is_call_below m) (filter (is_call_of seat) es)) grown
+    ∙ ap (list_all (is_call_below m)) (filter-append (is_call_of seat) before more)
+    ∙ list_all-append (is_call_below m) (filter (is_call_of seat) before) (filter (is_call_of seat) more)
+    ∙ and_from _ _ (all_below n m (filter (is_call_of seat) before) le next) new
+
+-- behind parts of loads it goes on, and behind a call of the seat
+pub next_parts : (before after more : List Entry) (who : Who) (seat n m : ℕ) → after ≡ before ++ more → n ≤ m → All (IsPartOf who) more → is_next_call before (record { seat = seat; call = n }) ≡ true → is_next_call after (record { seat = seat; call = m }) ≡ true
+next_parts before after more who seat n m grown le parts next =
+    next_after before after more seat n m grown le (ap (list_all (is_call_below m)) (parts_uncalled more seat (parts_all who more parts))) next
+
+pub next_call : (before after : List Entry) (call : Entry) (seat n m : ℕ) → after ≡ before ++ call ∷ [] → n ≤ m → is_call_of seat call ≡ true → is_call_below m call ≡ true → is_next_call before (record { seat = seat; call = n }) ≡ true → is_next_call after (record { seat = seat; call = m }) ≡ true
+next_call before after call seat n m grown le own below next =
+    let one : list_all (is_call_below m) (filter (is_call_of seat) (call ∷ [])) ≡ true = rw own (and_from _ _ below refl) in
+    next_after before after (call ∷ []) seat n m grown le one next
+
+-- the next call after cells were answered or not
+pub next_answered : (before after : CacheOf) (who : Who) (cells : List Cell) (answer : Told) (last : ℕ) → who ≡ record { seat = 1; call = last + 1 } → AddsAnswer before after who cells answer → is_next_call before.entries (record { seat = 1; call = last + 1 }) ≡ true
+    → is_next_call after.entries (record { seat = 1; call = who.call + 1 }) ≡ true
+next_answered before after who cells answer last is adds next =
+    let seat : who.seat ≡ 1 = ap (λ (w : Who). w.seat) is in
+    let number : who.call ≡ last + 1 = ap (λ (w : Who). w.call) is in
+    next_call (before.entries ++ loads_delivered before who cells) after.entries (Answer who (map (source_of (before.entries ++ loads_delivered before who cells)) cells)) 1 (last + 1) (who.call + 1) adds.entries (omega (arith, number)) (eq-eqb who.seat 1 seat)
+    (lt-ltb who.call (who.call + 1) (omega arith))
+    (next_parts before.entries (before.entries ++ loads_delivered before who cells) (loads_delivered before who cells) who 1 (last + 1) (last + 1) refl (omega arith) (delivered_parts before who cells) next)
+
+pub next_refused : (before after : CacheOf) (who : Who) (cells : List Cell) (last : ℕ) → who ≡ record { seat = 1; call = last + 1 } → AddsEnded before after who cells → is_next_call before.entries (record { seat = 1; call = last + 1 }) ≡ true
+    → is_next_call after.entries (record { seat = 1; call = who.call + 1 }) ≡ true
+next_refused before after who cells last is adds next =
+    let number : who.call ≡ last + 1 = ap (λ (w : Who). w.call) is in
+    next_parts before.entries after.entries adds.more who 1 (last + 1) (who.call + 1) adds.entries (omega (arith, number)) (ended_parts before who cells after adds) next
+
+-- a seat that has done nothing has made no call
+pub unused_next : (entries : List Entry) (call : ℕ) → entries_of entries 1 ≡ [] → is_next_call entries (record { seat = 1; call = call }) ≡ true
+unused_next entries call unused = ap (list_all (is_call_below call)) (uncalled entries unused)
+  where
+    call_own : (e : Entry) → ((actor e).seat == 1) ≡ false → is_call_of 1 e ≡ false
+    call_own (Append who cube version rows) other = other
+    call_own (Flush who region) other = other
+    call_own (Start load) other = refl
+    call_own (Done who j) other = refl
+    call_own (Drop who j) other = refl
+    call_own (Answer who cells) other = other
+    call_own (Saw who) other = other
+
+    uncalled : (es : List Entry) → entries_of es 1 ≡ [] → filter (is_call_of 1) es ≡ []
+    uncalled [] none = refl
+    uncalled (e ∷ es) none = by ((actor e).seat == 1) refl none (uncalled es)
+      where
+        by : (b : Bool) → ((actor e).seat == 1) ≡ b → entries_of (e ∷ es) 1 ≡ [] → (entries_of es 1 ≡ [] → filter (is_call_of 1) es ≡ []) → filter (is_call_of 1) (e ∷ es) ≡ []
+        by true at some rest = let has : e ∷ entries_of es 1 ≡ [] = rw at at some in absurd (cc)
+        by false at some rest = rw (call_own e at) (rest (rw at at some))
+
+-- what a desk keeps, with a number that was given to a call which added nothing
+pub desk_refused : (entries : List Entry) (who : Who) (last read : ℕ) → who ≡ record { seat = 1; call = last + 1 } → IsDesk entries last read → IsDesk entries who.call read
+desk_refused entries who last read is desk =
+    let number : who.call ≡ last + 1 = ap (λ (w : Who). w.call) is in
+    record {
+      idle = desk.idle;
+      next = next_parts entries entries [] who 1 (last + 1) (who.call + 1) (sym (append-nil entries)) (omega (arith, number)) (All-nil (IsPartOf who)) desk.next;
+      count = desk.count;
+    }
+
+-- and behind an append
+pub desk_appended :
+    (before : CacheOf) (after : List Entry) (who : Who) (cube v : ℕ) (rows : List Row) (last read : ℕ) → Legal before.setting before.entries → after ≡ before.entries ++ Append who cube v rows ∷ [] → who ≡ record { seat = 1; call = last + 1 } → IsDesk before.entries last read
+    → IsDesk after who.call read
+desk_appended before after who cube v rows last read legal grown is desk =
+    let seat : who.seat ≡ 1 = ap (λ (w : Who). w.seat) is in
+    let number : who.call ≡ last + 1 = ap (λ (w : Who). w.call) is in
+    record {
+      idle = still_idle before.entries after (Append who cube v rows) refl grown desk.idle;
+      next = next_call before.entries after (Append who cube v rows) 1 (last + 1) (who.call + 1) grown (omega (arith, number)) (eq-eqb who.seat 1 seat) (lt-ltb who.call (who.call + 1) (omega arith)) desk.next;
+      count = count_one before.setting before.entries after (Append who cube v rows) read legal refl grown desk.count;
+    }
+
+-- rows that were appended
+pub has_appended :
+    (before after : CacheOf) (who : Who) (cube : ℕ) (rows : List Row) (told : Appended) → who.seat ≡ 1 → after.setting ≡ before.setting → after.entries ≡ before.entries ++ Append who cube (version before.entries cube + 1) rows ∷ []
+    → append_fault (arrival_in before cube rows) ≡ None → told.position ≡ length after.entries → told.version ≡ version after.entries cube → HasAppended (desk_of before) (desk_of after) cube rows told
+has_appended before after who cube rows told seat setting grown admitted position version_is =
+    let same : before ≡ with_more before [] = same_cache before (with_more before []) refl (sym (append-nil before.entries)) in
+    record {
+      who = who;
+      own = seat;
+      more = [];
+      others = refl;
+      adds =
+          adds_call before after [] (Append who cube (version (before.entries ++ []) cube + 1) rows) setting (grown ∙ ap (λ (es : List Entry). es ++ Append who cube (version es cube + 1) rows ∷ []) (sym (append-nil before.entries)))
+          (All-nil (λ e. (actor e).seat ≡ 1)) seat;
+      admitted = ap (λ (cache : CacheOf). append_fault (arrival_in cache cube rows)) (sym same) ∙ admitted;
+      position = position;
+      version_is = version_is;
+    }
+
+-- what holds anyway holds on an error
+pub on_error : {T E P : Type 0} (r : Result T E) → P → OnErr r P
+on_error (Ok x) holds = tt
+on_error (Err e) holds = holds

@@ -1,0 +1,236 @@
+-- What an ask adds, joined from its looks and its loads.
+use Rattle.std.proofs.Common.{◌≡◌, refl, sym, ◌∙◌, ap, subst, ℕ, suc, ◌+◌, List, [], ◌∷◌, ◌++◌, append_assoc, length, map, filter, true, false, not, ◌==◌, ◌⊎◌, inl, inr, Option, Some, None, is_some, arith, All, Contains}
+use Rattle.std.specs.Prelude.{IsTrue, sum_by}
+use Rattle.std.specs.List.{list_all, list_any}
+use Rattle.std.proofs.lemmas.Bool.{and_parts, both_ways, eq-eqb, false_from_ne_true, or_cases, or_left, or_right}
+use Rattle.std.proofs.lemmas.List.{append-nil, length-append}
+use Rattle.std.proofs.lemmas.List.Elements.{All-append, All-cons, All-head, All-nil, All-tail, filter-append}
+use Rattle.std.proofs.lemmas.List.Folds.{list_any-append}
+use Rattle.std.proofs.lemmas.List.Sums.{sum_by-append, sum_by-cons}
+use Rattle.olap_meaning.specs.declared.cells.Cell.{Cell}
+use Rattle.olap_meaning.specs.declared.cells.Who.{Who}
+use Rattle.olap_meaning.specs.declared.tables.Setting.{Setting}
+use Rattle.olap_meaning.specs.Covering.{among}
+use Rattle.olap_meaning.specs.History.{Entry, Append, Flush, Start, Done, Drop, Answer, Saw, Load, delivers, exact_source, flushes, flying, kept, started}
+use Rattle.olap_meaning.specs.Legal.{Legal, is_call_below, is_call_of, is_cell, is_next_call}
+use Rattle.segment_load.specs.Loads.{JobOf}
+use Rattle.history_core.specs.declared.answers.Answer.{Answer as Told}
+use Rattle.history_core.specs.Answers.{HasSource, IsAnswer, SomeWants, source_of}
+use Rattle.history_core.specs.Cache.{CacheOf}
+use Rattle.history_core.specs.Groups.{loads_for, numbers_from, wanting}
+use Rattle.history_core.specs.Seats.{NoneFlies, actor}
+use Rattle.cache_manager.specs.Jobs.{IsJobOf}
+use Rattle.cache_manager.proofs.Pushes.{flying_back}
+use Rattle.cache_manager.proofs.Ready.{delivered_looks_are_ready}
+use Rattle.line_session.specs.Desks.{AreEnds, is_of_load, load_numbers, loads_delivered, rows_to_read, rows_started, with_more}
+use Rattle.manager_desk.specs.Ends.{AddsAnswer, AddsEnded, AreOut, EndsJobs, done_of, rows_of_job}
+use Rattle.manager_desk.proofs.Looks.{look_parts}
+use Rattle.manager_desk.proofs.Own.{IsPartOf, dones_are_ends, dones_of_call, ends_of_call, loads_own, parts_all, parts_seat}
+use Rattle.manager_desk.proofs.Reading.{dones_read_none, jobs_are, rows_started_are}
+
+-- after some Starts only their loads may fly, beside those that did
+started_flying : (entries : List Entry) (loads : List Load) (n j : ℕ) → n ≡ length entries + 1 → flying (entries ++ map Start loads) j ≡ true → (flying entries j ≡ true) ⊎ (among (numbers_from n (length loads)) j ≡ true)
+started_flying entries [] n j at h = inl (rw (append-nil entries) at h)
+started_flying entries (load ∷ loads) n j at h =
+    elim (started_flying (entries ++ Start load ∷ []) loads (suc n) j (let l = length-append entries (Start load ∷ []) in omega (arith, at, l)) (rw (append_assoc entries (Start load ∷ []) (map Start loads)) h)) [
+      | inl flew ↦ elim (flying_back entries (Start load) j flew).1 [
+        | inl old ↦ inl old
+        | inr new ↦ inr (or_left _ _ (eq-eqb n j (let e : j ≡ suc (length entries) = new.0 in omega (arith, e, at))))
+      ]
+      | inr later ↦ inr (or_right _ _ later)
+    ]
+
+pub only_started : (entries after : List Entry) (loads : List Load) (jobs : List JobOf) → NoneFlies entries → after ≡ entries ++ map Start loads → map (λ job. job.load) jobs ≡ numbers_from (length entries + 1) (length loads) → AreOut after jobs
+only_started entries after loads jobs idle grown numbers j h =
+    elim (started_flying entries loads (length entries + 1) j refl (ap (λ (es : List Entry). flying es j) (sym grown) ∙ h)) [
+      | inl old ↦ absurd (both_ways _ (idle j) old)
+      | inr new ↦ ap (λ (ns : List ℕ). among ns j) numbers ∙ new
+    ]
+
+-- parts of loads are no calls
+part_uncalled : (e : Entry) (seat : ℕ) → is_of_load e ≡ true → is_call_of seat e ≡ false
+part_uncalled (Append w c v r) seat h = absurd (cc)
+part_uncalled (Flush w r) seat h = absurd (cc)
+part_uncalled (Start l) seat h = refl
+part_uncalled (Done w j) seat h = refl
+part_uncalled (Drop w j) seat h = refl
+part_uncalled (Answer w cs) seat h = absurd (cc)
+part_uncalled (Saw w) seat h = absurd (cc)
+
+pub parts_uncalled : (more : List Entry) (seat : ℕ) → list_all is_of_load more ≡ true → filter (is_call_of seat) more ≡ []
+parts_uncalled [] seat all = refl
+parts_uncalled (e ∷ es) seat all = rw (part_uncalled e seat (and_parts _ _ all).0) (parts_uncalled es seat (and_parts _ _ all).1)
+
+pub still_next : (before after more : List Entry) (who : Who) → after ≡ before ++ more → list_all is_of_load more ≡ true → is_next_call before who ≡ true → is_next_call after who ≡ true
+still_next before after more who grown parts next =
+    ap (λ (es : List Entry). is_next_call es who) grown
+    ∙ ap (list_all (is_call_below who.call)) (filter-append (is_call_of who.seat) before more ∙ ap (λ (es : List Entry). filter (is_call_of who.seat) before ++ es) (parts_uncalled more who.seat parts) ∙ append-nil (filter (is_call_of who.seat) before))
+    ∙ next
+
+-- an answer leaves nothing flying that did not fly
+pub still_idle : (before after : List Entry) (entry : Entry) → started entry ≡ None → after ≡ before ++ entry ∷ [] → NoneFlies before → NoneFlies after
+still_idle before after entry none grown idle j =
+    false_from_ne_true _
+    (λ h.
+    elim (flying_back before entry j (ap (λ (es : List Entry). flying es j) (sym grown) ∙ h)).1 [
+      | inl old ↦ both_ways _ (idle j) old
+      | inr new ↦ let quiet : is_some (started entry) ≡ false = ap is_some none in both_ways _ quiet new.1
+    ])
+
+-- a cell has a source, or none
+pub source_or_none : (cache : CacheOf) (cells : List Cell) → All (HasSource cache) cells → SomeWants cache cells → ⊥
+source_or_none cache cells all wants = by (has_at cells wants.0 all wants.1)
+  where
+    has_at : (cells : List Cell) (cell : Cell) → All (HasSource cache) cells → Contains cells cell → HasSource cache cell
+    has_at cells cell all has = subst (HasSource cache) has.2 (all has.0 cell has.1)
+
+    by : HasSource cache wants.0 → ⊥
+    by has = let none = rw wants.2.exact at has.1 in none
+
+-- where each cell has a source, no load is missing
+source_is_some : (cache : CacheOf) (cell : Cell) → HasSource cache cell → is_some (exact_source cache.entries cell) ≡ true
+source_is_some cache cell has = by (exact_source cache.entries cell) refl
+  where
+    by : (o : Option ℕ) → exact_source cache.entries cell ≡ o → is_some (exact_source cache.entries cell) ≡ true
+    by None at = let none = rw at at has.1 in absurd none
+    by (Some j) at = ap is_some at
+
+none_wanting : (cache : CacheOf) (cells : List Cell) → All (HasSource cache) cells → wanting cache.entries cells ≡ []
+none_wanting cache [] all = refl
+none_wanting cache (cell ∷ cells) all =
+    let here : not (is_some (exact_source cache.entries cell)) ≡ false = ap not (source_is_some cache cell (All-head (HasSource cache) cell cells all)) in
+    rw here (none_wanting cache cells (All-tail (HasSource cache) cell cells all))
+
+pub none_missing : (cache : CacheOf) (who : Who) (cells : List Cell) → All (HasSource cache) cells → loads_for cache who cells ≡ []
+none_missing cache who cells all = rw (none_wanting cache cells all) refl
+
+-- and none is started or delivered
+none_delivered : (cache : CacheOf) (who : Who) (cells : List Cell) → All (HasSource cache) cells → loads_delivered cache who cells ≡ []
+none_delivered cache who cells all = ap (λ (loads : List Load). map Start loads ++ map (Done who) (numbers_from (length cache.entries + 1) (length loads))) (none_missing cache who cells all)
+
+-- caches of the same setting and entries are the same
+pub same_cache : (one other : CacheOf) → one.setting ≡ other.setting → one.entries ≡ other.entries → one ≡ other
+same_cache one other setting entries =
+    ap (λ (s : Setting). record { setting = s; entries = one.entries }) setting ∙ ap (λ (es : List Entry). record { setting = other.setting; entries = es }) entries
+
+-- the answer to cells behind the loads that they lack, each delivered
+pub adds_answer :
+    (before middle after : CacheOf) (who : Who) (cells : List Cell) (answer : Told) → middle.setting ≡ before.setting → middle.entries ≡ before.entries ++ loads_delivered before who cells → after.setting ≡ middle.setting
+    → after.entries ≡ middle.entries ++ Answer who (map (source_of middle.entries) cells) ∷ [] → IsAnswer middle cells answer → AddsAnswer before after who cells answer
+adds_answer before middle after who cells answer same loaded kept grown is = record {
+  setting = kept ∙ same;
+  entries = grown ∙ ap (λ (es : List Entry). es ++ Answer who (map (source_of es) cells) ∷ []) loaded;
+  answered = subst (λ (cache : CacheOf). IsAnswer cache cells answer) (same_cache middle (with_more before (loads_delivered before who cells)) same loaded) is;
+}
+
+-- where each cell has a source, the loads that they lack are there
+pub none_lacking : (cache : CacheOf) (who : Who) (cells : List Cell) → All (HasSource cache) cells → cache.entries ≡ cache.entries ++ loads_delivered cache who cells
+none_lacking cache who cells all = sym (ap (λ (es : List Entry). cache.entries ++ es) (none_delivered cache who cells all) ∙ append-nil cache.entries)
+
+-- deliveries flush nothing, and deliver each of their loads
+dones_flush_none : (cell : Cell) (who : Who) (ns : List ℕ) → list_any (flushes cell) (map (Done who) ns) ≡ false
+dones_flush_none cell who [] = refl
+dones_flush_none cell who (n ∷ ns) = dones_flush_none cell who ns
+
+dones_deliver : (who : Who) (ns : List ℕ) (j : ℕ) → among ns j ≡ true → list_any (delivers j) (map (Done who) ns) ≡ true
+dones_deliver who [] j h = h
+dones_deliver who (n ∷ ns) j h = elim (or_cases (n == j) (among ns j) h) [ inl here ↦ or_left _ _ here | inr there ↦ or_right _ _ (dones_deliver who ns j there) ]
+
+dones_keep : (before starts : List Entry) (who : Who) (all ns : List ℕ) → ((j : ℕ) → among ns j ≡ true → among all j ≡ true) → All (λ j. IsTrue (kept (before ++ (starts ++ map (Done who) all)) j)) ns
+dones_keep before starts who all [] into = All-nil _
+dones_keep before starts who all (n ∷ ns) into =
+    All-cons (λ j. IsTrue (kept (before ++ (starts ++ map (Done who) all)) j)) n ns
+    (list_any-append (delivers n) before (starts ++ map (Done who) all)
+    ∙ or_right _ _ (list_any-append (delivers n) starts (map (Done who) all) ∙ or_right _ _ (dones_deliver who all n (into n (or_left _ _ (eq-eqb n n refl))))))
+    (dones_keep before starts who all ns (λ j h. into j (or_right (n == j) (among ns j) h)))
+
+-- where the loads of a look were all delivered, each of its cells has a source
+pub ready_again : (before after : CacheOf) (who : Who) (cells : List Cell) → list_all (is_cell before.setting.catalog) cells ≡ true → after.setting ≡ before.setting → after.entries ≡ before.entries ++ loads_delivered before who cells → All (HasSource after) cells
+ready_again before after who cells known same grown =
+    subst (λ (cache : CacheOf). All (HasSource cache) cells) (sym (same_cache after (with_more before (loads_delivered before who cells)) same grown))
+    (delivered_looks_are_ready before who cells (map (Done who) (load_numbers before who cells)) known (none cells)
+    (dones_keep before.entries (map Start (loads_for before who cells)) who (load_numbers before who cells) (load_numbers before who cells) (λ j h. h)))
+  where
+    none : (some : List Cell) → All (λ cell. list_any (flushes cell) (map (Done who) (load_numbers before who cells)) ≡ false) some
+    none [] = All-nil _
+    none (cell ∷ others) = All-cons (λ c. list_any (flushes c) (map (Done who) (load_numbers before who cells)) ≡ false) cell others (dones_flush_none cell who (load_numbers before who cells)) (none others)
+
+-- a look that has started its loads, and its jobs
+pub record IsStarted (before middle : CacheOf) (who : Who) (cells : List Cell) (jobs : List JobOf) : Type 0 where
+  pub setting : middle.setting ≡ before.setting
+  pub entries : middle.entries ≡ before.entries ++ map Start (loads_for before who cells)
+  pub numbers : map (λ job. job.load) jobs ≡ load_numbers before who cells
+  pub are : All (IsJobOf middle) jobs
+  pub legal : Legal middle.setting middle.entries
+
+module _ (before middle : CacheOf) (who : Who) (cells : List Cell) (jobs : List JobOf) (look : IsStarted before middle who cells jobs) where
+  whole_jobs : (rest : List Entry)
+      → All (λ job. job.who ≡ who) jobs × (sum_by rows_of_job jobs ≡ sum_by (rows_to_read ((before.entries ++ map Start (loads_for before who cells)) ++ rest)) (map Start (loads_for before who cells)))
+  whole_jobs rest =
+      jobs_are middle.setting before.entries (loads_for before who cells) jobs who rest (length before.entries + 1) (subst (Legal middle.setting) look.entries look.legal) refl look.numbers
+      (subst (λ (es : List Entry). All (IsJobOf (record { setting = middle.setting; entries = es })) jobs) look.entries look.are) (loads_own before who cells)
+
+  -- the jobs are of the call
+  pub jobs_own : All (λ job. job.who ≡ who) jobs
+  jobs_own = (whole_jobs []).0
+
+  -- the ends of the jobs, behind the Starts
+  pub ended_added : (after : List Entry) (ended : EndsJobs middle.entries after jobs) → after ≡ before.entries ++ (map Start (loads_for before who cells) ++ ended.ends)
+  ended_added after ended = ended.entries ∙ ap (λ (es : List Entry). es ++ ended.ends) look.entries ∙ append_assoc before.entries (map Start (loads_for before who cells)) ended.ends
+
+  pub ended_are : (after : List Entry) (ended : EndsJobs middle.entries after jobs) → AreEnds who (load_numbers before who cells) ended.ends
+  ended_are after ended = subst (λ (ns : List ℕ). AreEnds who ns ended.ends) look.numbers (ends_of_call who jobs ended.ends jobs_own ended.are)
+
+  -- the loads that were started and ended
+  pub adds_ended : (after : CacheOf) → after.setting ≡ middle.setting → EndsJobs middle.entries after.entries jobs → AddsEnded before after who cells
+  adds_ended after same ended = record {
+    more = map Start (loads_for before who cells) ++ ended.ends;
+    setting = same ∙ look.setting;
+    entries = ended_added after.entries ended;
+    ended = inr (ended.ends, ended_are after.entries ended, refl);
+  }
+
+  -- the next call stays the next
+  pub next_again : (after : List Entry) → EndsJobs middle.entries after jobs → is_next_call before.entries who ≡ true → is_next_call after who ≡ true
+  next_again after ended next =
+      still_next before.entries after (map Start (loads_for before who cells) ++ ended.ends) who (ended_added after ended)
+      (parts_all who (map Start (loads_for before who cells) ++ ended.ends) (look_parts before who cells ended.ends (ended_are after ended))) next
+
+  -- the loads that were all delivered
+  pub all_delivered : (after : List Entry) → after ≡ middle.entries ++ map done_of jobs → after ≡ before.entries ++ loads_delivered before who cells
+  all_delivered after ended =
+      ended ∙ ap (λ (es : List Entry). es ++ map done_of jobs) look.entries ∙ append_assoc before.entries (map Start (loads_for before who cells)) (map done_of jobs)
+      ∙ ap (λ (es : List Entry). before.entries ++ (map Start (loads_for before who cells) ++ es)) (dones_of_call who jobs jobs_own ∙ ap (map (Done who)) look.numbers)
+
+  -- what the jobs read, beside the rows of what came after the Starts
+  pub read_by_starts :
+      (after rest : List Entry) → after ≡ middle.entries ++ rest → All (λ e. (actor e).seat ≡ 1) (map Start (loads_for before who cells) ++ rest)
+      → rows_started 1 before.entries after ≡ sum_by rows_of_job jobs + sum_by (rows_to_read after) rest
+  read_by_starts after rest grown own =
+      let joined : after ≡ (before.entries ++ map Start (loads_for before who cells)) ++ rest = grown ∙ ap (λ (es : List Entry). es ++ rest) look.entries in
+      rows_started_are before.entries after (map Start (loads_for before who cells)) rest (joined ∙ append_assoc before.entries (map Start (loads_for before who cells)) rest) own
+      ∙ ap (λ (m : ℕ). m + sum_by (rows_to_read after) rest) (ap (λ (es : List Entry). sum_by (rows_to_read es) (map Start (loads_for before who cells))) joined ∙ sym (whole_jobs rest).1)
+
+  pub read_ended : (after : List Entry) (ended : EndsJobs middle.entries after jobs) → who.seat ≡ 1 → rows_started 1 before.entries after ≡ sum_by rows_of_job jobs + sum_by (rows_to_read after) ended.ends
+  read_ended after ended seat =
+      read_by_starts after ended.ends ended.entries (parts_seat who 1 (map Start (loads_for before who cells) ++ ended.ends) seat (look_parts before who cells ended.ends (ended_are after ended)))
+
+  -- where they were all delivered and the cells were answered, just the jobs' rows were read
+  pub read_in_all :
+      (after : List Entry) (answer : Entry) → who.seat ≡ 1 → actor answer ≡ who → ((es : List Entry) → rows_to_read es answer ≡ 0) → after ≡ (middle.entries ++ map done_of jobs) ++ answer ∷ []
+      → rows_started 1 before.entries after ≡ sum_by rows_of_job jobs
+  read_in_all after answer seat own none grown =
+      let dones : map done_of jobs ≡ map (Done who) (load_numbers before who cells) = dones_of_call who jobs jobs_own ∙ ap (map (Done who)) look.numbers in
+      let parts : All (IsPartOf who) (map Start (loads_for before who cells) ++ map done_of jobs) =
+      subst (λ (es : List Entry). All (IsPartOf who) (map Start (loads_for before who cells) ++ es)) (sym dones)
+      (look_parts before who cells (map (Done who) (load_numbers before who cells)) (dones_are_ends who (load_numbers before who cells))) in
+      let last : All (λ e. (actor e).seat ≡ 1) (answer ∷ []) =
+      All-cons (λ e. (actor e).seat ≡ 1) answer [] (ap (λ (w : Who). w.seat) own ∙ seat) (All-nil (λ e. (actor e).seat ≡ 1)) in
+      let all : All (λ e. (actor e).seat ≡ 1) ((map Start (loads_for before who cells) ++ map done_of jobs) ++ answer ∷ []) =
+      All-append (λ e. (actor e).seat ≡ 1) (map Start (loads_for before who cells) ++ map done_of jobs) (answer ∷ []) (parts_seat who 1 (map Start (loads_for before who cells) ++ map done_of jobs) seat parts) last in
+      let read = read_by_starts after (map done_of jobs ++ answer ∷ []) (grown ∙ append_assoc middle.entries (map done_of jobs) (answer ∷ []))
+      (subst (λ (es : List Entry). All (λ e. (actor e).seat ≡ 1) es) (append_assoc (map Start (loads_for before who cells)) (map done_of jobs) (answer ∷ [])) all) in
+      let split = sum_by-append (rows_to_read after) (map done_of jobs) (answer ∷ []) in
+      let one : sum_by (rows_to_read after) (answer ∷ []) ≡ rows_to_read after answer + 0 = sum_by-cons (rows_to_read after) answer [] in
+      let nothing : rows_to_read after answer ≡ 0 = none after in
+      omega (arith, read, split, dones_read_none after jobs, one, nothing)

@@ -1,0 +1,93 @@
+-- The parts of the loads of one call are all of its seat.
+use Rattle.std.proofs.Common.{◌≡◌, refl, sym, ◌∙◌, ap, subst, ℕ, List, [], ◌∷◌, ◌++◌, map, true, ◌==◌, inl, inr, None, All}
+use Rattle.std.specs.List.{list_all}
+use Rattle.std.proofs.lemmas.Bool.{and_from, eq-eqb}
+use Rattle.std.proofs.lemmas.List.Elements.{All-cons, All-head, All-map, All-nil, All-tail, All-weaker}
+use Rattle.olap_meaning.specs.declared.cells.Cell.{Cell}
+use Rattle.olap_meaning.specs.declared.cells.Who.{Who}
+use Rattle.olap_meaning.specs.History.{Entry, Load, Start, Done, Drop, started}
+use Rattle.segment_load.specs.Loads.{JobOf}
+use Rattle.history_core.specs.Cache.{CacheOf}
+use Rattle.history_core.specs.Groups.{firsts, load_for, loads_for, wanting}
+use Rattle.history_core.specs.Seats.{actor, entries_of}
+use Rattle.line_session.specs.Desks.{AreEnds, is_start_or_done, is_of_load}
+use Rattle.manager_desk.specs.Ends.{AreEndsOf, done_of}
+
+-- an entry is a part of a load of a call
+pub record IsPartOf (who : Who) (entry : Entry) : Type 0 where
+  pub part : is_of_load entry ≡ true
+  pub own : actor entry ≡ who
+
+-- the entries of a seat, where all are
+pub own_entries : (seat : ℕ) (es : List Entry) → All (λ e. (actor e).seat ≡ seat) es → entries_of es seat ≡ es
+own_entries seat [] all = refl
+own_entries seat (e ∷ es) all =
+    let here : ((actor e).seat == seat) ≡ true = eq-eqb _ _ (All-head (λ o. (actor o).seat ≡ seat) e es all) in
+    rw here (ap (λ (xs : List Entry). e ∷ xs) (own_entries seat es (All-tail (λ o. (actor o).seat ≡ seat) e es all)))
+
+pub parts_seat : (who : Who) (seat : ℕ) (es : List Entry) → who.seat ≡ seat → All (IsPartOf who) es → All (λ e. (actor e).seat ≡ seat) es
+parts_seat who seat es at all = All-weaker (IsPartOf who) (λ e. (actor e).seat ≡ seat) (λ e is. ap (λ (w : Who). w.seat) is.own ∙ at) es all
+
+pub parts_all : (who : Who) (es : List Entry) → All (IsPartOf who) es → list_all is_of_load es ≡ true
+parts_all who [] all = refl
+parts_all who (e ∷ es) all = and_from _ _ (All-head (IsPartOf who) e es all).part (parts_all who es (All-tail (IsPartOf who) e es all))
+
+-- the loads of a look are of its call
+for_call : (cache : CacheOf) (who : Who) (wanted cells : List Cell) → All (λ load. load.who ≡ who) (map (load_for cache who wanted) cells)
+for_call cache who wanted [] = All-nil (λ load. load.who ≡ who)
+for_call cache who wanted (cell ∷ cells) = All-cons (λ load. load.who ≡ who) (load_for cache who wanted cell) (map (load_for cache who wanted) cells) refl (for_call cache who wanted cells)
+
+pub loads_own : (cache : CacheOf) (who : Who) (cells : List Cell) → All (λ load. load.who ≡ who) (loads_for cache who cells)
+loads_own cache who cells = for_call cache who (wanting cache.entries cells) (firsts [] (wanting cache.entries cells))
+
+pub starts_parts : (who : Who) (loads : List Load) → All (λ load. load.who ≡ who) loads → All (IsPartOf who) (map Start loads)
+starts_parts who loads own = All-map (IsPartOf who) Start loads (All-weaker (λ load. load.who ≡ who) (λ load. IsPartOf who (Start load)) (λ load is. record { part = refl; own = is }) loads own)
+
+pub ends_parts : (who : Who) (ns : List ℕ) (es : List Entry) → AreEnds who ns es → All (IsPartOf who) es
+ends_parts who [] [] are = All-nil (IsPartOf who)
+ends_parts who [] (e ∷ es) are = absurd are
+ends_parts who (n ∷ ns) [] are = absurd are
+ends_parts who (n ∷ ns) (e ∷ es) are = All-cons (IsPartOf who) e es here (ends_parts who ns es are.1)
+  where
+    here : IsPartOf who e
+    here = elim are.0 [
+      | inl done ↦ subst (IsPartOf who) (sym done) (record { part = refl; own = refl })
+      | inr dropped ↦ subst (IsPartOf who) (sym dropped) (record { part = refl; own = refl })
+    ]
+
+-- and no end starts a load
+pub ends_start_none : (who : Who) (ns : List ℕ) (es : List Entry) → AreEnds who ns es → All (λ e. started e ≡ None) es
+ends_start_none who [] [] are = All-nil (λ e. started e ≡ None)
+ends_start_none who [] (e ∷ es) are = absurd are
+ends_start_none who (n ∷ ns) [] are = absurd are
+ends_start_none who (n ∷ ns) (e ∷ es) are = All-cons (λ o. started o ≡ None) e es here (ends_start_none who ns es are.1)
+  where
+    here : started e ≡ None
+    here = elim are.0 [ inl done ↦ ap started done | inr dropped ↦ ap started dropped ]
+
+pub dones_are_ends : (who : Who) (ns : List ℕ) → AreEnds who ns (map (Done who) ns)
+dones_are_ends who [] = tt
+dones_are_ends who (n ∷ ns) = (inl refl, dones_are_ends who ns)
+
+-- what starts and deliveries are
+pub delivered_all : (who : Who) (loads : List Load) (ns : List ℕ) → list_all is_start_or_done (map Start loads ++ map (Done who) ns) ≡ true
+delivered_all who [] [] = refl
+delivered_all who [] (n ∷ ns) = delivered_all who [] ns
+delivered_all who (load ∷ loads) ns = delivered_all who loads ns
+
+-- the ends of jobs that are all of one call
+pub ends_of_call : (who : Who) (jobs : List JobOf) (es : List Entry) → All (λ job. job.who ≡ who) jobs → AreEndsOf jobs es → AreEnds who (map (λ job. job.load) jobs) es
+ends_of_call who [] [] own are = tt
+ends_of_call who [] (e ∷ es) own are = absurd are
+ends_of_call who (job ∷ jobs) [] own are = absurd are
+ends_of_call who (job ∷ jobs) (e ∷ es) own are =
+    let is : job.who ≡ who = All-head (λ j. j.who ≡ who) job jobs own in (
+      elim are.0 [ inl done ↦ inl (done ∙ ap (λ (w : Who). Done w job.load) is) | inr dropped ↦ inr (dropped ∙ ap (λ (w : Who). Drop w job.load) is) ],
+      ends_of_call who jobs es (All-tail (λ j. j.who ≡ who) job jobs own) are.1,
+    )
+
+pub dones_of_call : (who : Who) (jobs : List JobOf) → All (λ job. job.who ≡ who) jobs → map done_of jobs ≡ map (Done who) (map (λ job. job.load) jobs)
+dones_of_call who [] own = refl
+dones_of_call who (job ∷ jobs) own =
+    ap (λ (w : Who). Done w job.load ∷ map done_of jobs) (All-head (λ j. j.who ≡ who) job jobs own)
+    ∙ ap (λ (es : List Entry). Done who job.load ∷ es) (dones_of_call who jobs (All-tail (λ j. j.who ≡ who) job jobs own))

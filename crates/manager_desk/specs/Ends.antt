@@ -1,0 +1,59 @@
+-- How the loads of a look are ended, and what an ask adds to a manager's history.
+use Rattle.std.specs.Prelude.{ℕ, ◌≡◌, ◌⊎◌, ⊤, List, [], ◌∷◌, ◌++◌, Bool, true, false, length, map}
+use Rattle.olap_meaning.specs.declared.cells.Cell.{Cell}
+use Rattle.olap_meaning.specs.declared.cells.Who.{Who}
+use Rattle.olap_meaning.specs.Covering.{among}
+use Rattle.olap_meaning.specs.History.{Entry, Done, Drop, Answer, flying}
+use Rattle.segment_load.specs.Loads.{JobOf, rows_in}
+use Rattle.history_core.specs.Answers.{IsAnswer, source_of}
+use Rattle.history_core.specs.Cache.{CacheOf}
+use Rattle.history_core.specs.declared.answers.Answer.{Answer as Told}
+use Rattle.line_session.specs.Desks.{AreLoadsEnded, loads_delivered, with_more}
+
+-- the entry that ends a job: its load was delivered, or given up
+abbrev pub end_of : JobOf → Bool → Entry
+end_of job true = Done job.who job.load
+end_of job false = Drop job.who job.load
+
+-- the entry that delivers the load of a job
+abbrev pub done_of : JobOf → Entry
+done_of job = Done job.who job.load
+
+-- the rows that a job reads
+abbrev pub rows_of_job : JobOf → ℕ
+rows_of_job job = length (rows_in job.snapshot)
+
+-- each load that flies is that of one of some jobs
+abbrev pub AreOut : List Entry → List JobOf → Type 0
+AreOut entries jobs =
+    (j : ℕ) → flying entries j ≡ true → among (map (λ job. job.load) jobs) j ≡ true
+
+-- AreEndsOf jobs entries: the loads of these jobs are ended, each in its turn: delivered, or given up
+abbrev pub AreEndsOf : List JobOf → List Entry → Type 0
+AreEndsOf [] [] = ⊤
+AreEndsOf (job ∷ jobs) (entry ∷ entries) =
+    ((entry ≡ Done job.who job.load) ⊎ (entry ≡ Drop job.who job.load)) × AreEndsOf jobs entries
+AreEndsOf jobs entries = ⊥
+
+-- a history goes on by the ends of some jobs, and by nothing else
+pub record EndsJobs (before after : List Entry) (jobs : List JobOf) : Type 0 where
+  pub ends : List Entry
+  pub are : AreEndsOf jobs ends
+  pub entries : after ≡ before ++ ends
+
+-- the loads that some cells lack were delivered, and then the cells were answered, as the last entry
+pub record AddsAnswer (before after : CacheOf) (who : Who) (cells : List Cell)
+    (answer : Told) : Type 0 where
+  pub setting : after.setting ≡ before.setting
+  pub entries : after.entries
+      ≡ (before.entries ++ loads_delivered before who cells)
+      ++ Answer who (map (source_of (before.entries ++ loads_delivered before who cells)) cells)
+      ∷ []
+  pub answered : IsAnswer (with_more before (loads_delivered before who cells)) cells answer
+
+-- nothing was added, or the loads that some cells lack were started and ended
+pub record AddsEnded (before after : CacheOf) (who : Who) (cells : List Cell) : Type 0 where
+  pub more : List Entry
+  pub setting : after.setting ≡ before.setting
+  pub entries : after.entries ≡ before.entries ++ more
+  pub ended : AreLoadsEnded before who cells more

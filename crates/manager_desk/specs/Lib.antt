@@ -1,0 +1,3 @@
+pub mod Delivered
+pub mod Ends
+pub mod Keeping

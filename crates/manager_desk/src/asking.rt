@@ -1,0 +1,154 @@
+//! Asking a manager for cells: the loads that are missing are run, one after another.
+ghost use Rattle.std.specs.Prelude.{◌≡◌, ◌≤◌, ◌+◌, ◌++◌, ◌∷◌, [], All, IfOk, IsTrue, OnErr, OnOk, length, map, sum_by, true};
+ghost use Rattle.std.specs.List.{list_all};
+ghost use Rattle.olap_meaning.specs.History as history;
+ghost use Rattle.olap_meaning.specs.Legal.{is_next_call, is_cell};
+ghost use Rattle.segment_load.specs.Loads.{rows_in};
+ghost use Rattle.cache_manager.specs.Jobs.{IsJobOf, IsOwnBody};
+ghost use Rattle.cache_manager.specs.Runs.{apart};
+ghost use Rattle.history_core.specs.Answers.{HasSource, IsAnswer, source_of};
+ghost use Rattle.history_core.specs.Seats.{NoneFlies};
+ghost use Rattle.line_session.specs.Desks.{rows_started};
+ghost use Rattle.manager_desk.specs.Ends.{AddsAnswer, AddsEnded, AreOut, EndsJobs, done_of, end_of, rows_of_job};
+ghost use Rattle.manager_desk.specs.Keeping.{IsCount};
+
+use cache_manager::{Look, Manager};
+use fact_versions::Steps;
+use history_core::Answer;
+use olap_meaning::{Cell, List, OutOfMemory, Who};
+use segment_load::{LoadJob, run_load};
+use std::alloc::Global;
+use std::sync::ledger::Ledger;
+
+/// Ends a load of seat 1: where no load failed before, it is run and delivered; else, and where memory runs out, it is
+/// given up. Tells whether it was delivered, and counts the rows if so.
+fn end_load<L: Ledger>(
+    alloc: Global,
+    manager: &mut Manager,
+    job: LoadJob,
+    run: bool,
+    steps: &mut Steps<L>,
+    read: &mut u128,
+) -> bool
+    requires job { IsJobOf manager.old job }
+    requires seat { job.who.seat ≡ 1 }
+    requires count { IsCount manager.old.entries read.old }
+    ensures setting { manager.new.setting ≡ manager.old.setting }
+    ensures entry { manager.new.entries ≡ manager.old.entries ++ end_of job result ∷ [] }
+    ensures count { IsCount manager.new.entries read.new }
+    ensures failed { result ≡ true → run ≡ true }
+    ensures cost { result ≡ true → steps.new ≡ steps.old + length (rows_in job.snapshot) }
+    ensures at_least { steps.old ≤ steps.new }
+    ensures at_most { steps.new ≤ steps.old + length (rows_in job.snapshot) }
+{
+    manager.steps_are_legal();
+    if !run {
+        manager.abandon(job);
+        return false;
+    }
+    let rows = job.cost();
+    match run_load(alloc, job, steps) {
+        Ok(delivery) => {
+            let _entries = manager.history().len();
+            manager.deliver(delivery);
+            *read += u128::from(rows);
+            true
+        }
+        Err(back) => {
+            manager.abandon(back);
+            false
+        }
+    }
+}
+
+/// Ends loads of seat 1, one after another: each is run and delivered, until one fails for want of memory; that one and
+/// the rest are given up. Tells whether all were delivered.
+fn end_loads<L: Ledger>(
+    alloc: Global,
+    manager: &mut Manager,
+    jobs: List<LoadJob>,
+    steps: &mut Steps<L>,
+    read: &mut u128,
+) -> bool
+    requires jobs { All (IsJobOf manager.old) jobs }
+    requires seats { All (λ job. job.who.seat ≡ 1) jobs }
+    requires different { apart (map (λ job. job.load) jobs) ≡ true }
+    requires complete { AreOut manager.old.entries jobs }
+    requires count { IsCount manager.old.entries read.old }
+    ensures setting { manager.new.setting ≡ manager.old.setting }
+    ensures ended { EndsJobs manager.old.entries manager.new.entries jobs }
+    ensures closed { NoneFlies manager.new.entries }
+    ensures delivered { result ≡ true → manager.new.entries ≡ manager.old.entries
+        ++ map done_of jobs }
+    ensures count { IsCount manager.new.entries read.new }
+    ensures cost { result ≡ true → steps.new ≡ steps.old + sum_by rows_of_job jobs }
+    ensures at_least { steps.old ≤ steps.new }
+    ensures at_most { steps.new ≤ steps.old + sum_by rows_of_job jobs }
+{
+    let mut run = true;
+    for job in jobs.into_vec() {
+        manager.steps_are_legal();
+        run = end_load(alloc, manager, job, run, steps, read);
+    }
+    run
+}
+
+/// Answers cells that have sources.
+fn answer_ready(manager: &mut Manager, who: Who, cells: &[Cell]) -> Result<Answer, OutOfMemory>
+    requires call { IsTrue (is_next_call manager.old.entries who) }
+    requires known { IsTrue (list_all (is_cell manager.old.setting.catalog) cells.now) }
+    requires idle { NoneFlies manager.old.entries }
+    requires ready { All (HasSource manager.old) cells.now }
+    ensures setting { manager.new.setting ≡ manager.old.setting }
+    ensures entry { OnOk result
+        (manager.new.entries ≡ manager.old.entries
+        ++ history.Answer who (map (source_of manager.old.entries) cells.now) ∷ []) }
+    ensures answer { IfOk result (λ answer. IsAnswer manager.old cells.now answer) }
+    ensures unchanged { OnErr result (manager.new ≡ manager.old) }
+{
+    match manager.look(who, cells) {
+        Ok(Look::Ready(answer)) => Ok(answer),
+        Ok(Look::Load(_)) => unreachable!(),
+        Err(error) => Err(error),
+    }
+}
+
+/// Answers cells, in their order. The loads that are missing are run and delivered first; where one fails for want of
+/// memory, it and the rest are given up.
+pub(crate) fn ask<L: Ledger>(
+    alloc: Global,
+    manager: &mut Manager,
+    who: Who,
+    cells: &[Cell],
+    steps: &mut Steps<L>,
+    read: &mut u128,
+) -> Result<Answer, OutOfMemory>
+    requires call { IsTrue (is_next_call manager.old.entries who) }
+    requires seat { who.seat ≡ 1 }
+    requires known { IsTrue (list_all (is_cell manager.old.setting.catalog) cells.now) }
+    requires idle { NoneFlies manager.old.entries }
+    requires count { IsCount manager.old.entries read.old }
+    ensures answered { IfOk result (AddsAnswer manager.old manager.new who cells.now) }
+    ensures refused { OnErr result (AddsEnded manager.old manager.new who cells.now) }
+    ensures idle { NoneFlies manager.new.entries }
+    ensures count { IsCount manager.new.entries read.new }
+    ensures cost { OnOk result
+        (steps.new ≡ steps.old + rows_started 1 manager.old.entries manager.new.entries) }
+    ensures at_least { steps.old ≤ steps.new }
+    ensures at_most { steps.new
+        ≤ steps.old + rows_started 1 manager.old.entries manager.new.entries }
+{
+    manager.steps_are_legal();
+    match manager.look(who, cells)? {
+        Look::Ready(answer) => Ok(answer),
+        Look::Load(jobs) => {
+            manager.steps_are_legal();
+            if !end_loads(alloc, manager, jobs, steps, read) {
+                return Err(OutOfMemory);
+            }
+            manager.steps_are_legal();
+            let answer = answer_ready(manager, who, cells)?;
+            Ok(answer)
+        }
+    }
+}

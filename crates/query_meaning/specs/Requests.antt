@@ -1,0 +1,68 @@
+-- The commands of a line, and what a line with the command MDX asks for. A line and a text are lists of their bytes.
+use Rattle.std.specs.Prelude.{ℕ, ◌≡◌, ◌⊎◌, ◌&&◌, ◌||◌, List, [], ◌∷◌, Bool, true, false, not, Option, Some, None, bytes_eq, codes, drop, is_some, take, nat_le, if◌then◌else◌}
+use Rattle.std.specs.List.{list_all, list_any, position_or_len}
+use Rattle.std.specs.Option.{IsSome, option_map_or}
+use Rattle.std.specs.Str.{is_utf8}
+use Rattle.query_meaning.specs.declared.CellQuery.{CellQuery}
+use Rattle.query_meaning.specs.Queries.{IsCellQuery}
+use Rattle.query_meaning.specs.Tokens.{in_capitals, is_white}
+
+-- an ASCII letter
+abbrev pub is_letter : ℕ → Bool
+is_letter c = (nat_le 65 c && nat_le c 90) || (nat_le 97 c && nat_le c 122)
+
+-- nothing but white
+abbrev pub is_blank : List ℕ → Bool
+is_blank = list_all is_white
+
+-- a text without the white that it begins with
+abbrev pub after_white : List ℕ → List ℕ
+after_white text = drop (position_or_len (λ c. not (is_white c)) text) text
+
+-- the letters that a text begins with
+abbrev pub first_word : List ℕ → List ℕ
+first_word text = take (position_or_len (λ c. not (is_letter c)) text) text
+
+-- a text without the letters that it begins with
+abbrev pub behind_word : List ℕ → List ℕ
+behind_word text = drop (position_or_len (λ c. not (is_letter c)) text) text
+
+-- the argument of a command, by what stands behind its word: nothing, or what stands behind one white character
+abbrev pub argument_behind : List ℕ → Option (List ℕ)
+argument_behind [] = Some []
+argument_behind (c ∷ text) = if is_white c then Some text else None
+
+-- the argument of a command in a line, by the command's word in capital letters; None where the line has another
+-- word, or no white behind it
+abbrev pub argument_of : List ℕ → List ℕ → Option (List ℕ)
+argument_of word line =
+    if bytes_eq (in_capitals (first_word (after_white line))) word
+    then argument_behind (behind_word (after_white line)) else None
+
+-- a line has one of some commands, by their words in capital letters
+abbrev pub has_one_of : List (List ℕ) → List ℕ → Bool
+has_one_of words line = list_any (λ word. is_some (argument_of word line)) words
+
+-- the commands of which nothing is built yet
+abbrev pub unbuilt_commands : List (List ℕ)
+unbuilt_commands = codes "FLUSH" ∷ codes "AGG" ∷ codes "CACHE" ∷ []
+
+-- all commands
+abbrev pub commands : List (List ℕ)
+commands = codes "MDX" ∷ codes "APPEND" ∷ codes "AFTER" ∷ codes "QUIT" ∷ unbuilt_commands
+
+-- a line ends the session: QUIT, and white
+abbrev pub is_quit : List ℕ → Bool
+is_quit line = option_map_or is_blank (argument_of (codes "QUIT") line) false
+
+-- a line asks for one cell: MDX, and a query of one cell
+pub record AsksFor (line : List ℕ) (query : CellQuery) : Type 0 where
+  pub argument : List ℕ
+  pub command : argument_of (codes "MDX") line ≡ Some argument
+  pub writes : IsCellQuery argument query
+
+-- a line of text has one of the commands to which want of memory may be replied
+abbrev pub MayFindNoMemory : List ℕ → Type 0
+MayFindNoMemory line =
+    (is_utf8 line ≡ true)
+    × (IsSome (argument_of (codes "MDX") line) ⊎ IsSome (argument_of (codes "APPEND") line))

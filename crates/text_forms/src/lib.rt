@@ -1,0 +1,79 @@
+//! Reads texts of a form a character at a time, and tells the byte at which a text stops.
+//!
+//! A form is a trait: a state that takes a character or refuses it. What its contracts say of one character
+//! makes what the contract of `read` says of a whole text.
+#![tactic(auto)]
+
+ghost use Rattle.std.specs.Prelude.{◌≡◌, ℕ, List, IfOk, IfSome, OnErr, option_map};
+ghost use Rattle.text_forms.specs.Forms.{Steps, Finishes, GoesOn, Answers};
+
+use olap_meaning::OutOfMemory;
+use std::alloc::Global;
+
+/// A form of text, in the middle of a text.
+pub trait Form: Drop {
+    /// What a text is read as.
+    type Value: Drop;
+
+    /// What that means.
+    ghost Meaning: { Type 0 };
+
+    /// What a clause sees of a value.
+    ghost meaning: { Self.Value → Meaning };
+
+    /// The characters that may still come from the byte `at` on, and what the whole then means.
+    ghost rest: { Self → ℕ → List ℕ → Meaning → Type 0 };
+
+    /// What holds of each state that is reached.
+    ghost stands: { Self → Type 0 };
+
+    /// What a want of memory says: `⊥` where a form takes none.
+    ghost lacks: { Type 0 };
+
+    /// The state after a character, which begins at the byte `at`. None where it may not come.
+    fn step(self, alloc: Global, at: usize, c: char) -> Result<Option<Self>, OutOfMemory>
+        requires { stands self }
+        ensures kept { IfOk result (λ next. IfSome next stands) }
+        ensures steps { IfOk result (λ next. Steps rest self at c next) }
+        ensures memory { OnErr result lacks };
+
+    /// What the text is, if it may end here.
+    fn finish(self, alloc: Global) -> Result<Option<Self::Value>, OutOfMemory>
+        requires { stands self }
+        ensures finishes { IfOk result
+            (λ found. (at : ℕ) → Finishes (rest self at) (option_map meaning found)) }
+        ensures memory { OnErr result lacks };
+
+    /// From each state some text goes on to a whole: the closing text.
+    ghost closes: { (state : Self) (at : ℕ) → stands state → GoesOn (rest state at) };
+}
+
+/// Why a text is not read.
+#[derive(Clone, Copy, Debug, PartialEq, Eq)]
+pub enum ReadFault {
+    /// The text is none of the form. Its front up to this byte is the longest with which a text of the form begins.
+    StopsAt { byte: usize },
+    OutOfMemory,
+}
+
+/// What a text of a form is, or the byte at which it stops.
+pub fn read<F: Form>(alloc: Global, form: F, text: &str) -> Result<F::Value, ReadFault>
+    requires { F.stands form }
+    ensures { Answers F.meaning (F.rest form) F.lacks text.now result }
+{
+    let mut form = form;
+    let mut byte = 0;
+    for c in text.chars() {
+        match form.step(alloc, byte, c) {
+            Ok(Some(next)) => form = next,
+            Ok(None) => return Err(ReadFault::StopsAt { byte }),
+            Err(_) => return Err(ReadFault::OutOfMemory),
+        }
+        byte += c.len_utf8();
+    }
+    match form.finish(alloc) {
+        Ok(Some(value)) => Ok(value),
+        Ok(None) => Err(ReadFault::StopsAt { byte }),
+        Err(_) => Err(ReadFault::OutOfMemory),
+    }
+}
