@@ -107,6 +107,8 @@ impl Form for AppendReader {
 
     ghost stands = { fits };
 
+    ghost places = { λ at. Unit {0} };
+
     ghost lacks = { Unit {0} };
 
     fn step(self, alloc: Global, _at: usize, c: char) -> Result<Option<AppendReader>, OutOfMemory> {

@@ -24,6 +24,8 @@ impl Form for BlankReader {
 
     ghost stands = { λ _. Unit {0} };
 
+    ghost places = { λ at. Unit {0} };
+
     ghost lacks = { ⊥ };
 
     fn step(self, _alloc: Global, _at: usize, c: char) -> Result<Option<BlankReader>, OutOfMemory> {

@@ -32,6 +32,8 @@ impl Form for PositionReader {
 
     ghost stands = { fits };
 
+    ghost places = { λ at. Unit {0} };
+
     ghost lacks = { ⊥ };
 
     fn step(

@@ -37,7 +37,7 @@ pub record ArgumentStops {Q : Type 0} (word : List ℕ) (form : ℕ → List ℕ
     (line : List ℕ) (byte : ℕ) : Type 0 where
   pub argument : List ℕ
   pub command : argument_of word line ≡ Some argument
-  pub stops : StopsAt form argument byte
+  pub stops : StopsAt (Writes form) argument byte
 
 -- a line has a command whose argument stops at this byte
 abbrev pub Stopped : List ℕ → ℕ → Type 0

@@ -6,3 +6,11 @@ pub mod Arms
 pub mod Loop
 pub mod Once
 pub mod Paths
+pub mod Answering
+pub mod Wants
+pub mod Finishes
+pub mod WholeQueries
+pub mod TextPlaces
+pub mod Whites
+pub mod NameTexts
+pub mod PathReading

@@ -1,2 +1,13 @@
 pub mod Lexer
 pub mod Parser
+pub mod Words
+pub mod Places
+pub mod Tellings
+pub mod Begins
+pub mod SetMoves
+pub mod PathMoves
+pub mod AxisMoves
+pub mod Closings
+pub mod QueryTexts
+pub mod PathTexts
+pub mod PathSteps

@@ -1,11 +1,11 @@
 //! Reads a text into its tokens, a character at a time.
 ghost use Rattle.std.specs.Prelude.{◌≡◌, ◌≢◌, MatchBool, [], IfOk, MatchOption, string_bytes, encode_utf8, false};
-ghost use Rattle.query_meaning.specs.Tokens.{Spells, keyword_text};
+ghost use Rattle.query_meaning.specs.CellTokens.{CellSpells, cell_keyword_text};
 ghost use Rattle.mdx_reader.specs.Lexer.{start_of, IsNoKeyword, HasNoTokens, InWord, Closing, Continues, Steps, Ends, EndsWord, EndsName};
 
 use crate::mode::{Mode, Start};
 use olap_meaning::{OutOfMemory, Text};
-use query_meaning::{Keyword, Sign, Token};
+use query_meaning::{CellKeyword, CellSign, CellToken};
 use std::alloc::Global;
 use std::collections::VecDeque;
 
@@ -18,9 +18,9 @@ fn start_of(c: char) -> Start
         ' ' | '\t' => Start::White,
         '0'..='9' | 'A'..='Z' | 'a'..='z' => Start::Word,
         '[' => Start::Name,
-        '{' => Start::Sign(Sign::OpenBrace),
-        '}' => Start::Sign(Sign::CloseBrace),
-        '.' => Start::Sign(Sign::Dot),
+        '{' => Start::Sign(CellSign::OpenBrace),
+        '}' => Start::Sign(CellSign::CloseBrace),
+        '.' => Start::Sign(CellSign::Dot),
         _ => Start::Nothing,
     }
 }
@@ -33,23 +33,27 @@ fn is_letter(c: char) -> bool
 }
 
 // The keyword that a word in capital letters is.
-fn keyword_of(letters: &str) -> Option<Keyword>
+fn keyword_of(letters: &str) -> Option<CellKeyword>
     ensures { MatchOption result (IsNoKeyword letters.now)
-        (λ keyword. letters.now ≡ keyword_text keyword) }
+        (λ keyword. letters.now ≡ cell_keyword_text keyword) }
 {
     match letters {
-        "SELECT" => Some(Keyword::Select),
-        "ON" => Some(Keyword::On),
-        "COLUMNS" => Some(Keyword::Columns),
-        "FROM" => Some(Keyword::From),
+        "SELECT" => Some(CellKeyword::Select),
+        "ON" => Some(CellKeyword::On),
+        "COLUMNS" => Some(CellKeyword::Columns),
+        "FROM" => Some(CellKeyword::From),
         _ => None,
     }
 }
 
 // Reads a character between tokens. None where no token begins with it.
-fn begin(alloc: Global, tokens: &mut VecDeque<Token>, c: char) -> Result<Option<Mode>, OutOfMemory>
+fn begin(
+    alloc: Global,
+    tokens: &mut VecDeque<CellToken>,
+    c: char,
+) -> Result<Option<Mode>, OutOfMemory>
     ensures { IfOk result
-        (λ next. Steps tokens.old.items (Spells false) (encode_utf8 c) tokens.new.items next) }
+        (λ next. Steps tokens.old.items (CellSpells false) (encode_utf8 c) tokens.new.items next) }
 {
     match start_of(c) {
         Start::White => Ok(Some(Mode::Between)),
@@ -60,7 +64,7 @@ fn begin(alloc: Global, tokens: &mut VecDeque<Token>, c: char) -> Result<Option<
         }
         Start::Name => Ok(Some(Mode::InName(String::new(alloc)))),
         Start::Sign(sign) => {
-            tokens.push_back(Token::Sign(sign))?;
+            tokens.push_back(CellToken::Sign(sign))?;
             Ok(Some(Mode::Between))
         }
         Start::Nothing => Ok(None),
@@ -68,19 +72,19 @@ fn begin(alloc: Global, tokens: &mut VecDeque<Token>, c: char) -> Result<Option<
 }
 
 // Ends a word. False where it is no keyword.
-fn end_word(tokens: &mut VecDeque<Token>, letters: &str) -> Result<bool, OutOfMemory>
+fn end_word(tokens: &mut VecDeque<CellToken>, letters: &str) -> Result<bool, OutOfMemory>
     ensures { IfOk result
         (λ ended. Ends EndsWord tokens.old.items (InWord letters.now) tokens.new.items ended) }
 {
     let Some(keyword) = keyword_of(letters) else {
         return Ok(false);
     };
-    tokens.push_back(Token::Keyword(keyword))?;
+    tokens.push_back(CellToken::Keyword(keyword))?;
     Ok(true)
 }
 
 // Ends a name. False where it is empty.
-fn end_name(tokens: &mut VecDeque<Token>, name: String) -> Result<bool, OutOfMemory>
+fn end_name(tokens: &mut VecDeque<CellToken>, name: String) -> Result<bool, OutOfMemory>
     ensures { IfOk result
         (λ ended. Ends EndsName tokens.old.items
         (Closing (string_bytes name)) tokens.new.items ended) }
@@ -88,14 +92,14 @@ fn end_name(tokens: &mut VecDeque<Token>, name: String) -> Result<bool, OutOfMem
     if name.is_empty() {
         return Ok(false);
     }
-    tokens.push_back(Token::Name(Text::from_string(name)))?;
+    tokens.push_back(CellToken::Name(Text::from_string(name)))?;
     Ok(true)
 }
 
 // Reads a character. None where what was read has no tokens, however it goes on.
 fn step(
     alloc: Global,
-    tokens: &mut VecDeque<Token>,
+    tokens: &mut VecDeque<CellToken>,
     mode: Mode,
     c: char,
 ) -> Result<Option<Mode>, OutOfMemory>
@@ -135,7 +139,7 @@ fn step(
 }
 
 // Ends the text. False where it ends within a token.
-fn end_text(tokens: &mut VecDeque<Token>, mode: Mode) -> Result<bool, OutOfMemory>
+fn end_text(tokens: &mut VecDeque<CellToken>, mode: Mode) -> Result<bool, OutOfMemory>
     ensures { IfOk result
         (λ ended. Ends
         (λ text. text ≡ []) tokens.old.items (Continues mode) tokens.new.items ended) }
@@ -149,10 +153,13 @@ fn end_text(tokens: &mut VecDeque<Token>, mode: Mode) -> Result<bool, OutOfMemor
 }
 
 /// The tokens of a text. None where it has none.
-pub(crate) fn read_tokens(alloc: Global, text: &str) -> Result<Option<VecDeque<Token>>, OutOfMemory>
+pub(crate) fn read_tokens(
+    alloc: Global,
+    text: &str,
+) -> Result<Option<VecDeque<CellToken>>, OutOfMemory>
     ensures { IfOk result
         (λ found. MatchOption found (HasNoTokens text.now)
-        (λ tokens. Spells false tokens.items text.now)) }
+        (λ tokens. CellSpells false tokens.items text.now)) }
 {
     let mut tokens = VecDeque::new(alloc);
     let mut mode = Mode::Between;

@@ -1,6 +1,6 @@
 //! Where a reader of tokens stands.
 
-use query_meaning::Sign;
+use query_meaning::CellSign;
 
 /// What a character begins.
 #[derive(Clone, Copy)]
@@ -8,7 +8,7 @@ pub(crate) enum Start {
     White,
     Word,
     Name,
-    Sign(Sign),
+    Sign(CellSign),
     Nothing,
 }
 

@@ -1,5 +1,15 @@
 pub mod Lines
 pub mod Tokens
+pub mod Next
+pub mod Keywords
+pub mod Tree
+pub mod Codes
+pub mod View
+pub mod Sizes
+pub mod Falls
+pub mod Grammar
+pub mod WholeQueries
+pub mod CellTokens
 pub mod Queries
 pub mod Grids
 pub mod CellQueries

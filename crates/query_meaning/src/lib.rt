@@ -3,30 +3,42 @@
 //! The definitions stand in `specs/`, over plain lists and numbers. The types here are the plain data that they name.
 #![tactic(auto)]
 
-use olap_meaning::{List, Text};
+mod axes;
+mod keyword;
+mod query;
+mod set_shape;
+mod set_text;
+mod token;
 
-/// A keyword. Its letters may be of either case.
+pub use axes::{Axes, Axis};
+pub use keyword::Keyword;
+use olap_meaning::{List, Text};
+pub use query::{AxisText, Query};
+pub use set_text::{Picks, SetShape, SetText, SetTexts};
+pub use token::{Class, Token};
+
+/// A keyword of a query of one cell. Its letters may be of either case.
 #[derive(Clone, Copy, Debug, PartialEq, Eq)]
-pub enum Keyword {
+pub enum CellKeyword {
     Select,
     On,
     Columns,
     From,
 }
 
-/// A sign.
+/// A sign of a query of one cell.
 #[derive(Clone, Copy, Debug, PartialEq, Eq)]
-pub enum Sign {
+pub enum CellSign {
     OpenBrace,
     CloseBrace,
     Dot,
 }
 
-/// A token.
+/// A token of a query of one cell.
 #[derive(Drop)]
-pub enum Token {
-    Keyword(Keyword),
-    Sign(Sign),
+pub enum CellToken {
+    Keyword(CellKeyword),
+    Sign(CellSign),
     /// A name, with a `]` for each `]]` between its brackets.
     Name(Text),
 }

@@ -7,9 +7,9 @@ use Rattle.std.proofs.lemmas.Bool.{cases_eq}
 use Rattle.std.proofs.lemmas.Bool.Decides.{nat_tests}
 use Rattle.std.proofs.lemmas.Str.{length-encode, encode_ascii}
 use Rattle.std.proofs.lemmas.Str.Ascii.{IsAscii-cons}
-use Rattle.query_meaning.specs.Tokens.{escaped}
+use Rattle.query_meaning.specs.Tokens.{escaped, size}
 use Rattle.text_forms.specs.Forms.{GoesOn}
-use Rattle.text_forms.specs.Names.{size, InName, Closing}
+use Rattle.text_forms.specs.Names.{InName, Closing}
 
 -- a character that is no "]" stands as it is
 pub escaped_other : (d : ℕ) (more : List ℕ) → d ≢ 93 → escaped (d ∷ more) ≡ d ∷ escaped more

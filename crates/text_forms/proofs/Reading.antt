@@ -32,6 +32,14 @@ place_within text front c tail at u e f =
     let n = length-encode c in
     omega (arith, k, f, b, n)
 
+-- a character takes a byte at least, so it begins within the text
+pub begins_within : (text front : List ℕ) (c : ℕ) (tail : List ℕ) (at : ℕ) → IsUtf8 text → chars text ≡ front ++ c ∷ tail → at ≡ length (encode_utf8_all front) → at < length text
+begins_within text front c tail at u e f =
+    let w = place_within text front c tail at u e f in
+    let b = headed c in
+    let n : suc (length b.others) ≡ len_utf8 c = sym (ap length b.parts) ∙ length-encode c in
+    omega (arith, w, n)
+
 module _ {Q : Type 0} (R : ℕ → List ℕ → Q → Type 0) where
   -- what was read so far, with a character that is taken
   pub further : (R1 R2 : ℕ → List ℕ → Q → Type 0) (front : List ℕ) (at c : ℕ) → IsSoFar R front (R1 at) → Takes R1 R2 at c → IsSoFar R (front ++ c ∷ []) (R2 (at + len_utf8 c))
@@ -60,7 +68,7 @@ module _ {Q : Type 0} (R : ℕ → List ℕ → Q → Type 0) where
   no_character R1 front at c h t byte others bytes (d ∷ cs) q e f r = t d cs q (alike c d byte others bytes (encode_utf8_all cs) e (sym f)) ((h (d ∷ cs) q).0 r)
 
   -- a character was refused: the text stops before it
-  pub stops : (R1 : ℕ → List ℕ → Q → Type 0) (text front : List ℕ) (at c : ℕ) (tail : List ℕ) → IsUtf8 text → chars text ≡ front ++ c ∷ tail → at ≡ length (encode_utf8_all front) → IsSoFar R front (R1 at) → GoesOn (R1 at) → Refuses R1 at c → StopsAt R text at
+  pub stops : (R1 : ℕ → List ℕ → Q → Type 0) (text front : List ℕ) (at c : ℕ) (tail : List ℕ) → IsUtf8 text → chars text ≡ front ++ c ∷ tail → at ≡ length (encode_utf8_all front) → IsSoFar R front (R1 at) → GoesOn (R1 at) → Refuses R1 at c → StopsAt (Writes R) text at
   stops R1 text front at c tail u e f h g t =
       let k = cut text front (c ∷ tail) u e in
       let b = headed c in
@@ -87,7 +95,7 @@ module _ {Q : Type 0} (R : ℕ → List ℕ → Q → Type 0) where
       )
 
   -- the text ended, where something must come: it stops at its end
-  pub ends_early : (R1 : List ℕ → Q → Type 0) (text front : List ℕ) (at : ℕ) → IsUtf8 text → front ≡ chars text → at ≡ length (encode_utf8_all front) → IsSoFar R front R1 → GoesOn R1 → Finishes R1 None → StopsAt R text at
+  pub ends_early : (R1 : List ℕ → Q → Type 0) (text front : List ℕ) (at : ℕ) → IsUtf8 text → front ≡ chars text → at ≡ length (encode_utf8_all front) → IsSoFar R front R1 → GoesOn R1 → Finishes R1 None → StopsAt (Writes R) text at
   ends_early R1 text front at u e f h g t =
       let k = append-nil front ∙ e in
       let whole : encode_utf8_all front ≡ text = ap encode_utf8_all e ∙ encodes-chars text u in

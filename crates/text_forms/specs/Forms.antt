@@ -41,14 +41,15 @@ pub record Writes {Q : Type 0} (R : ℕ → List ℕ → Q → Type 0) (text : L
   pub utf8 : IsUtf8 text
   pub means : R 0 (chars text) q
 
--- the text is none of the form, and `byte` ends its longest front with which a text of the form begins
-pub record StopsAt {Q : Type 0} (R : ℕ → List ℕ → Q → Type 0) (text : List ℕ) (byte : ℕ)
+-- the text has none of the meanings that `W` gives to texts, and `byte` ends its longest front with which a text begins
+-- that has one
+pub record StopsAt {Q : Type 0} (W : List ℕ → Q → Type 0) (text : List ℕ) (byte : ℕ)
     : Type 0 where
   pub within : byte ≤ length text
-  pub none : (q : Q) → ¬ Writes R text q
-  pub goes_on : (more : List ℕ) × (q : Q) × Writes R (take byte text ++ more) q
+  pub none : (q : Q) → ¬ W text q
+  pub goes_on : (more : List ℕ) × (q : Q) × W (take byte text ++ more) q
   pub no_further : byte < length text
-      → (more : List ℕ) (q : Q) → ¬ Writes R (take (suc byte) text ++ more) q
+      → (more : List ℕ) (q : Q) → ¬ W (take (suc byte) text ++ more) q
 
 -- what the text means, which is its one meaning; or the byte at which it stops; or, where `Lacks` allows it, a want of
 -- memory
@@ -56,7 +57,7 @@ abbrev pub Answers : {V Q : Type 0} → (V → Q) → (ℕ → List ℕ → Q �
     → Result V ReadFault → Type 0
 Answers {V} {Q} meaning R Lacks text (Ok value) =
     Writes R text (meaning value) × ((q : Q) → Writes R text q → q ≡ meaning value)
-Answers meaning R Lacks text (Err (fault.StopsAt byte)) = StopsAt R text byte
+Answers meaning R Lacks text (Err (fault.StopsAt byte)) = StopsAt (Writes R) text byte
 Answers meaning R Lacks text (Err fault.OutOfMemory) = Lacks
 
 -- the characters `front` were read: what completes them is what may still come

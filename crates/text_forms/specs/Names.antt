@@ -1,10 +1,6 @@
 -- Names in brackets.
-use Rattle.std.specs.Prelude.{◌≡◌, ◌≢◌, ◌⊎◌, ◌++◌, ◌+◌, ℕ, List, [], ◌∷◌, length, encode_utf8, encode_utf8_all}
-use Rattle.query_meaning.specs.Tokens.{escaped}
-
--- how many bytes some characters take
-abbrev pub size : List ℕ → ℕ
-size cs = length (encode_utf8_all cs)
+use Rattle.std.specs.Prelude.{◌≡◌, ◌≢◌, ◌⊎◌, ◌++◌, ◌+◌, ℕ, List, [], ◌∷◌, encode_utf8, encode_utf8_all}
+use Rattle.query_meaning.specs.Tokens.{escaped, size}
 
 -- in a name, after the bytes `front` of it, at the byte `at`: its other characters come and its "]", it has a
 -- character, and then what `Then` says of the byte behind it, of the name's bytes and of the characters that follow

@@ -4,7 +4,7 @@
 //! makes what the contract of `read` says of a whole text.
 #![tactic(auto)]
 
-ghost use Rattle.std.specs.Prelude.{◌≡◌, ℕ, List, IfOk, IfSome, OnErr, option_map};
+ghost use Rattle.std.specs.Prelude.{◌≡◌, ◌<◌, ℕ, List, IfOk, IfSome, OnErr, length, option_map};
 ghost use Rattle.text_forms.specs.Forms.{Steps, Finishes, GoesOn, Answers};
 
 use olap_meaning::OutOfMemory;
@@ -27,12 +27,16 @@ pub trait Form: Drop {
     /// What holds of each state that is reached.
     ghost stands: { Self → Type 0 };
 
+    /// The bytes at which a character may begin: all of them, where a form does not keep places.
+    ghost places: { ℕ → Type 0 };
+
     /// What a want of memory says: `⊥` where a form takes none.
     ghost lacks: { Type 0 };
 
     /// The state after a character, which begins at the byte `at`. None where it may not come.
     fn step(self, alloc: Global, at: usize, c: char) -> Result<Option<Self>, OutOfMemory>
-        requires { stands self }
+        requires stands { stands self }
+        requires place { places at }
         ensures kept { IfOk result (λ next. IfSome next stands) }
         ensures steps { IfOk result (λ next. Steps rest self at c next) }
         ensures memory { OnErr result lacks };
@@ -58,7 +62,8 @@ pub enum ReadFault {
 
 /// What a text of a form is, or the byte at which it stops.
 pub fn read<F: Form>(alloc: Global, form: F, text: &str) -> Result<F::Value, ReadFault>
-    requires { F.stands form }
+    requires stands { F.stands form }
+    requires places { (i : ℕ) → i < length text.now → F.places i }
     ensures { Answers F.meaning (F.rest form) F.lacks text.now result }
 {
     let mut form = form;

@@ -7,7 +7,7 @@ use Rattle.std.proofs.lemmas.List.{map-id}
 use Rattle.std.proofs.lemmas.Iterator.{YieldsList-from_chars}
 use Rattle.std.proofs.lemmas.Iterator.Consumers.{YieldsList-turn, YieldsList-end, YieldsList-so_far}
 use Rattle.text_forms.specs.Forms.{Steps, Finishes, IsSoFar}
-use Rattle.text_forms.proofs.Reading.{one, place_on, place_within, further, stops, ends, ends_early}
+use Rattle.text_forms.proofs.Reading.{one, place_on, place_within, begins_within, further, stops, ends, ends_early}
 use Rattle.text_forms.proofs.read.Goals as goal
 
 -- a list that is equal to itself, item by item
@@ -24,6 +24,15 @@ returns-in-Ok-None g c =
     let f = same_list l.yielded (YieldsList-so_far y l.yielded _ l.yielded_by) in
     let s = subst (λ (x : Option g.row.F.Denot). Steps rest l.form l.byte c.in-Some.c x) c.in-Ok-None.field-0-is c.in-Ok-None.ensures.steps in
     stops (rest c.args.form) (rest l.form) c.args.text.now l.yielded l.byte c.in-Some.c (drop (length l.yielded + 1) all) c.utf8.text (one all l.yielded c.in-Some.c t f) l.invariant.place l.invariant.far (g.met.F.Form.closes l.form l.byte l.invariant.kept) s
+
+pub step-requires-clause-place : goal.step-requires-clause-place
+step-requires-clause-place g c =
+    let all = chars c.args.text.now in
+    let l = c.loop-c in
+    let y = YieldsList-from_chars c.args.text.now c.utf8.text cc in
+    let t = YieldsList-turn y l.yielded _ l.yielded_by _ _ c.in-Some.c c.in-Some.is c.next.ensures.steps in
+    let f = same_list l.yielded (YieldsList-so_far y l.yielded _ l.yielded_by) in
+    c.requires.places l.byte (begins_within c.args.text.now l.yielded c.in-Some.c (drop (length l.yielded + 1) all) l.byte c.utf8.text (one all l.yielded c.in-Some.c t f) l.invariant.place)
 
 pub overflow_add-byte : goal.overflow_add-byte
 overflow_add-byte g c =

@@ -1,7 +1,7 @@
 -- That `query_of_tokens` ensures what it says.
 use Rattle.std.proofs.Common.{◌≡◌, ◌∷◌, rules, subst}
-use Rattle.query_meaning.specs.declared.Token.TheVariants.{Sign}
-use Rattle.query_meaning.specs.declared.Sign.TheVariants.{OpenBrace}
+use Rattle.query_meaning.specs.declared.CellToken.TheVariants.{Sign}
+use Rattle.query_meaning.specs.declared.CellSign.TheVariants.{OpenBrace}
 use Rattle.mdx_reader.specs.Parser.{TookPath}
 use Rattle.mdx_reader.proofs.Paths.{behind_path, behind_keyword, nothing_behind}
 use Rattle.mdx_reader.proofs.parser.query_of_tokens.Goals as goal

@@ -1,7 +1,7 @@
 -- That `take_path` ensures what it says.
 use Rattle.std.proofs.Common.{◌∙◌, ap, ◌∷◌}
-use Rattle.query_meaning.specs.declared.Sign.TheVariants.{OpenBrace}
-use Rattle.query_meaning.specs.declared.Token.TheVariants.{Sign}
+use Rattle.query_meaning.specs.declared.CellSign.TheVariants.{OpenBrace}
+use Rattle.query_meaning.specs.declared.CellToken.TheVariants.{Sign}
 use Rattle.mdx_reader.proofs.Paths.{path_closes, no_name_here, no_sign_here, other_sign_here}
 use Rattle.mdx_reader.proofs.parser.take_path.Goals as goal
 
