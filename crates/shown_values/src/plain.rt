@@ -1,0 +1,60 @@
+//! The texts of values.
+ghost use Rattle.std.specs.Prelude.{◌≡◌, IfOk, string_bytes};
+ghost use Rattle.shown_values.specs.Shown.{CanBeShown, Shows, bare, breaks};
+
+use olap_meaning::{CellValue, OutOfMemory, Text, plain_text};
+use std::alloc::Global;
+
+/// The plain text of a value.
+#[tactic(auto, using(crate::proofs::PlainFacts::plain_is_bare, crate::proofs::PlainFacts::plain_has_no_break))]
+pub fn shown_plainly(alloc: Global, value: &CellValue) -> Result<Text, OutOfMemory>
+    requires { CanBeShown value.now }
+    ensures { IfOk result (Shows value.now) }
+{
+    plain_text(alloc, value)
+}
+
+/// The text of a value with a comma before each three digits of its whole part, but not at its start.
+pub fn shown_with_commas(alloc: Global, value: &CellValue) -> Result<Text, OutOfMemory>
+    requires { CanBeShown value.now }
+    ensures { IfOk result (Shows value.now) }
+{
+    let plain = plain_text(alloc, value)?;
+    let text = with_commas(alloc, plain.as_str())?;
+    Ok(Text::from_string(text))
+}
+
+// The number of digits before the dot.
+fn whole_digits(text: &[u8]) -> usize {
+    let mut count: usize = 0;
+    for byte in text {
+        if *byte == b'.' {
+            break;
+        }
+        if byte.is_ascii_digit() {
+            count = count.saturating_add(1);
+        }
+    }
+    count
+}
+
+// A text with a comma before each three digits of its whole part, but not before its first digit.
+fn with_commas(alloc: Global, plain: &str) -> Result<String, OutOfMemory>
+    ensures same { IfOk result (λ text. bare (string_bytes text) ≡ bare plain.now) }
+    ensures breaks { IfOk result (λ text. breaks (string_bytes text) ≡ breaks plain.now) }
+{
+    let mut left = whole_digits(plain.as_bytes());
+    let mut begun = false;
+    let mut text = String::new(alloc);
+    for c in plain.chars() {
+        if c.is_ascii_digit() && left > 0 {
+            if begun && left % 3 == 0 {
+                text.push(',')?;
+            }
+            begun = true;
+            left -= 1;
+        }
+        text.push(c)?;
+    }
+    Ok(text)
+}
