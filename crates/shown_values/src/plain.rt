@@ -1,5 +1,6 @@
 //! The texts of values.
 ghost use Rattle.std.specs.Prelude.{◌≡◌, IfOk, string_bytes};
+ghost use Rattle.olap_meaning.specs.Texts.{plain_text};
 ghost use Rattle.shown_values.specs.Shown.{CanBeShown, Shows, bare, breaks};
 
 use olap_meaning::{CellValue, OutOfMemory, Text, plain_text};
@@ -9,7 +10,8 @@ use std::alloc::Global;
 #[tactic(auto, using(crate::proofs::PlainFacts::plain_is_bare, crate::proofs::PlainFacts::plain_has_no_break))]
 pub fn shown_plainly(alloc: Global, value: &CellValue) -> Result<Text, OutOfMemory>
     requires { CanBeShown value.now }
-    ensures { IfOk result (Shows value.now) }
+    ensures plain { IfOk result (λ text. text ≡ plain_text value.now) }
+    ensures shows { IfOk result (Shows value.now) }
 {
     plain_text(alloc, value)
 }
