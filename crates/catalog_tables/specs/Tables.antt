@@ -1,9 +1,10 @@
 -- The tables of dimensions, and how the values of their fields are numbered.
-use Rattle.std.specs.Prelude.{ℕ, zero, suc, filter_map, ◌≡◌, ◌≤◌, List, Bool, ◌==◌, [], ◌∷◌, ◌++◌, Option, Some, None, length, map, position, bytes_eq, true, slice_get, nat_lt, if◌then◌else◌}
+use Rattle.std.specs.Prelude.{ℕ, zero, suc, filter_map, ◌≡◌, ◌≤◌, List, Bool, ◌==◌, [], ◌∷◌, ◌++◌, Option, Some, None, length, map, not, position, bytes_eq, true, slice_get, nat_lt, if◌then◌else◌}
 use Rattle.std.specs.List.{list_any, list_all}
 use Rattle.olap_meaning.specs.declared.tables.Record.{Record}
 use Rattle.olap_meaning.specs.declared.schema.TheConstants.{RECORD_LIMIT}
 use Rattle.olap_meaning.specs.Catalog.{first_appearances, field_texts}
+use Rattle.olap_meaning.specs.Records.{is_null}
 
 -- a dimension's table: how many fields a record has, and the records
 pub record TableOf : Type 0 where
@@ -26,6 +27,10 @@ number_of texts text = position (bytes_eq text) (first_appearances texts)
 abbrev pub have_fields : ℕ → List Record → Bool
 have_fields levels records = list_all (λ record_there. length record_there.fields == levels) records
 
+-- no record has an empty field
+abbrev pub are_filled : List Record → Bool
+are_filled records = list_all (λ record_there. not (list_any is_null record_there.fields)) records
+
 -- the columns of a table: one for each field, with its texts record by record
 abbrev pub column_of : ℕ → List Record → ℕ → Option (List (List ℕ))
 column_of levels records field =
@@ -42,8 +47,9 @@ pub record AreNumbered (names : List (List ℕ)) (numbers : List ℕ)
 pub record AreRecords (levels : ℕ) (keys : List (List ℕ)) (fields : List (List (List ℕ)))
     (records : List Record) : Type 0 where
   pub keyed : keys ≡ map (λ record_there. record_there.key) records
-  pub filled : fields ≡ map (λ record_there. record_there.fields) records
+  pub rows : fields ≡ map (λ record_there. record_there.fields) records
   pub even : have_fields levels records ≡ true
+  pub filled : are_filled records ≡ true
   pub room : length records ≤ RECORD_LIMIT
 
 -- the record with a key

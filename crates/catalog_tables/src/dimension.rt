@@ -1,6 +1,6 @@
 //! A dimension's table with the texts of its fields numbered.
 ghost use Rattle.std.specs.Prelude.{◌≡◌, ◌<◌, ◌≤◌, [], length, filter_map, position, slice_get, bytes_eq, option_copied, IfOk, OnOk, true};
-ghost use Rattle.catalog_tables.specs.Tables.{column_of, find_key, columns_from, texts_at, have_fields};
+ghost use Rattle.catalog_tables.specs.Tables.{column_of, find_key, columns_from, texts_at, have_fields, are_filled};
 
 use crate::field::FieldColumn;
 use crate::names::Names;
@@ -36,6 +36,7 @@ impl DimensionTable {
     pub fn from_table(alloc: Global, table: Table) -> Result<DimensionTable, OutOfMemory>
         ensures same { IfOk result (λ d. d ≡ table) }
         ensures even { OnOk result (have_fields table.levels table.records ≡ true) }
+        ensures filled { OnOk result (are_filled table.records ≡ true) }
     {
         let parts = table.into_parts();
         let columns = numbered_fields(alloc, parts.fields.as_slice(), parts.levels)?;

@@ -1,5 +1,7 @@
 //! The table of a dimension as it is read, record by record.
 ghost use Rattle.std.specs.Prelude.{◌≡◌, ◌<◌, ◌++◌, ◌∷◌, [], length, false, IfOk, OnOk, OnErr};
+ghost use Rattle.std.specs.List.{list_any};
+ghost use Rattle.olap_meaning.specs.Records.{is_null};
 ghost use Rattle.catalog_tables.specs.Tables.{has_key, AreRecords};
 
 use crate::names::Names;
@@ -77,6 +79,7 @@ impl Table {
     pub fn push(&mut self, alloc: Global, key: &str, fields: &[Text]) -> Result<(), OutOfMemory>
         requires new { has_key self.old.records key.now ≡ false }
         requires whole { length fields.now ≡ self.old.levels }
+        requires filled { list_any is_null fields.now ≡ false }
         requires room { length self.old.records < RECORD_LIMIT }
         ensures ok { OnOk result
             (self.new

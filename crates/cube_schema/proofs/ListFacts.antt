@@ -1,5 +1,7 @@
 -- Lists under keys: the items of an array, and what a list that was read says.
 use Rattle.std.proofs.Common.{◌≡◌, ◌+◌, List, [], ◌∷◌, ◌++◌, length, map, Result, Ok, refl, ap, subst, arith, length-append}
+use Rattle.std.proofs.lemmas.List.Elements.{All-nil, All-push}
+use Rattle.std.specs.List.{All}
 use Rattle.serde_json.specs.Data.{Data}
 use Rattle.serde_json.specs.declared.value.Value.{Value}
 use Rattle.serde_json.specs.View.{items_view, view}
@@ -49,3 +51,10 @@ items_at-parts node key size item v found e =
     let items = both-ok (list_at node key v) _ found e in
     let sized = both-ok (size (Key node key) items.0) _ found items.2 in
     record { items = items.0; sized = sized.1; read = sized.2 }
+
+-- what holds of each item that is read holds of all that are
+pub all-read : {A : Type 0} (P : A → Type 0) (node : SchemaNode) (key : SchemaKey) (size : SchemaPlace → List Data → Result (Unit {0}) SchemaFault) (item : List A → Data → Result A SchemaFault) (v : Data) (found : List A)
+    → ((earlier : List A) (w : Data) (x : A) → item earlier w ≡ Ok x → P x) → items_at node key size item v ≡ Ok found → All P found
+all-read P node key size item v found each e =
+    let parts = items_at-parts node key size item v found e in
+    items_from-keep item (All P) (λ earlier w x is h. All-push P earlier x h (each earlier w x is)) [] parts.items found (All-nil P) parts.read

@@ -2,11 +2,11 @@
 use Rattle.std.proofs.Common.{◌≡◌, ◌≢◌, ◌≤◌, ◌+◌, ◌∙◌, refl, sym, ap, subst, ℕ, List, [], ◌∷◌, length, Bool, true, false, not, Option, Some, None, is_some, Result, Ok, Err, IfOk, arith, bytes_eq, inl, inr}
 use Rattle.std.proofs.lemmas.Bool.{cases_Bool}
 use Rattle.std.proofs.lemmas.Iterator.Adapters.{position_from-zero}
-use Rattle.std.proofs.lemmas.List.Elements.{All-nil, All-push}
+use Rattle.std.proofs.lemmas.List.Elements.{All-nil}
 use Rattle.std.specs.Prelude.{if◌then◌else◌}
 use Rattle.std.specs.List.{All, list_any, position_from}
 use Rattle.olap_meaning.specs.Schema.{IsWithinLimits, dimension_place}
-use Rattle.olap_meaning.specs.Whole.{AreUsesNamed, IsLevelOf, IsMeasureOf, IsTableOf, IsWhole, cube_named, has_level, has_use, hierarchy_named, is_average, measure_named}
+use Rattle.olap_meaning.specs.Whole.{AreUsesNamed, IsLevelOf, IsMeasureOf, IsNamedCube, IsNamedDimension, IsTableOf, IsWhole, cube_named, has_level, has_use, hierarchy_named, is_average, measure_named}
 use Rattle.olap_meaning.specs.declared.Aggregator.{Aggregator}
 use Rattle.olap_meaning.specs.declared.Aggregator.TheVariants.{Sum, Count, Min, Max, Avg, DistinctCount}
 use Rattle.olap_meaning.specs.declared.schema.TheConstants.{AGGREGATE_LIMIT, CUBE_LIMIT, DIMENSION_LIMIT, MEASURE_LIMIT, USE_LIMIT}
@@ -36,15 +36,9 @@ use Rattle.cube_schema.specs.Places.{key_text}
 use Rattle.cube_schema.specs.Schemas.{aggregates_at, schema_in}
 use Rattle.cube_schema.proofs.FirstFacts.{first_levels_all}
 use Rattle.cube_schema.proofs.LimitFacts.{schema-limits}
-use Rattle.cube_schema.proofs.ListFacts.{items_at-parts, items_from-keep, items_from-length}
+use Rattle.cube_schema.proofs.ListFacts.{all-read, items_at-parts, items_from-length}
+use Rattle.cube_schema.proofs.NameFacts.{cube_is_named, dimension_is_named}
 use Rattle.cube_schema.proofs.StepFacts.{both-ok, same-ok, within-ok}
-
--- what holds of each item that is read holds of all that are
-all-read : {A : Type 0} (P : A → Type 0) (node : SchemaNode) (key : SchemaKey) (size : SchemaPlace → List Data → Result (Unit {0}) SchemaFault) (item : List A → Data → Result A SchemaFault) (v : Data) (found : List A)
-    → ((earlier : List A) (w : Data) (x : A) → item earlier w ≡ Ok x → P x) → items_at node key size item v ≡ Ok found → All P found
-all-read P node key size item v found each e =
-    let parts = items_at-parts node key size item v found e in
-    items_from-keep item (All P) (λ earlier w x is h. All-push P earlier x h (each earlier w x is)) [] parts.items found (All-nil P) parts.read
 
 -- a test that must be passed, and was
 passed : (test : Bool) (fault : SchemaFault) (u : Unit {0}) → refused_if (not test) fault ≡ Ok u → test ≡ true
@@ -222,10 +216,13 @@ schema_whole v schema e =
     let aggregates = both-ok (aggregates_at dimensions.0 cubes.0 whole.0) _ schema cubes.2 in
     let read : Schema = record { dimensions = dimensions.0; cubes = cubes.0; aggregates = aggregates.0 } in
     let same = same-ok read schema aggregates.2 in
+    let named = all-read IsNamedDimension top SchemaKey.Dimensions (at_most DIMENSION_LIMIT) dimension_of whole.0 dimensions.0 dimension_is_named dimensions.1 in
+    let named_cubes = all-read IsNamedCube top SchemaKey.Cubes size (cube_of dimensions.0) whole.0 cubes.0 (cube_is_named dimensions.0) cubes.1 in
     let uses = all-read (AreUsesNamed read) top SchemaKey.Cubes size (cube_of dimensions.0) whole.0 cubes.0 (cube_whole read) cubes.1 in
     let tables = tables_whole read whole.0 aggregates.0 aggregates.1 in
     let limits = subst IsWithinLimits (sym same) (schema-limits v schema e) in
-    subst IsWhole same (record { limits = limits; uses = uses; few_tables = tables.0; tables = tables.1 })
+    subst IsWhole same
+    (record { limits = limits; named = named; named_cubes = named_cubes; uses = uses; few_tables = tables.0; tables = tables.1 })
 
 pub whole-if-ok : (v : Data) (r : Result Schema SchemaFault) → IfOk r (λ schema. schema_in v ≡ Ok schema) → IfOk r (λ schema. IsWhole schema)
 whole-if-ok v (Ok schema) e = schema_whole v schema e

@@ -1,18 +1,23 @@
 //! What calls on a cache answer.
+ghost use Rattle.std.specs.Prelude.{◌<◌};
+ghost use Rattle.olap_meaning.specs.Texts.{CanBeShown};
+
 use olap_meaning::{CellValue, List, Version};
 
-/// What a cell is worth, and in which version of its cube.
+/// What a cell is worth, and in which version of its cube. Each value that is answered can be shown.
 #[derive(Clone, Copy, Debug, PartialEq, Eq)]
 pub struct Answered {
     pub value: CellValue,
     pub version: Version,
+    pub ghost shown: { CanBeShown value },
 }
 
-/// The answer to some cells, in their order, and the position of its entry.
+/// The answer to some cells, in their order, and the position of its entry. Positions count from 1.
 #[derive(Drop)]
 pub struct Answer {
     pub position: u64,
     pub cells: List<Answered>,
+    pub ghost first: { 0 < position },
 }
 
 /// A batch was appended: the position of its entry, and the version that it made.

@@ -1,5 +1,6 @@
 //! Counts of numbers.
 ghost use Rattle.std.specs.Prelude.{◌≡◌, ◌<◌, ◌≤◌, ◌+◌, ◌++◌, ◌∷◌, [], length};
+ghost use Rattle.olap_meaning.specs.Texts.{CanBeShown};
 ghost use Rattle.olap_meaning.specs.Values.{aggregate_known};
 
 use olap_meaning::{Aggregator, CellValue, ROW_LIMIT};
@@ -54,7 +55,8 @@ impl Count {
 
     /// The count.
     pub(crate) fn count(&self) -> CellValue
-        ensures { result ≡ aggregate_known Aggregator.Count self.now }
+        ensures value { result ≡ aggregate_known Aggregator.Count self.now }
+        ensures shown { CanBeShown result }
     {
         CellValue::Whole(i128::from(self.known))
     }

@@ -2,6 +2,7 @@
 ghost use Rattle.std.specs.Prelude.{◌≡◌, ◌++◌, ◌∷◌, [], OnOk, OnErr, false};
 ghost use Rattle.std.specs.List.{list_any};
 ghost use Rattle.std.specs.Ordering.{int_eq};
+ghost use Rattle.olap_meaning.specs.Texts.{CanBeShown};
 ghost use Rattle.olap_meaning.specs.Values.{aggregate_known, different};
 
 use indexmap::IndexSet;
@@ -52,7 +53,8 @@ impl Distinct {
 
     /// How many different numbers there are.
     pub(crate) fn count(&self) -> CellValue
-        ensures { result ≡ aggregate_known Aggregator.DistinctCount self.now }
+        ensures value { result ≡ aggregate_known Aggregator.DistinctCount self.now }
+        ensures shown { CanBeShown result }
     {
         CellValue::Whole(self.numbers.len() as i128)
     }

@@ -1,5 +1,6 @@
 //! The least or the greatest of numbers.
 ghost use Rattle.std.specs.Prelude.{◌≡◌, ◌++◌, ◌∷◌, []};
+ghost use Rattle.olap_meaning.specs.Texts.{CanBeShown};
 ghost use Rattle.olap_meaning.specs.Values.{aggregate_known};
 ghost use Rattle.measure_folds.specs.Kept.{extreme_aggregator, further_of};
 
@@ -58,8 +59,9 @@ impl Extreme {
 
     /// The greatest or the least, empty where there is no number.
     pub(crate) fn value(&self) -> CellValue
-        ensures { result
+        ensures value { result
             ≡ aggregate_known (extreme_aggregator self.now.is_greatest) self.now.numbers }
+        ensures shown { CanBeShown result }
     {
         match self.found {
             Some(number) => CellValue::Whole(i128::from(number)),

@@ -1,5 +1,6 @@
 //! What a tally keeps of the numbers that it was handed, by its aggregator.
 ghost use Rattle.std.specs.Prelude.{◌≡◌, ◌≢◌, ◌<◌, ◌≤◌, ◌+◌, ◌⊎◌, ◌++◌, ◌∷◌, [], length, None, OnOk, OnErr, IsOk};
+ghost use Rattle.olap_meaning.specs.Texts.{CanBeShown};
 ghost use Rattle.olap_meaning.specs.Values.{aggregate_known, known};
 ghost use Rattle.measure_folds.specs.StateOf.{aggregator_of, numbers_of};
 
@@ -88,7 +89,8 @@ pub(crate) fn merge_state(state: &mut State, other: &State)
 /// What the numbers are worth.
 pub(crate) fn worth(state: &State) -> CellValue
     requires { length (numbers_of state.now) ≤ ROW_LIMIT }
-    ensures { result ≡ aggregate_known (aggregator_of state.now) (numbers_of state.now) }
+    ensures value { result ≡ aggregate_known (aggregator_of state.now) (numbers_of state.now) }
+    ensures shown { CanBeShown result }
 {
     match state {
         State::Sum(sums) => sums.sum(),

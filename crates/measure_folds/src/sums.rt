@@ -1,5 +1,7 @@
 //! Sums and averages of numbers.
 ghost use Rattle.std.specs.Prelude.{◌≡◌, ◌<◌, ◌≤◌, ◌+◌, ◌*◌, ◌^◌, ◌++◌, ◌∷◌, [], length, ℤ, pos, neg_ℤ, ◌≤ℤ◌};
+ghost use Rattle.std.specs.Int.RustNames.{unsigned_abs};
+ghost use Rattle.olap_meaning.specs.Texts.{CanBeShown};
 ghost use Rattle.olap_meaning.specs.Values.{aggregate_known, rounded};
 
 use olap_meaning::{Aggregator, CellValue, ROW_LIMIT};
@@ -59,7 +61,9 @@ impl Sums {
 
     /// The sum, empty where there is no number.
     pub(crate) fn sum(&self) -> CellValue
-        ensures { result ≡ aggregate_known Aggregator.Sum self.now }
+        requires { length self.now ≤ ROW_LIMIT }
+        ensures value { result ≡ aggregate_known Aggregator.Sum self.now }
+        ensures shown { CanBeShown result }
     {
         if self.known == 0 {
             CellValue::Empty
@@ -71,7 +75,8 @@ impl Sums {
     /// The average in hundredths, empty where there is no number.
     pub(crate) fn average(&self) -> CellValue
         requires { length self.now ≤ ROW_LIMIT }
-        ensures { result ≡ aggregate_known Aggregator.Avg self.now }
+        ensures value { result ≡ aggregate_known Aggregator.Avg self.now }
+        ensures shown { CanBeShown result }
     {
         if self.known == 0 {
             return CellValue::Empty;
@@ -85,7 +90,8 @@ fn rounded_quotient(dividend: i128, divisor: u32) -> i128
     requires some { 0 < divisor }
     requires low { neg_ℤ (pos (2 ^ 100)) ≤ℤ dividend }
     requires high { dividend ≤ℤ pos (2 ^ 100) }
-    ensures { result ≡ rounded dividend divisor }
+    ensures value { result ≡ rounded dividend divisor }
+    ensures size { unsigned_abs result ≤ 2 ^ 100 }
 {
     let divisor = u128::from(divisor);
     let quotient = ((2 * dividend.unsigned_abs() + divisor) / (2 * divisor)) as i128;

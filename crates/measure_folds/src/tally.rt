@@ -1,5 +1,6 @@
 //! One measure summed up over fact rows.
 ghost use Rattle.std.specs.Prelude.{◌≡◌, ◌≢◌, ◌<◌, ◌≤◌, ◌+◌, ◌⊎◌, ◌++◌, ◌∷◌, [], length, None, OnOk, OnErr, IsOk};
+ghost use Rattle.olap_meaning.specs.Texts.{CanBeShown};
 ghost use Rattle.olap_meaning.specs.Values.{aggregate};
 
 use crate::state::{State, add_value, merge_state, new_state, worth};
@@ -78,7 +79,8 @@ impl Tally {
 
     /// The aggregate of the rows. It takes no memory.
     pub fn finish(&self) -> CellValue
-        ensures { result ≡ aggregate self.now.aggregator self.now.values }
+        ensures value { result ≡ aggregate self.now.aggregator self.now.values }
+        ensures shown { CanBeShown result }
     {
         if self.rows == 0 {
             return CellValue::Empty;

@@ -8,3 +8,4 @@ pub mod StepFacts
 pub mod WalkFacts
 pub mod MeasureFacts
 pub mod OwnFacts
+pub mod NameFacts

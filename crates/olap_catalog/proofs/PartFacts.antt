@@ -19,7 +19,7 @@ use Rattle.olap_meaning.specs.History.{is_some_and}
 use Rattle.olap_meaning.specs.Legal.{rise}
 use Rattle.olap_meaning.specs.Schema.{columns_from, all_columns, levels_of, numbers_from, hierarchies_from, all_hierarchies, cube_over, hierarchies_in, IsWithinCube}
 use Rattle.olap_meaning.specs.Whole.{IsWhole}
-use Rattle.catalog_tables.specs.Tables.{TableOf, have_fields}
+use Rattle.catalog_tables.specs.Tables.{TableOf, have_fields, are_filled}
 use Rattle.olap_catalog.specs.Parts.{is_column, is_level, has_levels, has_few_measures, AreParts, Names}
 use Rattle.olap_catalog.specs.Roots.{hierarchies_among, full_name_in, measure_names, root_names_in}
 use Rattle.olap_catalog.proofs.LayoutFacts.{columns_append, length_columns}
@@ -158,11 +158,11 @@ rising_all : (place column : ℕ) (ds : List SchemaDimension) → rise (flat_map
 rising_all place column ds = ap rise (levels_in_all place column ds) ∙ numbers_rise column (flat_map levels_of ds)
 
 pub parts_fit : (schema : Schema) (tables : List TableOf) (columns : List Column) (hierarchies : List Hierarchy) (cubes : List Cube) (full_names : List (List ℕ)) (roots : List (List ℕ)) (names : Names) → IsWhole schema
-    → list_all (λ t. have_fields t.levels t.records) tables ≡ true → map (λ t. t.levels) tables ≡ map (λ d. length (levels_of d)) schema.dimensions → columns ≡ all_columns 0 schema.dimensions → hierarchies ≡ all_hierarchies 0 0 schema.dimensions
+    → list_all (λ t. have_fields t.levels t.records) tables ≡ true → list_all (λ t. are_filled t.records) tables ≡ true → map (λ t. t.levels) tables ≡ map (λ d. length (levels_of d)) schema.dimensions → columns ≡ all_columns 0 schema.dimensions → hierarchies ≡ all_hierarchies 0 0 schema.dimensions
     → cubes ≡ map (cube_over schema.dimensions) schema.cubes → full_names ≡ map (full_name_in schema.dimensions) hierarchies → roots ≡ map (λ cube. flat_map (hierarchies_among hierarchies) cube.dimensions) cubes
     → names.cubes ≡ map (λ cube. cube.name) cubes → names.tables ≡ map (λ table. table.name) schema.aggregates → names.measures ≡ map measure_names cubes → names.roots ≡ map (root_names_in full_names) roots
     → AreParts schema tables columns hierarchies cubes full_names roots names
-parts_fit schema tables columns hierarchies cubes full_names roots names sound even whole c h k named rooted cubes_named tables_named measures_named roots_named =
+parts_fit schema tables columns hierarchies cubes full_names roots names sound even filled whole c h k named rooted cubes_named tables_named measures_named roots_named =
     let limits = sound.limits in
     let paired : length tables ≡ length schema.dimensions =
     sym (length-map tables (λ (t : TableOf). t.levels)) ∙ ap length whole ∙ length-map schema.dimensions (λ (d : SchemaDimension). length (levels_of d)) in
@@ -171,9 +171,11 @@ parts_fit schema tables columns hierarchies cubes full_names roots names sound e
     let few_k : length cubes ≡ length schema.cubes = ap length k ∙ length-map schema.cubes (cube_over schema.dimensions) in
     record {
       whole = sound;
+      hierarchies_are = h;
       cubes_are = k;
       paired = paired;
       even = even;
+      filled = filled;
       columned = ap (list_all (is_column tables)) c ∙ columned_all [] tables schema.dimensions whole;
       leveled = ap (list_all (has_levels columns)) h ∙ leveled_all columns [] 0 schema.dimensions c;
       rising = ap (λ hs. rise (flat_map (λ (x : Hierarchy). x.levels) hs)) h ∙ rising_all 0 0 schema.dimensions;

@@ -38,7 +38,8 @@ dimension_named (x ∷ xs) (r ∷ rs) (suc d) same = dimension_named xs rs d (om
 records_length : (ts : List TableOf) → length (records_in ts) ≡ length ts
 records_length ts = length-map ts (λ (t : TableOf). t.records)
 
-full_names_same : (schema : Schema) (tables : List TableOf) (columns : List Column) (hierarchies : List Hierarchy) (cubes : List Cube) (hierarchy : Hierarchy) → length tables ≡ length schema.dimensions
+-- the full name of a hierarchy is the one over the schema's dimensions
+pub full_names_same : (schema : Schema) (tables : List TableOf) (columns : List Column) (hierarchies : List Hierarchy) (cubes : List Cube) (hierarchy : Hierarchy) → length tables ≡ length schema.dimensions
     → full_name (plain schema tables columns hierarchies cubes) hierarchy ≡ full_name_in schema.dimensions hierarchy
 full_names_same schema tables columns hierarchies cubes hierarchy paired =
     ap (λ n. joined_name n hierarchy.name) (dimension_named schema.dimensions (records_in tables) hierarchy.dimension (records_length tables ∙ paired))

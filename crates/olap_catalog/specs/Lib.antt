@@ -3,3 +3,4 @@ pub mod Parts
 pub mod Columns
 pub mod Members
 pub mod MemberOf
+pub mod Named

@@ -10,9 +10,9 @@ use Rattle.olap_meaning.specs.declared.tables.Cube.{Cube}
 use Rattle.olap_meaning.specs.declared.tables.Catalog.{Catalog}
 use Rattle.olap_meaning.specs.History.{is_some_and}
 use Rattle.olap_meaning.specs.Legal.{rise}
-use Rattle.olap_meaning.specs.Schema.{cube_over, dimension_with}
+use Rattle.olap_meaning.specs.Schema.{all_hierarchies, cube_over, dimension_with}
 use Rattle.olap_meaning.specs.Whole.{IsWhole}
-use Rattle.catalog_tables.specs.Tables.{TableOf, have_fields}
+use Rattle.catalog_tables.specs.Tables.{TableOf, have_fields, are_filled}
 use Rattle.olap_catalog.specs.Roots.{hierarchies_among, full_name_in, measure_names, root_names_in}
 
 -- the records of some tables
@@ -61,9 +61,11 @@ pub record AreParts (schema : Schema) (tables : List TableOf) (columns : List Co
     (hierarchies : List Hierarchy) (cubes : List Cube) (full_names : List (List ℕ))
     (roots : List (List ℕ)) (names : Names) : Type 0 where
   pub whole : IsWhole schema
+  pub hierarchies_are : hierarchies ≡ all_hierarchies 0 0 schema.dimensions
   pub cubes_are : cubes ≡ map (cube_over schema.dimensions) schema.cubes
   pub paired : length tables ≡ length schema.dimensions
   pub even : list_all (λ t. have_fields t.levels t.records) tables ≡ true
+  pub filled : list_all (λ t. are_filled t.records) tables ≡ true
   pub columned : list_all (is_column tables) columns ≡ true
   pub leveled : list_all (has_levels columns) hierarchies ≡ true
   pub rising : rise (flat_map (λ hierarchy. hierarchy.levels) hierarchies) ≡ true

@@ -1,7 +1,7 @@
 //! Catalogs: a schema with its dimensions' tables.
 ghost use Rattle.std.specs.Prelude.{◌≡◌, length, map, IfOk, OnOk, true};
 ghost use Rattle.std.specs.List.{list_all};
-ghost use Rattle.catalog_tables.specs.Tables.{have_fields};
+ghost use Rattle.catalog_tables.specs.Tables.{have_fields, are_filled};
 ghost use Rattle.olap_meaning.specs.Schema.{catalog_of, levels_of};
 ghost use Rattle.olap_meaning.specs.Whole.{IsWhole};
 ghost use Rattle.olap_catalog.specs.Parts.{records_in};
@@ -87,6 +87,7 @@ pub fn build_catalog(
 fn numbered(alloc: Global, tables: List<Table>) -> Result<List<DimensionTable>, OutOfMemory>
     ensures same { IfOk result (λ numbered. numbered ≡ tables) }
     ensures even { OnOk result (list_all (λ t. have_fields t.levels t.records) tables ≡ true) }
+    ensures filled { OnOk result (list_all (λ t. are_filled t.records) tables ≡ true) }
 {
     let mut numbered = List::new(alloc);
     for table in tables.into_vec() {

@@ -6,6 +6,7 @@ ghost use Rattle.olap_meaning.specs.Schema.{cube_over};
 ghost use Rattle.olap_meaning.specs.Whole.{IsWhole};
 ghost use Rattle.olap_meaning.specs.Catalog as meaning;
 ghost use Rattle.olap_catalog.specs.Columns.{column_texts, column_leaves};
+ghost use Rattle.olap_catalog.specs.Named.{HasNames};
 ghost use Rattle.olap_catalog.specs.Parts.{has_levels};
 
 use crate::catalog::Catalog;
@@ -61,6 +62,13 @@ impl Catalog {
         ensures schema { IsWhole self.now.schema }
         ensures cubes { self.now.cubes
             ≡ map (cube_over self.now.schema.dimensions) self.now.schema.cubes }
+    {
+        let _ = &self.schema;
+    }
+
+    /// That no name in it is empty. This costs nothing.
+    pub fn has_names(&self)
+        ensures { HasNames self.now }
     {
         let _ = &self.schema;
     }

@@ -1,5 +1,5 @@
 -- How values and names are written. A text is the list of its bytes.
-use Rattle.std.specs.Prelude.{ℕ, ◌++◌, ◌/◌, ◌%◌, ◌==◌, List, [], ◌∷◌, ℤ, pos, negsuc, codes, flat_map, encode_utf8, if◌then◌else◌}
+use Rattle.std.specs.Prelude.{ℕ, ◌++◌, ◌/◌, ◌%◌, ◌==◌, ◌≤◌, ◌^◌, List, [], ◌∷◌, ℤ, pos, negsuc, codes, flat_map, encode_utf8, if◌then◌else◌}
 use Rattle.std.specs.Fmt.{decimal, signed_decimal}
 use Rattle.std.specs.Str.{chars}
 use Rattle.std.specs.Int.RustNames.{unsigned_abs}
@@ -23,6 +23,16 @@ plain_text Empty = []
 plain_text (Whole n) = signed_decimal n
 plain_text (Hundredths n) =
     sign n ++ decimal (unsigned_abs n / 100) ++ codes "." ++ two_digits (unsigned_abs n % 100)
+
+-- the size of a value's number, whatever its sign; 0 for an empty cell
+abbrev pub size : CellValue → ℕ
+size Empty = 0
+size (Whole n) = unsigned_abs n
+size (Hundredths n) = unsigned_abs n
+
+-- a value that can be shown: empty, or a number from -2^100 to 2^100
+abbrev pub CanBeShown : CellValue → Type 0
+CanBeShown value = size value ≤ 2 ^ 100
 
 -- a character of a name, as its name text has it: a closing bracket twice; a backslash, a tab, a carriage return
 -- and a line feed behind a backslash

@@ -79,10 +79,28 @@ abbrev pub AreUsesNamed : Schema → SchemaCube → Type 0
 AreUsesNamed schema cube =
     All (λ used. is_some (dimension_place schema.dimensions used.source) ≡ true) cube.dimensions
 
--- a schema is whole: it is within the limits, each use of a cube names a dimension, and each aggregate table speaks of
--- a cube, and of levels and measures that the cube has
+-- no name of a hierarchy is empty: its own, its all member's, and its levels'
+pub record IsNamedHierarchy (hierarchy : SchemaHierarchy) : Type 0 where
+  pub own : hierarchy.name ≢ []
+  pub all_member : hierarchy.all_member_name ≢ []
+  pub levels : All (λ level. level.name ≢ []) hierarchy.levels
+
+-- no name of a dimension is empty: its own, and its hierarchies'
+pub record IsNamedDimension (dimension : SchemaDimension) : Type 0 where
+  pub own : dimension.name ≢ []
+  pub hierarchies : All IsNamedHierarchy dimension.hierarchies
+
+-- no name of a cube is empty: its own, and its measures'
+pub record IsNamedCube (cube : SchemaCube) : Type 0 where
+  pub own : cube.name ≢ []
+  pub measures : All (λ measure. measure.name ≢ []) cube.measures
+
+-- a schema is whole: it is within the limits, no name is empty, each use of a cube names a dimension, and each
+-- aggregate table speaks of a cube, and of levels and measures that the cube has
 pub record IsWhole (schema : Schema) : Type 0 where
   pub limits : IsWithinLimits schema
+  pub named : All IsNamedDimension schema.dimensions
+  pub named_cubes : All IsNamedCube schema.cubes
   pub uses : All (AreUsesNamed schema) schema.cubes
   pub few_tables : length schema.aggregates ≤ AGGREGATE_LIMIT
   pub tables : All (IsTableOf schema) schema.aggregates

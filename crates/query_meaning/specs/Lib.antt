@@ -11,6 +11,9 @@ pub mod Grammar
 pub mod WholeQueries
 pub mod CellTokens
 pub mod Queries
+pub mod Shown
+pub mod Titles
+pub mod GridForm
 pub mod Grids
 pub mod CellQueries
 pub mod Requests

@@ -4,6 +4,7 @@
 #![tactic(auto)]
 
 mod axes;
+mod grids;
 mod keyword;
 mod query;
 mod set_shape;
@@ -11,6 +12,7 @@ mod set_text;
 mod token;
 
 pub use axes::{Axes, Axis};
+pub use grids::{Grid, GridRow};
 pub use keyword::Keyword;
 use olap_meaning::{List, Text};
 pub use query::{AxisText, Query};

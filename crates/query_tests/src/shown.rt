@@ -1,6 +1,7 @@
 //! Values that texts show, and values that formatters show.
 ghost use Rattle.std.specs.Prelude.{IfOk};
-ghost use Rattle.shown_values.specs.Shown.{CanBeShown, Shows};
+ghost use Rattle.olap_meaning.specs.Texts.{CanBeShown};
+ghost use Rattle.query_meaning.specs.Shown.{Shows};
 
 use olap_meaning::{CellValue, OutOfMemory, Text};
 use shown_values::{Formatter, Showing, read_value, shown_plainly, shown_with_commas};
@@ -9,8 +10,8 @@ use std::test::Fail;
 
 const LARGEST: i128 = 1_267_650_600_228_229_401_496_703_205_376;
 
-// A text, and the value that it shows.
-const TEXTS: [(&str, Option<CellValue>); 15] = [
+/// A text, and the value that it shows.
+pub(crate) const TEXTS: [(&str, Option<CellValue>); 15] = [
     ("", Some(CellValue::Empty)),
     (", ,", Some(CellValue::Empty)),
     ("0", Some(CellValue::Whole(0))),

@@ -1,1 +1,5 @@
 pub mod PathFacts
+pub mod NamedFacts
+pub mod PlaceFacts
+pub mod RowFacts
+pub mod WholeFacts

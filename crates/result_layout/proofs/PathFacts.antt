@@ -14,7 +14,7 @@ use Rattle.olap_meaning.specs.Catalog.{values, first_appearances, field_texts, r
 use Rattle.olap_meaning.specs.Texts.{name_text}
 use Rattle.olap_catalog.specs.MemberOf.{is_path, levels_of}
 use Rattle.olap_catalog.proofs.ValueFacts.{and_both}
-use Rattle.query_meaning.specs.Grids.{value_part}
+use Rattle.query_meaning.specs.Titles.{value_part}
 
 -- a path is one of its hierarchy's levels
 pub path_own : (catalog : Catalog) (h : ℕ) (path levels : List ℕ) (hierarchy : Hierarchy) → is_path catalog (levels_of catalog h) path ≡ true → slice_get catalog.hierarchies h ≡ Some hierarchy → levels ≡ hierarchy.levels → is_path catalog levels path ≡ true

@@ -1,8 +1,17 @@
-//! How results are laid out as text: the titles of members, and the grid of one cell.
+//! How results are laid out as text: the titles of members and tuples, and grids; and grids read back.
+//!
+//! What shows values and what reads grids back is given on from below.
 #![tactic(auto)]
 
-mod grid;
+mod cell;
+mod layout;
+mod places;
+mod rows;
 mod titles;
 
-pub use grid::{cell_grid, member_grid};
-pub use titles::member_title;
+pub use cell::{cell_grid, member_grid};
+pub use grid_reader::{GridFault, read_grid};
+pub use layout::grid;
+pub use query_meaning::{Grid, GridRow};
+pub use shown_values::{Formatter, GivesTexts, Showing, shown_plainly, shown_with_commas};
+pub use titles::{member_title, tuple_title};

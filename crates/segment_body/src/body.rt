@@ -3,6 +3,7 @@ ghost use Rattle.std.specs.Prelude.{◌≡◌, ◌<◌, ◌≤◌, ◌++◌, ◌
 ghost use Rattle.std.specs.List.{list_all};
 ghost use Rattle.olap_meaning.specs.Covering.{just_covers};
 ghost use Rattle.olap_meaning.specs.Legal.{rise};
+ghost use Rattle.olap_meaning.specs.Texts.{CanBeShown};
 ghost use Rattle.olap_meaning.specs.Values.{aggregate};
 ghost use Rattle.segment_header.specs.Headers.{are_allowed, is_header};
 ghost use Rattle.segment_body.specs.BodyOf.{body_row_in, different_values, has_row, numbers_at};
@@ -87,9 +88,10 @@ impl Body {
     pub fn value(&self, cell: &Cell) -> CellValue
         requires covered { IsTrue (just_covers self.now.header cell.now) }
         requires rising { IsTrue (rise (map (λ pair. pair.0) cell.now.at)) }
-        ensures { result
+        ensures value { result
             ≡ aggregate self.now.aggregator
             (map (λ row. row.1) (filter (body_row_in self.now.header cell.now) self.now.rows)) }
+        ensures shown { CanBeShown result }
     {
         match place_in(self.groups.as_slice(), cell.at.as_slice()) {
             None => CellValue::Empty,

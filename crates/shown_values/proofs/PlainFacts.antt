@@ -16,8 +16,9 @@ use Rattle.std.proofs.lemmas.List.Elements.{filter-append}
 use Rattle.std.proofs.lemmas.List.Folds.{list_any-append}
 use Rattle.olap_meaning.specs.declared.CellValue.{CellValue}
 use Rattle.olap_meaning.specs.declared.CellValue.TheVariants.{Empty, Whole, Hundredths}
-use Rattle.olap_meaning.specs.Texts.{sign, two_digits, plain_text}
-use Rattle.shown_values.specs.Shown.{is_kept, bare, is_break, breaks, signed, CanBeShown, Shows}
+use Rattle.olap_meaning.specs.Texts.{CanBeShown, sign, two_digits, plain_text}
+use Rattle.query_meaning.specs.Shown.{is_kept, bare, is_break, breaks, Shows}
+use Rattle.shown_values.specs.Shown.{signed}
 
 -- a filter that all digits pass keeps a text of digits
 pub kept : (p : ℕ → Bool) → ((c : ℕ) → IsInRange 48 57 c → p c ≡ true) → (ds : List ℕ) → AllDigits 10 ds → filter p ds ≡ ds

@@ -8,6 +8,6 @@ mod formatter;
 mod plain;
 mod reading;
 
-pub use formatter::{Formatter, Showing};
+pub use formatter::{Formatter, GivesTexts, Showing, formatters_are_shared};
 pub use plain::{shown_plainly, shown_with_commas};
-pub use reading::{read_back, read_value};
+pub use reading::read_value;

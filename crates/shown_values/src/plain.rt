@@ -1,7 +1,7 @@
 //! The texts of values.
 ghost use Rattle.std.specs.Prelude.{◌≡◌, IfOk, string_bytes};
-ghost use Rattle.olap_meaning.specs.Texts.{plain_text};
-ghost use Rattle.shown_values.specs.Shown.{CanBeShown, Shows, bare, breaks};
+ghost use Rattle.olap_meaning.specs.Texts.{CanBeShown, plain_text};
+ghost use Rattle.query_meaning.specs.Shown.{Shows, bare, breaks};
 
 use olap_meaning::{CellValue, OutOfMemory, Text, plain_text};
 use std::alloc::Global;

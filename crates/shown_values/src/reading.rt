@@ -3,10 +3,10 @@ ghost use Rattle.std.specs.Prelude.{ℕ, ◌≡◌, ◌==◌, ◌≤◌, ◌^◌
 ghost use Rattle.std.specs.Char.{is_ascii_digit};
 ghost use Rattle.std.specs.List.{list_any};
 ghost use Rattle.std.specs.Option.{IfSome};
-ghost use Rattle.olap_meaning.specs.Texts.{plain_text};
-ghost use Rattle.shown_values.specs.Shown.{bare, signed, CanBeShown, IsReadAs};
+ghost use Rattle.olap_meaning.specs.Texts.{CanBeShown, plain_text};
+ghost use Rattle.query_meaning.specs.Shown.{bare};
+ghost use Rattle.shown_values.specs.Shown.{signed, IsReadAs};
 
-use crate::formatter::Formatter;
 use olap_meaning::{CellValue, OutOfMemory, plain_text};
 use std::alloc::Global;
 
@@ -93,17 +93,4 @@ pub fn read_value(alloc: Global, text: &[u8]) -> Result<Option<CellValue>, OutOf
     } else {
         Ok(None)
     }
-}
-
-/// What a formatter shows of a value is read back as the value, whatever the formatter.
-pub fn read_back(
-    alloc: Global,
-    formatter: &Formatter,
-    value: &CellValue,
-) -> Result<Option<CellValue>, OutOfMemory>
-    requires { CanBeShown value.now }
-    ensures { IfOk result (λ read. read ≡ Some value.now) }
-{
-    let text = formatter.show(value)?;
-    read_value(alloc, text.as_str().as_bytes())
 }

@@ -1,11 +1,16 @@
 -- The small schema is whole.
-use Rattle.std.proofs.Common.{◌≡◌, [], refl, true, arith}
+use Rattle.std.proofs.Common.{◌≡◌, ◌≢◌, ℕ, List, [], ◌∷◌, refl, true, arith}
 use Rattle.std.specs.Prelude.{is_some}
 use Rattle.std.proofs.lemmas.List.Elements.{All-cons, All-nil}
 use Rattle.olap_meaning.specs.declared.schema.SchemaUse.{SchemaUse}
+use Rattle.olap_meaning.specs.declared.tables.Measure.{Measure}
 use Rattle.olap_meaning.specs.Schema.{IsWithinCube, dimension_place}
-use Rattle.olap_meaning.specs.Whole.{AreUsesNamed, IsTableOf, IsWhole}
+use Rattle.olap_meaning.specs.Whole.{AreUsesNamed, IsNamedCube, IsNamedDimension, IsTableOf, IsWhole}
 use Rattle.test_plays.specs.Small.{small_schema}
+
+-- a text of at least one character is no empty name
+some_name : (first : ℕ) (rest : List ℕ) → first ∷ rest ≢ []
+some_name first rest is = cc
 
 pub whole_small : IsWhole small_schema
 whole_small = record {
@@ -16,6 +21,8 @@ whole_small = record {
     cubes = omega arith;
     each = All-cons IsWithinCube _ [] (record { dimensions = omega arith; measures = omega arith }) (All-nil IsWithinCube);
   };
+  named = All-nil IsNamedDimension;
+  named_cubes = All-cons IsNamedCube _ [] (record { own = some_name _ _; measures = All-cons NamedMeasure _ [] (some_name _ _) (All-nil NamedMeasure) }) (All-nil IsNamedCube);
   uses = All-cons (AreUsesNamed small_schema) _ [] (All-nil Named) (All-nil (AreUsesNamed small_schema));
   few_tables = omega arith;
   tables = All-nil (IsTableOf small_schema);
@@ -23,3 +30,6 @@ whole_small = record {
   where
     Named : SchemaUse → Type 0
     Named used = is_some (dimension_place small_schema.dimensions used.source) ≡ true
+
+    NamedMeasure : Measure → Type 0
+    NamedMeasure measure = measure.name ≢ []

@@ -1,5 +1,5 @@
 -- What can be loaded from a catalog of the sample schema.
-use Rattle.std.proofs.Common.{◌≡◌, ◌∙◌, ◌<◌, ◌+◌, ℕ, ℤ, zero, suc, Bool, true, false, List, [], ◌∷◌, ◌++◌, Option, Some, All, length, map, take, get_or, refl, sym, ap, arith}
+use Rattle.std.proofs.Common.{◌≡◌, ◌≢◌, ◌∙◌, ◌<◌, ◌+◌, ℕ, ℤ, zero, suc, Bool, true, false, List, [], ◌∷◌, ◌++◌, Option, Some, All, length, map, take, get_or, refl, sym, ap, arith}
 use Rattle.std.specs.Prelude.{IsTrue, ◌&&◌, ◌==◌, codes, is_some, nat_lt, nat_le}
 use Rattle.std.specs.List.{list_all}
 use Rattle.std.proofs.lemmas.Bool.{and_parts, and_from}
@@ -12,20 +12,22 @@ use Rattle.olap_meaning.specs.declared.tables.Cube.{Cube}
 use Rattle.olap_meaning.specs.declared.tables.Row.{Row}
 use Rattle.olap_meaning.specs.declared.schema.Schema.{Schema}
 use Rattle.olap_meaning.specs.declared.schema.SchemaCube.{SchemaCube}
+use Rattle.olap_meaning.specs.declared.schema.SchemaLevel.{SchemaLevel}
 use Rattle.olap_meaning.specs.declared.schema.SchemaUse.{SchemaUse}
+use Rattle.olap_meaning.specs.declared.tables.Measure.{Measure}
 use Rattle.olap_meaning.specs.History.{is_some_and}
 use Rattle.olap_meaning.specs.Legal.{is_column_of, is_row}
 use Rattle.olap_meaning.specs.Catalog.{records}
 use Rattle.olap_meaning.specs.Schema.{IsWithinCube, catalog_of, dimension_place}
-use Rattle.olap_meaning.specs.Whole.{AreUsesNamed, IsTableOf, IsWhole}
+use Rattle.olap_meaning.specs.Whole.{AreUsesNamed, IsNamedCube, IsNamedDimension, IsNamedHierarchy, IsTableOf, IsWhole}
 use Rattle.olap_catalog.specs.Parts.{records_in}
 use Rattle.catalog_tables.specs.Tables.{TableOf}
-use Rattle.std.proofs.lemmas.List.Elements.{All-cons, All-nil}
+use Rattle.std.proofs.lemmas.List.Elements.{All-cons, All-from_recursion, All-nil}
 use Rattle.fact_versions.specs.FactRows.{FactRows}
 use Rattle.fact_versions.specs.Facts.{FactsOf, batches_of, with_batch}
 use Rattle.fact_versions.proofs.Grown.{All-with_batch, length-cubes}
 use Rattle.segment_load.specs.Loads.{are_batches, header_measure, is_batch, is_loadable}
-use Rattle.test_samples.specs.Samples.{IsSample, sample_cube, sample_columns, sample_schema, use_of}
+use Rattle.test_samples.specs.Samples.{IsSample, dimension_of, level_of, sample_cube, sample_columns, sample_measures, sample_schema, store, time, use_of}
 
 below_true : (a b : ℕ) → a < b → nat_lt a b ≡ true
 below_true a b h = grind (arith, nat_tests)
@@ -88,6 +90,38 @@ measure_known catalog (suc (suc (suc m))) columns is h = absurd (omega arith)
 pub loadable : (catalog : Catalog) (measure : ℕ) (columns : List (ℕ × Allowed)) → IsSample catalog → measure < 3 → list_all (λ column. nat_lt column.0 3) columns ≡ true → is_loadable catalog (record { cube = 0; measure = measure; columns = columns }) ≡ true
 loadable catalog measure columns is few known = and_from _ _ (measure_known catalog measure columns is few) (rw is.cubes (columns_known catalog columns is known))
 
+-- a text of at least one character is no empty name
+some_name : (first : ℕ) (rest : List ℕ) → first ∷ rest ≢ []
+some_name first rest is = cc
+
+-- no name of a dimension of one hierarchy is empty, where its own is not, and none of its levels' is
+dimension_named : (name : List ℕ) (levels : List SchemaLevel) → name ≢ [] → All (λ level. level.name ≢ []) levels → IsNamedDimension (dimension_of name levels)
+dimension_named name levels own each = record {
+  own = own;
+  hierarchies = All-cons IsNamedHierarchy _ [] (record { own = own; all_member = own; levels = each }) (All-nil IsNamedHierarchy);
+}
+
+-- a level has a name
+abbrev IsNamedLevel : SchemaLevel → Type 0
+IsNamedLevel level = level.name ≢ []
+
+-- a measure has a name
+abbrev IsNamedMeasure : Measure → Type 0
+IsNamedMeasure measure = measure.name ≢ []
+
+time_named : IsNamedDimension time
+time_named =
+    let levels = level_of (codes "Year") ∷ level_of (codes "Quarter") ∷ [] in
+    dimension_named (codes "Time") levels (some_name _ _) (All-from_recursion IsNamedLevel levels (some_name _ _, (some_name _ _, tt)))
+
+store_named : IsNamedDimension store
+store_named =
+    let levels = level_of (codes "City") ∷ [] in
+    dimension_named (codes "Store") levels (some_name _ _) (All-from_recursion IsNamedLevel levels (some_name _ _, tt))
+
+measures_named : All IsNamedMeasure sample_measures
+measures_named = All-from_recursion IsNamedMeasure sample_measures (some_name _ _, (some_name _ _, (some_name _ _, tt)))
+
 -- the sample schema is whole
 pub whole_sample : IsWhole sample_schema
 whole_sample = record {
@@ -98,6 +132,8 @@ whole_sample = record {
     cubes = omega arith;
     each = All-cons IsWithinCube _ [] (record { dimensions = omega arith; measures = omega arith }) (All-nil IsWithinCube);
   };
+  named = All-cons IsNamedDimension time (store ∷ []) time_named (All-cons IsNamedDimension store [] store_named (All-nil IsNamedDimension));
+  named_cubes = All-cons IsNamedCube _ [] (record { own = some_name _ _; measures = measures_named }) (All-nil IsNamedCube);
   uses = All-cons (AreUsesNamed sample_schema) _ [] (All-cons Named (use_of (codes "Time")) (use_of (codes "Store") ∷ []) refl (All-cons Named (use_of (codes "Store")) [] refl (All-nil Named))) (All-nil (AreUsesNamed sample_schema));
   few_tables = omega arith;
   tables = All-nil (IsTableOf sample_schema);

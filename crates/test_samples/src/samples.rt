@@ -1,5 +1,7 @@
 //! A catalog of one cube over time and store.
-ghost use Rattle.std.specs.Prelude.{◌≡◌, ◌<◌, ◌+◌, ◌∷◌, [], IfOk, OnOk, length, map};
+ghost use Rattle.std.specs.Prelude.{◌≡◌, ◌<◌, ◌+◌, ◌∷◌, [], false, IfOk, OnOk, length, map};
+ghost use Rattle.std.specs.List.{list_any};
+ghost use Rattle.olap_meaning.specs.Records.{is_null};
 ghost use Rattle.test_samples.specs.Samples.{IsSample, dimension_of, level_of, measure_with, sample_measures, sample_schema, store, time, use_of};
 
 use catalog_tables::Table;
@@ -119,6 +121,7 @@ fn schema(alloc: Global) -> Result<Schema, OutOfMemory>
 /// Adds a record whose key is new.
 fn add(alloc: Global, table: &mut Table, key: &str, fields: &[Text]) -> Result<(), OutOfMemory>
     requires whole { length fields.now ≡ table.old.levels }
+    requires filled { list_any is_null fields.now ≡ false }
     requires room { length table.old.records < 100 }
     ensures levels { OnOk result (table.new.levels ≡ table.old.levels) }
     ensures records { OnOk result (length table.new.records ≡ length table.old.records + 1) }
@@ -137,6 +140,7 @@ fn quarter(
     quarter: &str,
 ) -> Result<(), OutOfMemory>
     requires levels { table.old.levels ≡ 2 }
+    requires filled { list_any is_null (year.now ∷ quarter.now ∷ []) ≡ false }
     requires room { length table.old.records < 100 }
     ensures levels { OnOk result (table.new.levels ≡ 2) }
     ensures records { OnOk result (length table.new.records ≡ length table.old.records + 1) }
@@ -150,6 +154,7 @@ fn quarter(
 
 fn city(alloc: Global, table: &mut Table, name: &str) -> Result<(), OutOfMemory>
     requires levels { table.old.levels ≡ 1 }
+    requires filled { list_any is_null (name.now ∷ []) ≡ false }
     requires room { length table.old.records < 100 }
     ensures levels { OnOk result (table.new.levels ≡ 1) }
     ensures records { OnOk result (length table.new.records ≡ length table.old.records + 1) }

@@ -1,3 +1,4 @@
+-- That `begin_axis` ensures what it says.
 use Rattle.std.proofs.Common.{refl, subst, false}
 use Rattle.query_meaning.specs.declared.token.Token.TheVariants.{Word}
 use Rattle.query_meaning.specs.Tokens.{At}

@@ -1,3 +1,4 @@
+-- That `begin_empty` ensures what it says.
 use Rattle.std.proofs.Common.{[], refl, ap, true}
 use Rattle.query_meaning.specs.declared.token.Token.TheVariants.{Word}
 use Rattle.query_meaning.specs.declared.keyword.Keyword.TheVariants as keyword

@@ -1,3 +1,4 @@
+-- That `begin_slicer` ensures what it says.
 use Rattle.std.proofs.Common.{[], ◌∷◌, refl, ap}
 use Rattle.query_meaning.specs.declared.token.Token.TheVariants.{Sign, Name}
 use Rattle.mdx_reader.specs.declared.place.PathOf.TheVariants as path_of

@@ -1,3 +1,4 @@
+-- That `end_axis` ensures what it says.
 use Rattle.std.proofs.Common.{refl, ap}
 use Rattle.query_meaning.specs.declared.token.Token.TheVariants.{Word}
 use Rattle.query_meaning.specs.declared.keyword.Keyword.TheVariants as keyword

@@ -1,3 +1,4 @@
+-- That `end_columns` ensures what it says.
 use Rattle.std.proofs.Common.{Some, None}
 use Rattle.query_meaning.specs.declared.token.Token.TheVariants.{Word, Sign}
 use Rattle.query_meaning.specs.declared.keyword.Keyword.TheVariants as keyword

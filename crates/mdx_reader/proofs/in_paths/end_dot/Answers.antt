@@ -1,3 +1,4 @@
+-- That `end_dot` ensures what it says.
 use Rattle.std.proofs.Common.{◌++◌, [], ◌∷◌, refl, ap}
 use Rattle.query_meaning.specs.declared.token.Token.TheVariants.{Word, Name}
 use Rattle.query_meaning.specs.declared.keyword.Keyword.TheVariants as keyword

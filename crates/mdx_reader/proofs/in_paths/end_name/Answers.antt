@@ -1,3 +1,4 @@
+-- That `end_name` ensures what it says.
 use Rattle.std.proofs.Common.{◌∙◌, ◌++◌, [], ◌∷◌, refl, sym, ap, subst, inl, inr, Some}
 use Rattle.query_meaning.specs.declared.token.Token.TheVariants.{Sign}
 use Rattle.query_meaning.specs.Tokens.{At}

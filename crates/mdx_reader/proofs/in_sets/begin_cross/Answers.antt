@@ -1,3 +1,4 @@
+-- That `begin_cross` ensures what it says.
 use Rattle.std.proofs.Common.{◌≡◌, ◌<◌, ◌-◌, suc, ◌∷◌, ap, arith}
 use Rattle.query_meaning.specs.declared.token.Token.TheVariants.{Sign}
 use Rattle.mdx_reader.specs.declared.place.Frame.TheVariants as frame

@@ -1,3 +1,4 @@
+-- That `begin_item` ensures what it says.
 use Rattle.std.proofs.Common.{◌≡◌, ◌∙◌, ◌-◌, suc, ◌∷◌, refl, sym, ap, subst, arith}
 use Rattle.query_meaning.specs.declared.token.Token.TheVariants.{Sign}
 use Rattle.query_meaning.specs.Tokens.{At}

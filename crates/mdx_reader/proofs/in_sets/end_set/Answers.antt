@@ -1,3 +1,4 @@
+-- That `end_set` ensures what it says.
 use Rattle.std.proofs.Common.{◌∙◌, [], ◌∷◌, ap, inl, inr}
 use Rattle.query_meaning.specs.declared.token.Token.TheVariants.{Word, Sign}
 use Rattle.query_meaning.specs.Tokens.{At}

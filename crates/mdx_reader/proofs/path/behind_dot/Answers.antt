@@ -1,3 +1,4 @@
+-- That `behind_dot` ensures what it says and may call `behind_white`.
 use Rattle.std.proofs.Common.{arith}
 use Rattle.mdx_reader.proofs.TextPlaces.{behind_byte}
 use Rattle.mdx_reader.proofs.Whites.{no_dot, behind_dot}

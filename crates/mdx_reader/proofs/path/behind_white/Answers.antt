@@ -1,3 +1,4 @@
+-- That `behind_white` keeps what holds at each turn.
 use Rattle.mdx_reader.proofs.Whites.{white_more}
 use Rattle.mdx_reader.proofs.path.behind_white.Goals as goal
 

@@ -1,3 +1,4 @@
+-- What holds at each turn of `behind_white`.
 use Rattle.std.proofs.Common.{◌-◌, length}
 use Rattle.mdx_reader.specs.PathSteps.{IsWhiteTo}
 use Rattle.mdx_reader.proofs.path.behind_white.Given as goal

@@ -1,3 +1,4 @@
+-- That `char_at` ensures what it says.
 use Rattle.mdx_reader.proofs.TextPlaces.{char_here}
 use Rattle.mdx_reader.proofs.path.char_at.Goals as goal
 

@@ -1,3 +1,4 @@
+-- That `read_name` ensures what it says and keeps what holds at each turn.
 use Rattle.std.proofs.Common.{◌≡◌, ◌+◌, sym, ap, subst, ◌∙◌}
 use Rattle.std.specs.Char.{len_utf8}
 use Rattle.mdx_reader.specs.PathSteps.{ReadsName}
@@ -29,8 +30,8 @@ loop-c-preserved c =
     let end = l.at + c.len_utf8.result in
     let at : end ≡ l.at + len_utf8 c.in-Some.c = ap (λ n. l.at + n) c.len_utf8.ensures.value in
     elim c.if-c-eq93.branch [
-      | then-c-eq93+else-not-has-2 w ↦ name_more_close text c.args.from l.at c.in-Some.c end c.if-c-eq93.at l.name c.push.new.self c.utf8.text l.invariant c.in-Some.ensures w.if-c-eq93.true at w.if-not-has-2.ensures w.at-is c.in_ok-push.ensures
-      | else-c-eq93 w ↦ name_more text c.args.from l.at c.in-Some.c c.if-c-eq93.at l.name c.push.new.self l.invariant c.in-Some.ensures w.if-c-eq93.false (w.at-is ∙ at) c.in_ok-push.ensures
+      | then-c-eq93+else-not-has-2 w ↦ name_more_close text c.args.from l.at c.in-Some.c end c.if-c-eq93.at l.name c.push.new.self c.utf8.text l.invariant c.in-Some.ensures w.if-c-eq93.true at w.if-not-has-2.ensures w.at-is c.in_ok-push.ensures.ok
+      | else-c-eq93 w ↦ name_more text c.args.from l.at c.in-Some.c c.if-c-eq93.at l.name c.push.new.self l.invariant c.in-Some.ensures w.if-c-eq93.false (w.at-is ∙ at) c.in_ok-push.ensures.ok
     ]
 
 pub returns : goal.returns

@@ -1,3 +1,4 @@
+-- What holds at each turn of `read_name`.
 use Rattle.std.proofs.Common.{◌-◌, length}
 use Rattle.mdx_reader.proofs.NameTexts.{IsNameTo}
 use Rattle.mdx_reader.proofs.path.read_name.Given as goal

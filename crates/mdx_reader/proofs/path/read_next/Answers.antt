@@ -1,3 +1,4 @@
+-- That `read_next` ensures what it says.
 use Rattle.std.proofs.Common.{subst}
 use Rattle.mdx_reader.specs.PathSteps.{ReadsName}
 use Rattle.mdx_reader.proofs.PathReading.{no_next}

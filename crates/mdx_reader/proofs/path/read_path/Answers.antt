@@ -1,3 +1,4 @@
+-- That `read_path` ensures what it says and keeps what holds at each turn.
 use Rattle.std.proofs.Common.{drop, subst}
 use Rattle.std.proofs.lemmas.Option.{MatchOption-at_some, MatchOption-at_none}
 use Rattle.mdx_reader.specs.PathSteps.{ReadsName, IsNextAt, BeginsNoNext}

@@ -1,3 +1,4 @@
+-- What holds at each turn of `read_path`.
 use Rattle.std.proofs.Common.{◌-◌, length}
 use Rattle.mdx_reader.proofs.PathReading.{IsPathTo}
 use Rattle.mdx_reader.proofs.path.read_path.Given as goal

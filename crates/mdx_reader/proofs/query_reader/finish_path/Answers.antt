@@ -1,3 +1,4 @@
+-- That `finish_path` ensures what it says.
 use Rattle.mdx_reader.proofs.Finishes.{alone_goes_on, tuple_goes_on, in_slicer_goes_on, slicer_ends_it}
 use Rattle.mdx_reader.proofs.query_reader.finish_path.Goals as goal
 

@@ -1,3 +1,4 @@
+-- That `take_around_axes` ensures what it says.
 use Rattle.std.proofs.Common.{refl}
 use Rattle.mdx_reader.specs.declared.place.Place.TheVariants as place
 use Rattle.mdx_reader.specs.Tellings.{at_both}

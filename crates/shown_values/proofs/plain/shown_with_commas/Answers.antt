@@ -1,6 +1,6 @@
 -- That `shown_with_commas` ensures what it says.
 use Rattle.std.proofs.Common.{◌∙◌, ap}
-use Rattle.shown_values.specs.Shown.{bare, breaks}
+use Rattle.query_meaning.specs.Shown.{bare, breaks}
 use Rattle.shown_values.proofs.PlainFacts.{shows}
 use Rattle.shown_values.proofs.plain.shown_with_commas.Goals as goal
 

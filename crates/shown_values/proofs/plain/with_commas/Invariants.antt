@@ -1,6 +1,6 @@
 -- What holds at each turn of `with_commas`.
 use Rattle.std.proofs.Common.{◌≡◌, flat_map, encode_utf8, string_bytes}
-use Rattle.shown_values.specs.Shown.{bare, breaks}
+use Rattle.query_meaning.specs.Shown.{bare, breaks}
 use Rattle.shown_values.proofs.plain.with_commas.Given as goal
 
 abbrev pub invariant-loop-c : goal.invariant-loop-c

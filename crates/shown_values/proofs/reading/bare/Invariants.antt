@@ -1,6 +1,6 @@
 -- What holds at each turn of `bare`.
 use Rattle.std.proofs.Common.{◌≡◌, take}
-use Rattle.shown_values.specs.Shown.{bare}
+use Rattle.query_meaning.specs.Shown.{bare}
 use Rattle.shown_values.proofs.reading.bare.Given as goal
 
 abbrev pub invariant-loop-byte : goal.invariant-loop-byte

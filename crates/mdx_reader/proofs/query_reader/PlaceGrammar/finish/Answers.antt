@@ -1,3 +1,4 @@
+-- That `finish` ensures what it says.
 use Rattle.mdx_reader.specs.declared.place.Place.TheVariants.{AfterName, Done}
 use Rattle.std.proofs.Common.{◌∙◌, ap, sym, None, refl}
 use Rattle.mdx_reader.proofs.Finishes.{others_go_on, path_finished, cube_ends_it, query_ends_it}

@@ -1,3 +1,4 @@
+-- That `wants_name` ensures what it says.
 use Rattle.std.proofs.Common.{arith, true, false}
 use Rattle.mdx_reader.specs.declared.place.Place.TheVariants as place
 use Rattle.mdx_reader.proofs.Wants.{named_at, axis_named, set_named, item_named, item_unnamed_at, path_named, dot_named, cube_named, slicer_named, set_unnamed, path_unnamed}

@@ -1,3 +1,4 @@
+-- That `wants_word` ensures what it says.
 use Rattle.mdx_reader.proofs.Wants.{start_wants, non_wants, columns_wants, rows_wants, cube_wants, axis_wants, set_wants, item_wants, after_wants, alone_wants, dot_wants, on_columns_wants, on_rows_wants, set_wants_none, item_wants_none, after_wants_none, alone_wants_none, tuple_wants_none, slicer_wants_none, in_slicer_wants_none, if_true, if_false}
 use Rattle.mdx_reader.proofs.query_reader.PlaceGrammar.wants_word.Goals as goal
 

@@ -1,0 +1,11 @@
+pub mod NameTexts
+pub mod NameSteps
+pub mod NameEnds
+pub mod TitleSteps
+pub mod TitleFacts
+pub mod Breaks
+pub mod Joins
+pub mod Lists
+pub mod Heads
+pub mod RowFacts
+pub mod GridFacts

@@ -1,0 +1,3 @@
+pub mod NameBytes
+pub mod Reading
+pub mod Lines

@@ -1,0 +1,14 @@
+pub mod Lists
+pub mod Fronts
+pub mod Order
+pub mod RowFacts
+pub mod LoopFacts
+pub mod StepFacts
+pub mod PushFacts
+pub mod Below
+pub mod Counts
+pub mod RowsByPlace
+pub mod Spans
+pub mod Kept
+pub mod Steps
+pub mod Under

@@ -1,0 +1,4 @@
+pub mod Trees
+pub mod Nodes
+pub mod Spans
+pub mod Numbered
