@@ -2,7 +2,6 @@
 ghost use Rattle.std.specs.Prelude.{IfOk};
 ghost use Rattle.olap_meaning.specs.Texts.{CanBeShown};
 ghost use Rattle.query_meaning.specs.Shown.{Shows};
-ghost use Rattle.result_layout.specs.Axes.{AreAxesOf};
 
 use crate::axes::{Side, answer, axes, is_whole};
 use crate::grid_texts::{Sheet, reads};
@@ -11,7 +10,6 @@ use grid_reader::read_grid;
 use history_core::Answer;
 use olap_catalog::Catalog;
 use olap_meaning::{CellValue, OutOfMemory, Text};
-use query_meaning::Axes;
 use result_layout::grid;
 use shown_values::{Formatter, Showing, shown_plainly, shown_with_commas};
 use std::alloc::Global;
@@ -338,20 +336,20 @@ fn opened(alloc: Global, schema: &[u8], tables: &[&[u8]]) -> Result<Catalog, Fai
     }
 }
 
-// The grid of an answer, where it has a cell for each row and column.
+// The grid of an answer over the axes with these sides, where it has a cell for each row and column.
 fn laid_out(
     alloc: Global,
     catalog: &Catalog,
-    axes: &Axes,
+    columns: &Side<'_>,
+    rows: Option<&Side<'_>>,
     answer: &Answer,
     formatter: &Formatter,
-) -> Result<Result<Text, OutOfMemory>, Fail>
-    requires { AreAxesOf catalog.now axes.now }
-{
-    if !is_whole(axes, answer) {
+) -> Result<Result<Text, OutOfMemory>, Fail> {
+    let axes = axes(alloc, catalog, columns, rows)?;
+    if !is_whole(&axes, answer) {
         return Err(Fail::from("not as many cells"));
     }
-    Ok(grid(alloc, catalog, axes, answer, formatter))
+    Ok(grid(alloc, catalog, &axes, answer, formatter))
 }
 
 // The grid of a case.
@@ -361,9 +359,9 @@ fn grid_of(
     case: &Case,
     formatter: &Formatter,
 ) -> Result<Result<Text, OutOfMemory>, Fail> {
-    let axes = axes(alloc, catalog, &case.columns, case.rows.as_ref())?;
     let answer = answer(alloc, case.shown.position, case.values)?;
-    laid_out(alloc, catalog, &axes, &answer, formatter)
+    let rows = case.rows.as_ref();
+    laid_out(alloc, catalog, &case.columns, rows, &answer, formatter)
 }
 
 // Lays out a case, compares its text, and reads it back.
@@ -538,41 +536,36 @@ fn reads_values(alloc: Global, text: &str, values: &[CellValue]) -> bool {
     }
 }
 
-fn many_axes(alloc: Global, catalog: &Catalog) -> Result<Axes, Fail>
-    ensures { IfOk result (AreAxesOf catalog.now) }
-{
-    let columns = repeated(alloc, "Measures/Units", WIDTH)?;
-    let rows = repeated(alloc, "Time/1997", HEIGHT)?;
-    axes(
-        alloc,
-        catalog,
-        &(true, columns.as_slice()),
-        Some(&(true, rows.as_slice())),
-    )
-}
-
 // The grid of many cells, under NON EMPTY on both axes.
-fn many_cells(alloc: Global, formatter: &Formatter, values: &[CellValue]) -> Result<Text, Fail> {
-    let catalog = opened(alloc, schema(), &[times(), stores()])?;
-    let axes = many_axes(alloc, &catalog)?;
+fn many_cells(
+    alloc: Global,
+    catalog: &Catalog,
+    formatter: &Formatter,
+    values: &[CellValue],
+) -> Result<Result<Text, OutOfMemory>, Fail> {
+    let titles = repeated(alloc, "Measures/Units", WIDTH)?;
+    let years = repeated(alloc, "Time/1997", HEIGHT)?;
     let answer = answer(alloc, 7, values)?;
-    let text = laid_out(alloc, &catalog, &axes, &answer, formatter)??;
-    Ok(text)
+    let columns = (true, titles.as_slice());
+    let rows = (true, years.as_slice());
+    laid_out(alloc, catalog, &columns, Some(&rows), &answer, formatter)
 }
 
-// Lays out many cells, and reads them back.
-fn show_many(alloc: Global, formatter: &Formatter) -> Result<(), Fail> {
-    let values = many_values(alloc)?;
-    let text = many_cells(alloc, formatter, values.as_slice())?;
-    let lines = many_lines(alloc, values.as_slice())?;
-    if text.as_str() != lines.as_str() {
-        return Err(Fail::from("another text"));
-    }
-    if reads_values(alloc, text.as_str(), values.as_slice()) {
+// Compares the grid of many cells, and reads it back.
+fn compare_many(alloc: Global, text: &str, values: &[CellValue]) -> Result<(), Fail> {
+    let lines = many_lines(alloc, values)?;
+    if text == lines.as_str() && reads_values(alloc, text, values) {
         Ok(())
     } else {
-        Err(Fail::from("other values"))
+        Err(Fail::from("another grid"))
     }
+}
+
+fn show_many(alloc: Global, formatter: &Formatter) -> Result<(), Fail> {
+    let catalog = opened(alloc, schema(), &[times(), stores()])?;
+    let values = many_values(alloc)?;
+    let text = many_cells(alloc, &catalog, formatter, values.as_slice())??;
+    compare_many(alloc, text.as_str(), values.as_slice())
 }
 
 #[test]
