@@ -50,7 +50,8 @@ impl DimensionTable {
 
     /// How many records there are.
     pub fn len(&self) -> u32
-        ensures { result ≡ length self.now.records }
+        ensures count { result ≡ length self.now.records }
+        ensures limit { length self.now.records ≤ RECORD_LIMIT }
     {
         self.keys.len() as u32
     }

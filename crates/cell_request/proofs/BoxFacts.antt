@@ -1,5 +1,5 @@
 -- The box of the member on which a hierarchy stands.
-use Rattle.std.proofs.Common.{◌≡◌, ◌∙◌, ◌<◌, ◌++◌, ◌&&◌, ℕ, Bool, true, false, List, [], ◌∷◌, Option, Some, None, refl, sym, ap, inl, inr, map, slice_get, take, length, nat_lt, nat_eq, arith, if◌then◌else◌}
+use Rattle.std.proofs.Common.{◌≡◌, ◌∙◌, ◌<◌, ◌++◌, ◌&&◌, ℕ, Bool, true, false, List, [], ◌∷◌, Option, Some, None, refl, sym, ap, inl, inr, map, slice_get, take, length, nat_lt, nat_eq, arith}
 use Rattle.std.specs.List.{list_all, zip}
 use Rattle.std.specs.Option.{option_map_or}
 use Rattle.std.proofs.lemmas.Bool.{and_parts, lt-ltb}
@@ -13,12 +13,12 @@ use Rattle.olap_meaning.specs.declared.tables.Column.{Column}
 use Rattle.olap_meaning.specs.declared.tables.Cube.{Cube}
 use Rattle.olap_meaning.specs.declared.tables.Hierarchy.{Hierarchy}
 use Rattle.olap_meaning.specs.Catalog.{box, default_member, field_texts, first_appearances, paths_below, records, values}
-use Rattle.query_meaning.specs.CellQueries.{is_of, standing}
+use Rattle.query_meaning.specs.CellQueries.{is_of}
 use Rattle.olap_meaning.specs.Covering.{among}
 use Rattle.olap_meaning.specs.History.{is_some_and}
 use Rattle.olap_meaning.proofs.Loads.{some_and}
-use Rattle.olap_catalog.specs.MemberOf.{IsMemberOf, is_path, levels_of}
-use Rattle.olap_catalog.specs.Members.{all_text}
+use Rattle.olap_meaning.specs.MemberOf.{IsMemberOf, is_path, level_columns}
+use Rattle.olap_meaning.specs.Catalog.{all_text}
 use Rattle.olap_catalog.specs.Parts.{has_levels, is_level}
 use Rattle.olap_catalog.proofs.ValueFacts.{all_at}
 use Rattle.olap_meaning.specs.Legal.{is_column_of}
@@ -50,16 +50,20 @@ zip_none : (levels : List ℕ) → zip {K = ℕ} {X = ℕ} levels [] ≡ []
 zip_none [] = refl
 zip_none (c ∷ levels) = refl
 
+path_none : (catalog : Catalog) (levels : List ℕ) → is_path catalog levels [] ≡ true
+path_none catalog levels = refl
+
+-- no pair is a box of any hierarchy
+pub box_empty : (catalog : Catalog) (h : ℕ) (pairs : List (ℕ × ℕ)) → pairs ≡ [] → IsBoxOf catalog h pairs
+box_empty catalog h pairs is = ([], is ∙ sym (zip_none (level_columns catalog h)), path_none catalog (level_columns catalog h))
+
 -- the box of a member of a hierarchy is its first columns with the values of a path
 pub box_is : (catalog : Catalog) (cube h : ℕ) (m : Member) (pairs : List (ℕ × ℕ)) → IsMemberOf catalog cube m → is_of m h ≡ true → pairs ≡ box catalog m → IsBoxOf catalog h pairs
 box_is catalog cube h (member.Measure k) pairs own of is = absurd (cc of)
-box_is catalog cube h (member.All k) pairs own of is = ([], is ∙ sym (zip_none (levels_of catalog h)), path_none (levels_of catalog h))
-  where
-    path_none : (levels : List ℕ) → is_path catalog levels [] ≡ true
-    path_none levels = refl
+box_is catalog cube h (member.All k) pairs own of is = box_empty catalog h pairs is
 box_is catalog cube h (member.At k path) pairs own of is =
     let same : k ≡ h = eq_same k h of in
-    (path, is ∙ boxed (slice_get catalog.hierarchies k) ∙ ap (λ n. zip (levels_of catalog n) path) same, sym (ap (λ n. is_path catalog (levels_of catalog n) path) same) ∙ own.1)
+    (path, is ∙ boxed (slice_get catalog.hierarchies k) ∙ ap (λ n. zip (level_columns catalog n) path) same, sym (ap (λ n. is_path catalog (level_columns catalog n) path) same) ∙ own.1)
   where
     boxed : (o : Option Hierarchy) → option_map_or (λ (x : Hierarchy). zip x.levels path) o [] ≡ zip (option_map_or (λ (x : Hierarchy). x.levels) o []) path
     boxed None = refl
@@ -102,7 +106,7 @@ box_own catalog cube h pairs leveled within is = by (slice_get catalog.hierarchi
         → list_all (is_own catalog cube) pairs ≡ true
     in_cube hierarchy there None at used = absurd (cc used)
     in_cube hierarchy there (Some own) at used =
-        let levels : levels_of catalog h ≡ hierarchy.levels = ap (λ o. option_map_or (λ (x : Hierarchy). x.levels) o []) there in
+        let levels : level_columns catalog h ≡ hierarchy.levels = ap (λ o. option_map_or (λ (x : Hierarchy). x.levels) o []) there in
         ap (list_all (is_own catalog cube)) (is.1 ∙ ap (λ ls. zip ls is.0) levels)
         ∙ own_pairs catalog cube own hierarchy.dimension hierarchy.levels is.0 at used (all_at (has_levels catalog.columns) catalog.hierarchies h hierarchy leveled there) (sym (ap (λ ls. is_path catalog ls is.0) levels) ∙ is.2)
 
@@ -117,13 +121,5 @@ zip_front (c ∷ levels) [] = refl
 zip_front (c ∷ levels) (v ∷ path) = ap (λ cs. c ∷ cs) (zip_front levels path)
 
 -- its columns are the hierarchy's first
-pub box_front : (catalog : Catalog) (h : ℕ) (pairs : List (ℕ × ℕ)) → IsBoxOf catalog h pairs → IsFront (map (λ pair. pair.0) pairs) (levels_of catalog h)
-box_front catalog h pairs is = (length is.0, ap (map (λ (pair : ℕ × ℕ). pair.0)) is.1 ∙ zip_front (levels_of catalog h) is.0)
-
--- a member of a hierarchy stands for itself
-pub stands_itself : (catalog : Catalog) (cube h : ℕ) (under : Member) → is_of under h ≡ true → standing catalog cube under h ≡ Some under
-stands_itself catalog cube h under of = ap (λ b. if b then Some under else default_member catalog cube (Whole h)) of
-
--- and any other for the default member
-pub stands_default : (catalog : Catalog) (cube h : ℕ) (under : Member) → is_of under h ≡ false → standing catalog cube under h ≡ default_member catalog cube (Whole h)
-stands_default catalog cube h under of = ap (λ b. if b then Some under else default_member catalog cube (Whole h)) of
+pub box_front : (catalog : Catalog) (h : ℕ) (pairs : List (ℕ × ℕ)) → IsBoxOf catalog h pairs → IsFront (map (λ pair. pair.0) pairs) (level_columns catalog h)
+box_front catalog h pairs is = (length is.0, ap (map (λ (pair : ℕ × ℕ). pair.0)) is.1 ∙ zip_front (level_columns catalog h) is.0)

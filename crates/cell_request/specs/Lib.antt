@@ -1,2 +1,6 @@
+pub mod Faults
+pub mod Plans
+pub mod Parts
 pub mod Boxes
-pub mod Meanings
+pub mod Defaults
+pub mod Standing

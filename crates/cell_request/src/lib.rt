@@ -1,10 +1,19 @@
-//! What a query of one cell means in a catalog: a cube, a member, and the cell under it.
+//! What a query means in a catalog: its axes, or why it means none; and the cells of axes.
 #![tactic(auto)]
 
+mod axes;
+mod axis_cells;
 mod boxes;
-mod cells;
+mod braces;
+mod defaults;
 mod fault;
-mod meaning;
+mod members;
+mod names;
+mod parts;
+mod plan;
+mod roots;
+mod sets;
 
-pub use fault::QueryFault;
-pub use meaning::{Resolved, resolve};
+pub use axes::resolve;
+pub use axis_cells::cells;
+pub use fault::ResolveFault;

@@ -1,5 +1,5 @@
 -- No name of a schema that is read is empty.
-use Rattle.std.proofs.Common.{◌≡◌, ◌≢◌, ◌+◌, ◌++◌, ◌||◌, ℕ, List, [], ◌∷◌, length, flat_map, true, Option, Some, None, Ok, bytes_eq, codes, unwrap_or, subst}
+use Rattle.std.proofs.Common.{◌≡◌, ◌≢◌, ◌+◌, ◌++◌, ◌||◌, ℕ, List, [], ◌∷◌, length, flat_map, true, Option, Some, None, Result, Ok, arith, ap, bytes_eq, codes, unwrap_or, subst}
 use Rattle.olap_meaning.specs.FullNames.{joined_name}
 use Rattle.olap_meaning.specs.Schema.{levels_of}
 use Rattle.olap_meaning.specs.Whole.{IsNamedCube, IsNamedDimension, IsNamedHierarchy, has_level}
@@ -11,6 +11,7 @@ use Rattle.olap_meaning.specs.declared.schema.SchemaLevel.{SchemaLevel}
 use Rattle.olap_meaning.specs.declared.tables.Measure.{Measure}
 use Rattle.serde_json.specs.Data.{Data, array, boolean, null, number, object, string}
 use Rattle.serde_json.specs.Find.{get}
+use Rattle.cube_schema.specs.declared.fault.SchemaFault.{SchemaFault}
 use Rattle.cube_schema.specs.declared.fault.SchemaFault.TheVariants.{TwiceNamed}
 use Rattle.cube_schema.specs.declared.place.SchemaKey.{SchemaKey}
 use Rattle.cube_schema.specs.declared.place.SchemaKey.TheVariants.{AllMemberName, Column, Dimensions, Fact, HasAll, Hierarchies, Levels, Measures, Name, PrimaryKey, Table}
@@ -19,10 +20,10 @@ use Rattle.cube_schema.specs.declared.place.SchemaPlace.{SchemaPlace}
 use Rattle.cube_schema.specs.declared.place.SchemaPlace.TheVariants.{Key, Node}
 use Rattle.cube_schema.specs.Cubes.{aggregator_at, cube_of, has_cube, has_measure, measure_of, use_of}
 use Rattle.cube_schema.specs.Dimensions.{all_full_names, default_all_member, dimension_of, full_names, has_dimension, hierarchy_of, is_taken, level_of, levels_in, some_beside}
-use Rattle.cube_schema.specs.Fields.{bool_at, file_at, filled_text, name_at, name_if_there, name_of, object_at, optional_name_at, refused_if, value_at}
+use Rattle.cube_schema.specs.Fields.{bool_at, file_at, filled, filled_text, name_at, name_if_there, name_of, object_at, optional_name_at, refused_if, value_at, within}
 use Rattle.cube_schema.specs.Lists.{at_most, items_at, some, some_at_most}
 use Rattle.cube_schema.specs.Places.{key_text}
-use Rattle.cube_schema.proofs.ListFacts.{all-read}
+use Rattle.cube_schema.proofs.ListFacts.{all-read, items_at-parts, items_from-length}
 use Rattle.cube_schema.proofs.StepFacts.{both-ok, same-ok}
 
 -- ---- names under keys
@@ -131,6 +132,20 @@ measure_is_named i earlier v measure e =
     let aggregator = both-ok (aggregator_at node whole.0) _ measure column.2 in
     subst (λ (m : Measure). m.name ≢ []) (same-ok _ measure aggregator.2) (name_some node Name whole.0 name.0 name.1)
 
+-- a list that has an item is no list of none
+filled-some : (first : SchemaNode) (items : List Data) → filled first items ≡ Ok tt → length items ≢ 0
+filled-some first [] e none = let n : ⊥ = cc in n
+filled-some first (d ∷ ds) e none = let n : ⊥ = omega (arith, none) in n
+
+-- a list that must have an item was read, so it has one
+some-read : {A : Type 0} (node : SchemaNode) (key : SchemaKey) (first : SchemaNode) (limit : ℕ) (item : List A → Data → Result A SchemaFault) (v : Data) (found : List A)
+    → items_at node key (some_at_most first limit) item v ≡ Ok found → found ≢ []
+some-read node key first limit item v found e none =
+    let parts = items_at-parts node key (some_at_most first limit) item v found e in
+    let count = items_from-length item [] parts.items found parts.read in
+    let sized = both-ok (within (Key node key) (length parts.items) limit) _ tt parts.sized in
+    filled-some first parts.items sized.2 (omega (arith, count, ap length none))
+
 pub cube_is_named : (dimensions : List SchemaDimension) (earlier : List SchemaCube) (v : Data) (cube : SchemaCube) → cube_of dimensions earlier v ≡ Ok cube → IsNamedCube cube
 unfolding cube_of
 cube_is_named dimensions earlier v cube e =
@@ -146,5 +161,6 @@ cube_is_named dimensions earlier v cube e =
     subst IsNamedCube (same-ok _ cube measures.2)
     (record {
       own = name_some node Name whole.0 name.0 name.1;
+      some = some-read node Measures (SchemaNode.Measure i 0) MEASURE_LIMIT (measure_of i) whole.0 measures.0 measures.1;
       measures = all-read (λ (m : Measure). m.name ≢ []) node Measures size (measure_of i) whole.0 measures.0 (measure_is_named i) measures.1;
     })

@@ -5,7 +5,7 @@ ghost use Rattle.std.specs.Prelude.{◌≡◌, IfOk, IsTrue};
 ghost use Rattle.olap_meaning.specs.Legal.{is_cell};
 
 use cache_opening::{OpenFault, open_cache};
-use cell_request::{QueryFault, Resolved, resolve};
+use cell_meaning::{QueryFault, Resolved, resolve};
 use fact_versions::Steps;
 use history_core::Answer;
 use line_session::Desk;

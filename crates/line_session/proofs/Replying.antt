@@ -8,9 +8,9 @@ use Rattle.olap_meaning.specs.declared.cells.Cell.{Cell}
 use Rattle.olap_meaning.specs.declared.tables.Catalog.{Catalog}
 use Rattle.query_meaning.specs.CellQueries.{Meant, NoMatch}
 use Rattle.query_meaning.specs.Replies.{no_match_reply, no_memory_reply}
-use Rattle.cell_request.specs.Meanings.{no_match}
-use Rattle.cell_request.specs.declared.fault.QueryFault.{QueryFault}
-use Rattle.cell_request.specs.declared.fault.QueryFault.TheVariants as fault
+use Rattle.cell_meaning.specs.Meanings.{no_match}
+use Rattle.cell_meaning.specs.declared.fault.QueryFault.{QueryFault}
+use Rattle.cell_meaning.specs.declared.fault.QueryFault.TheVariants as fault
 use Rattle.history_core.specs.declared.answers.Answer.{Answer}
 use Rattle.outside.specs.Fetched.{Fetched}
 use Rattle.outside.specs.Told.{AreTheirs, Files, IsOf}

@@ -1,7 +1,7 @@
 //! What is replied to a query of one cell.
 ghost use Rattle.std.specs.Prelude.{◌≡◌, ◌≤◌, ◌<◌, ◌+◌, ◌⊎◌, ℕ, [], IfOk, IsSomeAnd, IsTrue, length, Option};
-ghost use Rattle.cell_request.specs.Meanings.{meant, no_match};
-ghost use Rattle.olap_catalog.specs.MemberOf.{IsMemberOf};
+ghost use Rattle.cell_meaning.specs.Meanings.{meant, no_match};
+ghost use Rattle.olap_meaning.specs.MemberOf.{IsMemberOf};
 ghost use Rattle.olap_meaning.specs.Legal.{is_cell};
 ghost use Rattle.query_meaning.specs.CellQueries.{meaning_of};
 ghost use Rattle.query_meaning.specs.Replies.{no_match_reply, no_memory_reply};
@@ -10,7 +10,7 @@ ghost use Rattle.line_session.specs.Replies.{AnswersMeaning, GivesGrid, GivesNoG
 
 use crate::desk::Desk;
 use crate::reply::Reply;
-use cell_request::{QueryFault, Resolved, resolve};
+use cell_meaning::{QueryFault, Resolved, resolve};
 use fact_versions::Steps;
 use history_core::Answer;
 use olap_catalog::Catalog;

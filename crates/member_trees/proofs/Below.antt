@@ -9,7 +9,8 @@ use Rattle.std.proofs.lemmas.List.Folds.{list_any_none}
 use Rattle.std.proofs.lemmas.Slice.Eq.{bytes_eq-Decides}
 use Rattle.olap_meaning.specs.Catalog.{first_appearances}
 use Rattle.olap_meaning.proofs.Appearances.{any-same}
-use Rattle.member_trees.specs.Trees.{AreWhole, below}
+use Rattle.olap_meaning.specs.Catalog.{below}
+use Rattle.member_trees.specs.Trees.{AreWhole}
 use Rattle.member_trees.specs.Nodes.{last_value}
 
 -- whether a leaf begins with a path

@@ -5,7 +5,7 @@ use Rattle.std.proofs.lemmas.List.{take_at, length-map, take-take}
 use Rattle.std.proofs.lemmas.List.Elements.{All-head, All-tail, All-weaker, filter-append}
 use Rattle.std.proofs.lemmas.Slice.Eq.{bytes_eq-Decides}
 use Rattle.olap_meaning.specs.Catalog.{first_appearances}
-use Rattle.member_trees.specs.Trees.{below, at_depth}
+use Rattle.olap_meaning.specs.Catalog.{below, at_depth}
 use Rattle.member_trees.specs.Nodes.{last_value}
 use Rattle.member_trees.proofs.Below.{begins, front_of, begins_from, shape, cut, is_next, long_below}
 

@@ -12,7 +12,8 @@ use Rattle.olap_meaning.proofs.Appearances.{any-same}
 use Rattle.olap_meaning.specs.Catalog.{first_appearances}
 use Rattle.member_trees.specs.Nodes.{last_value}
 use Rattle.member_trees.specs.Numbered.{fronts, number_in, members_below, children_of}
-use Rattle.member_trees.specs.Trees.{AreWhole, below}
+use Rattle.olap_meaning.specs.Catalog.{below}
+use Rattle.member_trees.specs.Trees.{AreWhole}
 use Rattle.member_trees.proofs.Lists.{Each-all, Each-weaker, Each-filter, Each-filter_passes, Each-map, map_same, filter_all, filter_none, filter-map, filter_comm, filter_within, length_filter_le, enumerate-map}
 
 -- each path but once

@@ -4,7 +4,8 @@ use Rattle.std.specs.List.{AllByRecursion as Each, list_any}
 use Rattle.std.proofs.lemmas.List.{length-map}
 use Rattle.member_trees.specs.Nodes.{last_value}
 use Rattle.member_trees.specs.Numbered.{fronts, number_in, members_below, children_of}
-use Rattle.member_trees.specs.Trees.{AreWhole, below, at_depth}
+use Rattle.olap_meaning.specs.Catalog.{below, at_depth}
+use Rattle.member_trees.specs.Trees.{AreWhole}
 use Rattle.member_trees.proofs.Lists.{Each-all, Each-weaker, Each-filter, Each-flat_map, flat_map_same, filter_all, filter_none, joined_once}
 use Rattle.member_trees.proofs.Fronts.{Distinct, Each-among, few_appearances, fronts_distinct, front_lengths, below_is, below_none, children_are}
 use Rattle.std.proofs.lemmas.Slice.Eq.{bytes_eq-Decides}

@@ -11,7 +11,8 @@ use Rattle.member_trees.specs.declared.node.Node.{Node}
 use Rattle.member_trees.specs.declared.rows.Placed.{Placed}
 use Rattle.member_trees.specs.Nodes.{last_value, places_below, first_below, nodes_below}
 use Rattle.member_trees.specs.Numbered.{fronts, number_in, members_below, children_of, placed_child, placed_children, listed_nodes}
-use Rattle.member_trees.specs.Trees.{AreWhole, below, at_depth}
+use Rattle.olap_meaning.specs.Catalog.{below, at_depth}
+use Rattle.member_trees.specs.Trees.{AreWhole}
 use Rattle.member_trees.proofs.Lists.{Each-all, Each-weaker, Each-map, Each-enumerate, map_same, flat_map_same, map-flat_map, enumerate-map, flat_map-enumerate, length_joined, position_within}
 use Rattle.member_trees.proofs.Fronts.{few_appearances, below_none, fronts_above}
 use Rattle.member_trees.proofs.Order.{IsFront, order_known, order_few, order_end, children_below}

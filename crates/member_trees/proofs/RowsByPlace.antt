@@ -6,7 +6,7 @@ use Rattle.std.proofs.lemmas.List.{length-map, map-append, get_or-map, get_or_at
 use Rattle.std.proofs.lemmas.List.FromFn.{length-enumerate_from, get_or-enumerate_from}
 use Rattle.std.proofs.lemmas.List.Elements.{All-head, All-tail, All-nil, All-cons, All-append, All-weaker, All-map}
 use Rattle.member_trees.specs.declared.node.Node.{Node}
-use Rattle.member_trees.specs.Trees.{at_depth, below}
+use Rattle.olap_meaning.specs.Catalog.{at_depth, below}
 use Rattle.member_trees.specs.Nodes.{last_value, places_below, first_below, nodes_below}
 use Rattle.member_trees.specs.Spans.{values, firsts}
 use Rattle.member_trees.proofs.Below.{shape}

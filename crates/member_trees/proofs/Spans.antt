@@ -1,10 +1,10 @@
 -- Spans of paths: that of the top, that below a place, and what stands at a place of one.
-use Rattle.std.proofs.Common.{◌≡◌, refl, sym, ◌∙◌, ap, ℕ, zero, suc, ◌+◌, ◌-◌, ◌<◌, ◌≤◌, List, [], ◌∷◌, ◌++◌, length, take, drop, map, get_or, flat_map, slice_get, slice_range, Some, All, arith, length-append, length-take, length-drop, take-append-drop, append-nil, take_at, drop_at, get_or-take, get_or-drop, take-suc}
-use Rattle.std.proofs.lemmas.List.{get_or-map, take-map, drop-map, take_all, drop_more, nil_from_length}
+use Rattle.std.proofs.Common.{◌≡◌, refl, sym, ◌∙◌, ap, ℕ, zero, suc, ◌+◌, ◌-◌, ◌<◌, ◌≤◌, List, [], ◌∷◌, ◌++◌, length, take, drop, map, get_or, flat_map, slice_range, All, arith, length-append, length-take, length-drop, take-append-drop, append-nil, take_at, drop_at, get_or-take, get_or-drop, take-suc}
+use Rattle.std.proofs.lemmas.List.{get_or-map, take-map, drop-map, take_all, drop_more}
 use Rattle.std.proofs.lemmas.List.Concat.{flat_map-append}
 use Rattle.std.proofs.lemmas.List.Elements.{All-nil, All-cons, All-weaker, All-get_or, All-from_get_or}
 use Rattle.member_trees.specs.declared.node.Node.{Node}
-use Rattle.member_trees.specs.Trees.{at_depth, below}
+use Rattle.olap_meaning.specs.Catalog.{at_depth, below}
 use Rattle.member_trees.specs.Nodes.{last_value, first_below, nodes_below}
 use Rattle.member_trees.specs.Spans.{values, IsSpan}
 use Rattle.member_trees.proofs.Below.{shape, long_below, none_beyond}
@@ -109,19 +109,3 @@ span-paths {leaves} {depth} {path} {start} {end} s =
     ∙ ap (map (λ v. path ++ v ∷ [])) (sym (take-map (λ (node : Node). node.value) (end - start) (drop start (nodes_below leaves depth))) ∙ ap (take (end - start)) (sym (drop-map (λ (node : Node). node.value) start (nodes_below leaves depth)) ∙ ap (drop start) (values-are leaves depth) ∙ drop-map last_value start (at_depth leaves (suc depth))) ∙ take-map last_value (end - start) (drop start (at_depth leaves (suc depth))) ∙ ap (map last_value) s.are)
     ∙ map-map last_value (λ v. path ++ v ∷ []) (below leaves path)
     ∙ map-fixed (λ next. path ++ last_value next ∷ []) (below leaves path) (shape leaves path)
-
-first-of : {A : Type 0} (xs : List A) (d : A) → 0 < length xs → slice_get xs 0 ≡ Some (get_or xs 0 d)
-first-of [] d h = absurd (omega arith)
-first-of (x ∷ xs) d h = refl
-
--- the first path of a span
-pub span-first : {leaves : List (List ℕ)} {depth : ℕ} {path : List ℕ} {start end : ℕ} → IsSpan leaves depth path start end → start < end → Some (path ++ get_or (values (nodes_below leaves depth)) start 0 ∷ []) ≡ slice_get (below leaves path) 0
-span-first {leaves} {depth} {path} {start} {end} s h =
-    let long = span-length s in
-    ap Some (sym (span-child s start (omega arith) h) ∙ sym (in-span s start (omega arith) h) ∙ ap (λ n. get_or (below leaves path) n []) (let e : start - start ≡ 0 = omega arith in e))
-    ∙ sym (first-of (below leaves path) [] (omega (arith, long)))
-
--- an empty span has none
-pub span-empty : {leaves : List (List ℕ)} {depth : ℕ} {path : List ℕ} {start end : ℕ} → IsSpan leaves depth path start end → end ≤ start → below leaves path ≡ []
-span-empty {leaves} {depth} {path} {start} {end} s h =
-    let long = span-length s in nil_from_length (below leaves path) (omega (arith, long))

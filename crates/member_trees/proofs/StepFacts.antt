@@ -9,7 +9,7 @@ use Rattle.member_trees.specs.declared.node.Node.{Node}
 use Rattle.member_trees.specs.declared.rows.Placed.{Placed}
 use Rattle.member_trees.specs.Nodes.{nodes_below}
 use Rattle.member_trees.specs.Numbered.{AreNumbered, fronts, number_in, members_below, children_of, placed_children, listed_nodes}
-use Rattle.member_trees.specs.Trees.{at_depth}
+use Rattle.olap_meaning.specs.Catalog.{at_depth}
 use Rattle.member_trees.proofs.Order.{order_within}
 use Rattle.member_trees.proofs.RowFacts.{AreNext, placed_at, order_at, lists_of, placed_is, placed_numbers, nodes_are, children_few, order_listed, parents_known, members_count, members_few}
 

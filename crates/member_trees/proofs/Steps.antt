@@ -3,7 +3,7 @@ use Rattle.std.proofs.Common.{◌≡◌, sym, ◌∙◌, ap, subst, ℕ, suc, �
 use Rattle.std.proofs.lemmas.List.{get_or-map, drop_more, take_more, take_all, flat_map_more}
 use Rattle.std.proofs.lemmas.Bool.{cases_lt, eqb-false}
 use Rattle.member_trees.specs.declared.node.Node.{Node}
-use Rattle.member_trees.specs.Trees.{at_depth, below, under}
+use Rattle.olap_meaning.specs.Catalog.{at_depth, below, under}
 use Rattle.member_trees.specs.Nodes.{first_below, nodes_below}
 use Rattle.member_trees.specs.Spans.{values, firsts, IsSpan}
 use Rattle.member_trees.proofs.RowsByPlace.{first-is, length-row}

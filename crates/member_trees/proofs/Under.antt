@@ -1,7 +1,7 @@
 -- The paths of some levels below a path: how many they are by depth, and one level of them.
 use Rattle.std.proofs.Common.{◌≡◌, refl, sym, ◌∙◌, ap, ℕ, zero, suc, ◌+◌, ◌-◌, ◌<◌, ◌≤◌, List, [], ◌∷◌, ◌++◌, length, flat_map, arith, length-append, append-nil}
 use Rattle.std.proofs.lemmas.List.Concat.{flat_map-append}
-use Rattle.member_trees.specs.Trees.{at_depth, below, under}
+use Rattle.olap_meaning.specs.Catalog.{at_depth, below, under}
 
 -- the paths of some levels below the paths of a list, and of those one level further up
 heads : (leaves : List (List ℕ)) (levels : ℕ) (paths : List (List ℕ)) → length (flat_map (λ next. next ∷ under leaves levels next) paths) ≡ length paths + length (flat_map (under leaves levels) paths)

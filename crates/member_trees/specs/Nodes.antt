@@ -3,7 +3,8 @@ use Rattle.std.specs.Prelude.{ℕ, suc, ◌≡◌, ◌≤◌, ◌-◌, List, len
 use Rattle.std.specs.List.{enumerate_from, range_with_len}
 use Rattle.olap_meaning.specs.declared.schema.TheConstants.{LEVEL_LIMIT, RECORD_LIMIT}
 use Rattle.member_trees.specs.declared.node.Node.{Node}
-use Rattle.member_trees.specs.Trees.{AreWhole, at_depth, below}
+use Rattle.olap_meaning.specs.Catalog.{at_depth, below}
+use Rattle.member_trees.specs.Trees.{AreWhole}
 
 -- the last value of a path
 abbrev pub last_value : List ℕ → ℕ

@@ -1,7 +1,7 @@
 -- The places of the paths one level below a path, among those of their depth.
 use Rattle.std.specs.Prelude.{ℕ, suc, ◌≡◌, ◌≤◌, List, length, map, slice_range}
 use Rattle.member_trees.specs.declared.node.Node.{Node}
-use Rattle.member_trees.specs.Trees.{at_depth, below}
+use Rattle.olap_meaning.specs.Catalog.{at_depth, below}
 
 -- the last values of a row's paths
 abbrev pub values : List Node → List ℕ

@@ -11,4 +11,5 @@ mod rows;
 mod tree;
 
 pub use builder::TreeBuilder;
+pub use node::Node;
 pub use tree::MemberTree;

@@ -1,9 +1,9 @@
 //! What is asked of a tree of members. Nothing but the lists takes memory.
-ghost use Rattle.std.specs.Prelude.{◌≡◌, ◌≢◌, ◌≤◌, ◌<◌, ◌++◌, ◌∷◌, ◌-◌, ℕ, suc, List, [], length, take, map, All, IfOk, OnOk, IfSome, IfNone, option_map, slice_get, slice_index, slice_index_or};
-ghost use Rattle.member_trees.specs.Trees.{at_depth, below, under};
+ghost use Rattle.std.specs.Prelude.{◌≡◌, ◌≢◌, ◌≤◌, ◌<◌, ◌++◌, ◌∷◌, ◌-◌, ◌*◌, ℕ, suc, List, [], length, take, map, All, IfOk, OnOk, IfSome, IfNone, slice_index, slice_index_or};
+ghost use Rattle.olap_meaning.specs.Catalog.{at_depth, below, under};
 ghost use Rattle.member_trees.specs.Nodes.{nodes_below, first_below};
 ghost use Rattle.member_trees.specs.Spans.{IsSpan, values};
-ghost use Rattle.olap_meaning.specs.declared.schema.TheConstants.{RECORD_LIMIT};
+ghost use Rattle.olap_meaning.specs.declared.schema.TheConstants.{LEVEL_LIMIT, RECORD_LIMIT};
 
 use crate::node::Node;
 use crate::tree::MemberTree;
@@ -18,13 +18,6 @@ struct Span {
 }
 
 impl MemberTree {
-    /// How many levels there are.
-    pub fn levels(&self) -> u32
-        ensures { result ≡ self.now.levels }
-    {
-        self.levels
-    }
-
     /// How many paths are one level below a path.
     pub fn child_count(&self, path: &[ValueId]) -> u32
         ensures { result ≡ length (below self.now.leaves path.now) }
@@ -32,6 +25,17 @@ impl MemberTree {
         match self.span_below(path) {
             Some(span) => span.end - span.start,
             None => 0,
+        }
+    }
+
+    /// The members one level below a path, in their order. It takes no memory.
+    pub fn nodes_below(&self, path: &[ValueId]) -> &[Node]
+        ensures { map (λ node. path.now ++ node.value ∷ []) result.now
+            ≡ below self.now.leaves path.now }
+    {
+        match self.span_below(path) {
+            Some(span) => &self.row(path.len())[span.start as usize..span.end as usize],
+            None => &[],
         }
     }
 
@@ -43,26 +47,7 @@ impl MemberTree {
     ) -> Result<List<List<ValueId>>, OutOfMemory>
         ensures { IfOk result (λ paths. paths ≡ below self.now.leaves path.now) }
     {
-        match self.span_below(path) {
-            Some(span) => {
-                let row = self.row(path.len());
-                paths_of(alloc, path, &row[span.start as usize..span.end as usize])
-            }
-            None => Ok(List::new(alloc)),
-        }
-    }
-
-    /// The first of the values one level below a path; None where there is none.
-    pub fn first_child(&self, path: &[ValueId]) -> Option<ValueId>
-        ensures { option_map (λ value. path.now ++ value ∷ []) result
-            ≡ slice_get (below self.now.leaves path.now) 0 }
-    {
-        match self.span_below(path) {
-            Some(span) if span.start < span.end => {
-                Some(self.row(path.len())[span.start as usize].value)
-            }
-            _ => None,
-        }
+        paths_of(alloc, path, self.nodes_below(path))
     }
 
     /// How many paths a depth has.
@@ -92,7 +77,8 @@ impl MemberTree {
 
     /// How many paths there are below the top.
     pub fn count_under(&self) -> u64
-        ensures { result ≡ length (under self.now.leaves self.now.levels []) }
+        ensures count { result ≡ length (under self.now.leaves self.now.levels []) }
+        ensures few { result ≤ LEVEL_LIMIT * RECORD_LIMIT }
     {
         let mut count = 0;
         for depth in 0..self.levels as usize {

@@ -1,6 +1,6 @@
 //! The members of a hierarchy.
 ghost use Rattle.std.specs.Prelude.{◌≡◌, ◌≤◌, [], length, IfOk};
-ghost use Rattle.member_trees.specs.Trees.{at_depth, below, under};
+ghost use Rattle.olap_meaning.specs.Catalog.{at_depth, below, under};
 
 use crate::node::Node;
 use olap_meaning::{List, OutOfMemory, ValueId};

@@ -1,11 +1,13 @@
 pub mod LayoutFacts
 pub mod PartFacts
 pub mod ValueFacts
-pub mod MemberFacts
 pub mod HierarchyFacts
+pub mod TreeFacts
 pub mod RootFacts
 pub mod StepFacts
 pub mod WalkFacts
 pub mod MeasureFacts
 pub mod OwnFacts
+pub mod MemberFacts
 pub mod NameFacts
+pub mod LevelFacts

@@ -1,120 +1,108 @@
--- The children of a path, as the leaves' paths give them.
-use Rattle.std.proofs.Common.{inl, inr, ◌≡◌, ◌∙◌, ◌+◌, ◌<◌, ◌≤◌, ◌++◌, ℕ, zero, suc, Bool, true, false, List, [], ◌∷◌, Option, Some, None, refl, sym, ap, take, drop, filter_map, option_and_then, slice_get, get_or, length, nat_eq, bytes_eq, arith, take_all}
-use Rattle.std.specs.List.{cons_option, find, enumerate_from}
-use Rattle.std.specs.Option.{option_or}
-use Rattle.std.proofs.lemmas.Bool.{cases_Bool}
+-- The children of a path, by the nodes of its hierarchy's tree.
+use Rattle.std.proofs.Common.{◌≡◌, ◌∙◌, ◌<◌, ◌++◌, ℕ, true, List, [], ◌∷◌, Option, Some, None, All, refl, sym, ap, subst, map, option_map, option_and_then, unwrap_or, slice_get, length, get_or, nat_lt, arith}
+use Rattle.std.specs.List.{AllByRecursion as Each}
+use Rattle.std.specs.Option.{option_map_or}
 use Rattle.std.proofs.lemmas.Bool.Decides.{nat_tests}
-use Rattle.std.proofs.lemmas.List.{take-append-drop, get_or-take}
-use Rattle.std.proofs.lemmas.List.Folds.{find-append}
-use Rattle.std.proofs.lemmas.Slice.Eq.{bytes_eq-Decides}
-use Rattle.std.proofs.Math.Seq.{take-append_seam, get_or-append_seam, take-length}
-use Rattle.std.proofs.lemmas.List.{take_more, length-map, get_or-map}
-use Rattle.std.proofs.lemmas.List.Elements.{filter_map-append}
-use Rattle.std.proofs.lemmas.List.FromFn.{length-enumerate_from, get_or-enumerate_from}
-use Rattle.std.proofs.lemmas.Option.{get_or_from_slice_get}
-use Rattle.olap_meaning.specs.declared.tables.Record.{Record}
+use Rattle.std.proofs.lemmas.Option.{slice_get_within, slice_get_read}
+use Rattle.olap_meaning.specs.declared.tables.Column.{Column}
 use Rattle.olap_meaning.specs.declared.tables.Hierarchy.{Hierarchy}
 use Rattle.olap_meaning.specs.declared.tables.Catalog.{Catalog}
-use Rattle.olap_meaning.specs.Catalog.{leaf_value, leaf_text, value_number, values, records, paths, path_of}
-use Rattle.catalog_tables.proofs.FieldFacts.{position_within}
-use Rattle.olap_catalog.specs.Members.{next_of}
-use Rattle.olap_catalog.proofs.LayoutFacts.{drop_here}
-use Rattle.olap_catalog.proofs.PartFacts.{item_behind}
+use Rattle.olap_meaning.specs.declared.cells.Member.TheVariants as member
+use Rattle.olap_meaning.specs.Catalog.{first_appearances, field_texts, records, values, below, paths_below, children}
+use Rattle.olap_meaning.specs.MemberOf.{IsMemberOf, is_path, level_columns}
+use Rattle.member_trees.specs.declared.node.Node.{Node}
+use Rattle.member_trees.specs.Nodes.{last_value}
+use Rattle.member_trees.specs.Trees.{TreeOf}
+use Rattle.member_trees.proofs.Below.{last_push}
+use Rattle.olap_catalog.specs.Members.{child_text, child_values}
+use Rattle.olap_catalog.specs.Parts.{tree_of}
+use Rattle.olap_catalog.proofs.OwnFacts.{IsWhole, children_own, each_all}
+use Rattle.olap_catalog.proofs.TreeFacts.{with_tree}
+use Rattle.olap_catalog.proofs.ValueFacts.{and_both}
 
-length_take : {A : Type 0} (i : ℕ) (xs : List A) → i ≤ length xs → length (take i xs) ≡ i
-length_take zero xs h = refl
-length_take (suc i) [] h = absurd (omega arith)
-length_take (suc i) (x ∷ xs) h = let e = length_take i xs (omega arith) in omega arith
+-- the paths of some nodes below a path
+abbrev pub paths_of : List ℕ → List Node → List (List ℕ)
+paths_of path nodes = map (λ node. path ++ node.value ∷ []) nodes
 
--- a leaf whose path leaves a path on the way is not below it
-next_none : (path leaf rest : List ℕ) (i v : ℕ) → i < length path → leaf ≡ take i path ++ v ∷ rest → nat_eq v (get_or path i v) ≡ false → None ≡ next_of path leaf
-next_none path leaf rest i v within is other =
-    elim (cases_Bool (bytes_eq path (take (length path) leaf))) [
-      | inl same ↦
-          let equal : path ≡ take (length path) leaf = (bytes_eq-Decides path (take (length path) leaf)).0 same in
-          let here : get_or path i v ≡ v =
-          ap (λ xs. get_or xs i v) equal ∙ get_or-take (length path) leaf i v within ∙ ap (λ xs. get_or xs i v) is
-          ∙ ap (λ n. get_or (take i path ++ v ∷ rest) n v) (sym (length_take i path (omega arith))) ∙ get_or-append_seam (take i path) v rest v in
-          absurd (contradiction v (get_or path i v) other here)
-      | inr differ ↦ rw differ refl
-    ]
+lasts : (path : List ℕ) (nodes : List Node) → map last_value (paths_of path nodes) ≡ map (λ node. node.value) nodes
+lasts path [] = refl
+lasts path (n ∷ ns) = ap (λ v. v ∷ map last_value (paths_of path ns)) (last_push path n.value) ∙ ap (λ vs. n.value ∷ vs) (lasts path ns)
+
+-- the values of a path's children are those of the nodes below it
+pub values_in_tree : (catalog : Catalog) (h : ℕ) (tree : TreeOf) (path : List ℕ) (nodes : List Node) → Some tree ≡ option_map (tree_of catalog) (slice_get catalog.hierarchies h) → paths_of path nodes ≡ below tree.leaves path
+    → map (λ node. node.value) nodes ≡ child_values catalog h path
+values_in_tree catalog h tree path nodes is are = sym (lasts path nodes) ∙ ap (map last_value) are ∙ by (slice_get catalog.hierarchies h) is
   where
-    contradiction : (a b : ℕ) → nat_eq a b ≡ false → b ≡ a → ⊥
-    contradiction a b e same = grind (arith, nat_tests)
-
--- a leaf whose path goes on from a path
-pub next_some : (path leaf rest : List ℕ) (v : ℕ) → leaf ≡ path ++ v ∷ rest → Some v ≡ next_of path leaf
-next_some path leaf rest v is =
-    let same : bytes_eq path (take (length path) leaf) ≡ true = (bytes_eq-Decides path (take (length path) leaf)).1 (sym (ap (take (length path)) is ∙ take-append_seam path (v ∷ rest))) in
-    rw same (sym (ap (λ xs. slice_get xs (length path)) is ∙ item_behind path rest v))
-
-filter_map_here : {A B : Type 0} (f : A → Option B) (xs : List A) (i : ℕ) (x : A) (y : B) → i < length xs → x ≡ get_or xs i x → f x ≡ Some y → filter_map f (drop i xs) ≡ y ∷ filter_map f (drop (i + 1) xs)
-filter_map_here f xs i x y within at is = ap (filter_map f) (drop_here xs i x within at) ∙ ap (λ o. cons_option o (filter_map f (drop (i + 1) xs))) is
-
-pub next_none_at : (f : ℕ → Option ℕ) (path leaf levels : List ℕ) (i column v own : ℕ) → leaf ≡ take i path ++ filter_map f (drop i levels) → i < length path → i < length levels → column ≡ get_or levels i column → Some v ≡ f column
-    → own ≡ get_or path i own → nat_eq v own ≡ false → None ≡ next_of path leaf
-next_none_at f path leaf levels i column v own is within deep at found here other =
-    next_none path leaf (filter_map f (drop (i + 1) levels)) i v within (is ∙ ap (λ xs. take i path ++ xs) (filter_map_here f levels i column v deep at (sym found)))
-    (ap (nat_eq v) (get_or_any path i v own within ∙ sym here) ∙ other)
-  where
-    get_or_any : (xs : List ℕ) (k d e : ℕ) → k < length xs → get_or xs k d ≡ get_or xs k e
-    get_or_any [] k d e h = absurd (omega arith)
-    get_or_any (x ∷ xs) zero d e h = refl
-    get_or_any (x ∷ xs) (suc k) d e h = get_or_any xs k d e (omega arith)
-
-pub next_some_at : (f : ℕ → Option ℕ) (path leaf levels : List ℕ) (i column v : ℕ) → leaf ≡ take i path ++ filter_map f (drop i levels) → length path ≤ i → i ≤ length path → length path < length levels
-    → column ≡ get_or levels (length path) column → Some v ≡ f column → Some v ≡ next_of path leaf
-next_some_at f path leaf levels i column v is low high deep at found =
-    let same : i ≡ length path = omega arith in
-    next_some path leaf (filter_map f (drop (length path + 1) levels)) v
-    (is ∙ ap (λ n. take n path ++ filter_map f (drop n levels)) same ∙ ap (λ xs. xs ++ filter_map f (drop (length path) levels)) (take-length path)
-    ∙ ap (λ xs. path ++ xs) (filter_map_here f levels (length path) column v deep at (sym found)))
-
--- the value of a leaf is one of the column's values
-pub value_within : (catalog : Catalog) (column leaf v : ℕ) → Some v ≡ leaf_value catalog column leaf → v < length (values catalog column)
-value_within catalog column leaf v found = by (leaf_text catalog column leaf) (sym found)
-  where
-    by : (o : Option (List ℕ)) → option_and_then (value_number catalog column) o ≡ Some v → v < length (values catalog column)
+    by : (o : Option Hierarchy) → Some tree ≡ option_map (tree_of catalog) o → map last_value (below tree.leaves path) ≡ option_map_or (λ hierarchy. map last_value (paths_below catalog hierarchy path)) o []
     by None e = absurd (cc e)
-    by (Some text) e = position_within (bytes_eq text) (values catalog column) v e
+    by (Some x) e = let own : tree ≡ tree_of catalog x = cc e in ap (λ (t : TreeOf). map last_value (below t.leaves path)) own
 
-pub same_item : (xs : List ℕ) (i x y : ℕ) → x ≡ get_or xs i x → slice_get xs i ≡ Some y → x ≡ y
-same_item xs i x y at found = at ∙ get_or_from_slice_get xs i y x found
-
--- what one leaf more adds to what was looked through
-next_item : {A B : Type 0} (t : B → Bool) (g : A → Option B) (ps : List A) (i : ℕ) (p : A) → i < length ps → p ≡ get_or ps i p → find t (filter_map g (take i ps)) ≡ None
-    → find t (filter_map g (take (i + 1) ps)) ≡ find t (cons_option (g p) [])
-next_item t g ps i p within at none =
-    ap (λ xs. find t (filter_map g xs)) (take_more ps i p within ∙ ap (λ x. take i ps ++ x ∷ []) (sym at)) ∙ ap (find t) (filter_map-append g (take i ps) (p ∷ []))
-    ∙ find-append t (filter_map g (take i ps)) (cons_option (g p) []) ∙ ap (λ o. option_or o (find t (cons_option (g p) []))) none
-
-pub nothing_at : {A B : Type 0} (t : B → Bool) (g : A → Option B) (ps : List A) (i : ℕ) (p : A) → i < length ps → p ≡ get_or ps i p → find t (filter_map g (take i ps)) ≡ None → None ≡ find t (cons_option (g p) [])
-    → find t (filter_map g (take (i + 1) ps)) ≡ None
-nothing_at t g ps i p within at none skip = next_item t g ps i p within at none ∙ sym skip
-
-pub found_at : {A B : Type 0} (t : B → Bool) (g : A → Option B) (ps : List A) (i : ℕ) (p : A) (v : B) → i < length ps → p ≡ get_or ps i p → find t (filter_map g (take i ps)) ≡ None → Some v ≡ find t (cons_option (g p) [])
-    → Some v ≡ find t (filter_map g ps)
-found_at t g ps i p v within at none found =
-    sym (ap (λ xs. find t (filter_map g xs)) (sym (take-append-drop (i + 1) ps)) ∙ ap (find t) (filter_map-append g (take (i + 1) ps) (drop (i + 1) ps))
-    ∙ find-append t (filter_map g (take (i + 1) ps)) (filter_map g (drop (i + 1) ps))
-    ∙ ap (λ o. option_or o (find t (filter_map g (drop (i + 1) ps)))) (next_item t g ps i p within at none ∙ sym found))
-
--- nothing was found in all
-pub nothing_in : {A B : Type 0} (t : B → Bool) (g : A → Option B) (ps : List A) (i : ℕ) → length ps ≤ i → find t (filter_map g (take i ps)) ≡ None → None ≡ find t (filter_map g ps)
-nothing_in t g ps i past none = sym none ∙ ap (λ xs. find t (filter_map g xs)) (take_all i ps past)
-
--- the path of a leaf among all paths
-pub path_here : (catalog : Catalog) (hierarchy : Hierarchy) (leaf : ℕ) → leaf < length (records catalog hierarchy.dimension) → path_of catalog hierarchy leaf ≡ get_or (paths catalog hierarchy) leaf (path_of catalog hierarchy leaf)
-path_here catalog hierarchy leaf within =
-    let all = enumerate_from 0 (records catalog hierarchy.dimension) in
-    let inside : leaf < length all = omega (arith, length-enumerate_from 0 (records catalog hierarchy.dimension)) in
-    let empty : Record = record { key = []; fields = [] } in
-    sym (get_or-map (λ (leaf : ℕ × Record). path_of catalog hierarchy leaf.0) all leaf (0, empty) (path_of catalog hierarchy leaf) inside
-    ∙ ap (λ (pair : ℕ × Record). path_of catalog hierarchy pair.0) (get_or-enumerate_from 0 (records catalog hierarchy.dimension) leaf (0, empty) within)
-    ∙ ap (path_of catalog hierarchy) (zero_plus leaf))
+-- without a hierarchy there are none
+pub no_values : (catalog : Catalog) (h : ℕ) (path : List ℕ) → None ≡ option_map (tree_of catalog) (slice_get catalog.hierarchies h) → [] ≡ child_values catalog h path
+no_values catalog h path is = by (slice_get catalog.hierarchies h) is
   where
-    zero_plus : (n : ℕ) → 0 + n ≡ n
-    zero_plus n = omega arith
+    by : (o : Option Hierarchy) → None ≡ option_map (tree_of catalog) o → [] ≡ option_map_or (λ hierarchy. map last_value (paths_below catalog hierarchy path)) o []
+    by None e = refl
+    by (Some x) e = absurd (cc e)
 
-pub paths_length : (catalog : Catalog) (hierarchy : Hierarchy) → length (paths catalog hierarchy) ≡ length (records catalog hierarchy.dimension)
-paths_length catalog hierarchy = length-map (enumerate_from 0 (records catalog hierarchy.dimension)) (λ leaf. path_of catalog hierarchy leaf.0) ∙ length-enumerate_from 0 (records catalog hierarchy.dimension)
+each_of_map : {A B : Type 0} (P : B → Type 0) (f : A → B) (xs : List A) → Each P (map f xs) → Each (λ x. P (f x)) xs
+each_of_map P f [] each = tt
+each_of_map P f (x ∷ xs) each = (each.0, each_of_map P f xs each.1)
+
+-- each of them is a member of the catalog
+pub nodes_own : (catalog : Catalog) (h : ℕ) (tree : TreeOf) (path : List ℕ) (nodes : List Node) → IsWhole catalog → Some tree ≡ option_map (tree_of catalog) (slice_get catalog.hierarchies h) → paths_of path nodes ≡ below tree.leaves path
+    → All (λ node. IsMemberOf catalog 0 (member.At h (path ++ node.value ∷ []))) nodes
+nodes_own catalog h tree path nodes whole is are =
+    let same : children catalog (member.At h path) ≡ map (member.At h) (paths_of path nodes) =
+    sym (ap (map (member.At h)) are ∙ with_tree catalog h tree (λ x. paths_below catalog x path) (λ t. below t.leaves path) is (λ x. refl)) in
+    let each : Each (IsMemberOf catalog 0) (map (member.At h) (paths_of path nodes)) = subst (Each (IsMemberOf catalog 0)) same (children_own catalog 0 (member.At h path) whole) in
+    each_all (λ (node : Node). IsMemberOf catalog 0 (member.At h (path ++ node.value ∷ []))) nodes
+    (each_of_map (λ p. IsMemberOf catalog 0 (member.At h p)) (λ (node : Node). path ++ node.value ∷ []) nodes (each_of_map (IsMemberOf catalog 0) (member.At h) (paths_of path nodes) each))
+
+-- a path of some levels has a level for its last value, which is one of the column's
+path_within : (catalog : Catalog) (levels path : List ℕ) (v : ℕ) → is_path catalog levels (path ++ v ∷ []) ≡ true → (length path < length levels) × ((column : ℕ) → slice_get levels (length path) ≡ Some column → v < length (values catalog column))
+path_within catalog [] [] v own = absurd (cc own)
+path_within catalog [] (x ∷ xs) v own = absurd (cc own)
+path_within catalog (c ∷ levels) [] v own =
+    let parts = and_both (nat_lt v (length (values catalog c))) true own in
+    (omega arith, λ (column : ℕ) at. let same : c ≡ column = cc at in subst (λ k. v < length (values catalog k)) same (less (length (values catalog c)) parts.0))
+  where
+    less : (n : ℕ) → nat_lt v n ≡ true → v < n
+    less n e = grind (arith, nat_tests)
+path_within catalog (c ∷ levels) (x ∷ xs) v own =
+    let rest = path_within catalog levels xs v (and_both (nat_lt x (length (values catalog c))) (is_path catalog levels (xs ++ v ∷ [])) own).1 in
+    let within = rest.0 in
+    (omega (arith, within), rest.1)
+
+levels_are : (catalog : Catalog) (h : ℕ) (hierarchy : Hierarchy) → slice_get catalog.hierarchies h ≡ Some hierarchy → level_columns catalog h ≡ hierarchy.levels
+levels_are catalog h hierarchy at = ap (λ o. option_map_or (λ (x : Hierarchy). x.levels) o []) at
+
+-- the level of a path's child
+pub child_level : (catalog : Catalog) (h : ℕ) (hierarchy : Hierarchy) (path : List ℕ) (v : ℕ) → IsMemberOf catalog 0 (member.At h (path ++ v ∷ [])) → slice_get catalog.hierarchies h ≡ Some hierarchy → length path < length hierarchy.levels
+child_level catalog h hierarchy path v own at = (path_within catalog hierarchy.levels path v (ap (λ ls. is_path catalog ls (path ++ v ∷ [])) (sym (levels_are catalog h hierarchy at)) ∙ own.1)).0
+
+-- the column of that level, as it was read
+pub child_column : (catalog : Catalog) (h : ℕ) (hierarchy : Hierarchy) (path : List ℕ) (v column : ℕ) (levels : List ℕ) → IsMemberOf catalog 0 (member.At h (path ++ v ∷ [])) → slice_get catalog.hierarchies h ≡ Some hierarchy
+    → levels ≡ hierarchy.levels → column ≡ get_or levels (length path) column → slice_get hierarchy.levels (length path) ≡ Some column
+child_column catalog h hierarchy path v column levels own at are read =
+    slice_get_read hierarchy.levels (length hierarchy.levels) (length path) column refl (child_level catalog h hierarchy path v own at) (read ∙ ap (λ ls. get_or ls (length path) column) are)
+
+-- its value is one of the level's column
+pub child_within : (catalog : Catalog) (h : ℕ) (hierarchy : Hierarchy) (path : List ℕ) (v column : ℕ) → IsMemberOf catalog 0 (member.At h (path ++ v ∷ [])) → slice_get catalog.hierarchies h ≡ Some hierarchy → slice_get hierarchy.levels (length path) ≡ Some column
+    → v < length (values catalog column)
+child_within catalog h hierarchy path v column own at level = (path_within catalog hierarchy.levels path v (ap (λ ls. is_path catalog ls (path ++ v ∷ [])) (sym (levels_are catalog h hierarchy at)) ∙ own.1)).1 column level
+
+-- a column that has a value is one of the catalog's
+pub column_there : (catalog : Catalog) (column v : ℕ) → v < length (values catalog column) → column < length catalog.columns
+column_there catalog column v within = by (slice_get catalog.columns column) refl within
+  where
+    by : (o : Option Column) → slice_get catalog.columns column ≡ o → v < length (option_map_or (λ (c : Column). first_appearances (field_texts c.field (records catalog c.dimension))) o []) → column < length catalog.columns
+    by None at w = absurd (omega (arith, w))
+    by (Some c) at w = slice_get_within catalog.columns column c at
+
+-- the name of a path's child
+pub child_named : (catalog : Catalog) (h : ℕ) (hierarchy : Hierarchy) (path : List ℕ) (v column : ℕ) (name : List ℕ) → slice_get catalog.hierarchies h ≡ Some hierarchy → slice_get hierarchy.levels (length path) ≡ Some column → Some name ≡ slice_get (values catalog column) v
+    → name ≡ child_text catalog h path v
+child_named catalog h hierarchy path v column name at level is =
+    sym (ap (λ o. unwrap_or (option_and_then (λ (x : Hierarchy). option_and_then (λ k. slice_get (values catalog k) v) (slice_get x.levels (length path))) o) []) at
+    ∙ ap (λ o. unwrap_or (option_and_then (λ k. slice_get (values catalog k) v) o) []) level ∙ ap (λ o. unwrap_or o []) (sym is))

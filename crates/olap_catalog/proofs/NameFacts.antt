@@ -19,6 +19,7 @@ use Rattle.olap_meaning.specs.Records.{is_null}
 use Rattle.olap_meaning.specs.Schema.{all_hierarchies, all_name, cube_over, hierarchies_from, levels_of}
 use Rattle.olap_meaning.specs.Whole.{IsNamedCube, IsNamedDimension, IsNamedHierarchy}
 use Rattle.catalog_tables.specs.Tables.{TableOf, are_filled}
+use Rattle.member_trees.specs.Trees.{TreeOf}
 use Rattle.olap_catalog.specs.Named.{HasNames}
 use Rattle.olap_catalog.specs.Parts.{AreParts, Names, plain}
 use Rattle.olap_catalog.proofs.RootFacts.{full_names_same}
@@ -128,9 +129,9 @@ there P f default Q (x ∷ xs) zero each weaker within = weaker x each.0
 there P f default Q (x ∷ xs) (suc i) each weaker within = there P f default Q xs i each.1 weaker (omega (arith, within))
 
 -- no name in the catalog that the parts are is empty
-pub names_hold : (schema : Schema) (tables : List TableOf) (columns : List Column) (hierarchies : List Hierarchy) (cubes : List Cube) (full_names : List (List ℕ)) (roots : List (List ℕ)) (names : Names)
-    → AreParts schema tables columns hierarchies cubes full_names roots names → HasNames (plain schema tables columns hierarchies cubes)
-names_hold schema tables columns hierarchies cubes full_names roots names parts =
+pub names_hold : (schema : Schema) (tables : List TableOf) (columns : List Column) (hierarchies : List Hierarchy) (cubes : List Cube) (trees : List TreeOf) (full_names : List (List ℕ)) (roots : List (List ℕ)) (names : Names)
+    → AreParts schema tables columns hierarchies cubes trees full_names roots names → HasNames (plain schema tables columns hierarchies cubes)
+names_hold schema tables columns hierarchies cubes trees full_names roots names parts =
     record {
       hierarchies = λ h within. there HasOwnNames (full_name catalog) [] Full hierarchies h own_names full within;
       all_members = λ h name is. named_all h (slice_get hierarchies h) refl name is;

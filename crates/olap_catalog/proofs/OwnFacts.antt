@@ -1,8 +1,9 @@
 -- The members that a catalog's names lead to are its own.
-use Rattle.std.proofs.Common.{inl, inr, ◌≡◌, ◌∙◌, ◌+◌, ◌<◌, ◌≤◌, ◌||◌, ◌++◌, ℕ, zero, suc, Bool, true, false, List, [], ◌∷◌, Option, Some, None, Result, Ok, Err, refl, sym, ap, map, take, filter, filter_map, position, option_and_then, slice_get, length, cond, not, ok_or, nat_lt, nat_eq, bytes_eq, arith, subst}
+use Rattle.std.proofs.Common.{All, flat_map, inl, inr, ◌≡◌, ◌∙◌, ◌+◌, ◌<◌, ◌≤◌, ◌||◌, ◌++◌, ℕ, zero, suc, Bool, true, false, List, [], ◌∷◌, Option, Some, None, Result, Ok, Err, refl, sym, ap, map, take, filter, filter_map, position, option_and_then, slice_get, length, cond, not, ok_or, nat_lt, nat_eq, bytes_eq, arith, subst}
 use Rattle.std.specs.List.{list_all, list_any, position_or_len, starts_with, enumerate_from, cons_option, AllByRecursion as Each}
 use Rattle.std.specs.Option.{option_map_or, IsSome}
 use Rattle.std.proofs.lemmas.Bool.{lt-ltb}
+use Rattle.std.proofs.lemmas.List.Folds.{list_all-append}
 use Rattle.std.proofs.lemmas.Bool.Decides.{nat_tests}
 use Rattle.std.proofs.lemmas.Option.{slice_get_cases, slice_get_within}
 use Rattle.std.proofs.lemmas.Slice.Eq.{bytes_eq-Decides}
@@ -17,16 +18,17 @@ use Rattle.olap_meaning.specs.declared.cells.Member.{Member}
 use Rattle.olap_meaning.specs.declared.cells.Member.TheVariants as member
 use Rattle.olap_meaning.specs.declared.cells.LevelRef.{LevelRef}
 use Rattle.olap_meaning.specs.declared.cells.LevelRef.TheVariants.{Measures, Whole, One}
-use Rattle.olap_meaning.specs.Catalog.{first_appearances, values, leaf_value, records, path_of, paths, paths_below, members_with, all_member, measure_members, children, first_members, default_member, named, named_below, and_then, member_from, match_of, member_name}
+use Rattle.olap_meaning.specs.Catalog.{first_appearances, values, leaf_value, records, path_of, paths, paths_below, paths_at, paths_under, level_members, members_with, all_member, measure_members, children, first_members, default_member, named, named_below, and_then, member_from, match_of, member_name}
 use Rattle.olap_meaning.proofs.Appearances.{any-same}
 use Rattle.catalog_tables.specs.Tables.{TableOf, have_fields, number_of}
 use Rattle.olap_catalog.specs.Columns.{column_texts, column_leaves}
-use Rattle.olap_catalog.specs.Parts.{plain, is_column, has_levels}
-use Rattle.olap_catalog.specs.Members.{is_there, HasLevels, all_text, from_root_or_fault, or_fault}
-use Rattle.olap_catalog.specs.MemberOf.{IsMemberOf, is_path, measure_count}
+use Rattle.member_trees.specs.Trees.{TreeOf}
+use Rattle.olap_catalog.specs.Parts.{plain, is_column, has_levels, AreParts, Names}
+use Rattle.olap_meaning.specs.Catalog.{all_text}
+use Rattle.olap_catalog.specs.Members.{is_there, HasLevels, from_root_or_fault, or_fault}
+use Rattle.olap_meaning.specs.MemberOf.{IsMemberOf, is_path, measure_count}
 use Rattle.olap_catalog.proofs.PartFacts.{both}
-use Rattle.olap_catalog.proofs.ValueFacts.{and_both, column_known, leaf_is, leaves_are}
-use Rattle.olap_catalog.proofs.MemberFacts.{value_within}
+use Rattle.olap_catalog.proofs.ValueFacts.{and_both, column_known, leaf_is, leaves_are, value_within}
 use Rattle.olap_catalog.proofs.HierarchyFacts.{levels_there}
 
 -- a column has a value for each of its leaves
@@ -142,6 +144,10 @@ pub whole_parts : (schema : Schema) (tables : List TableOf) (columns : List Colu
     → list_all (is_column tables) columns ≡ true → list_all (has_levels columns) hierarchies ≡ true → IsWhole (plain schema tables columns hierarchies cubes)
 whole_parts schema tables columns hierarchies cubes paired even columned leveled = record { has = has_values schema tables columns hierarchies cubes paired even columned; leveled = leveled }
 
+pub parts_whole : {schema : Schema} {tables : List TableOf} {columns : List Column} {hierarchies : List Hierarchy} {cubes : List Cube} {trees : List TreeOf} {full_names : List (List ℕ)} {roots : List (List ℕ)} {names : Names}
+    → AreParts schema tables columns hierarchies cubes trees full_names roots names → IsWhole (plain schema tables columns hierarchies cubes)
+parts_whole {schema} {tables} {columns} {hierarchies} {cubes} parts = whole_parts schema tables columns hierarchies cubes parts.paired parts.even parts.columned parts.leveled
+
 each_append : {A : Type 0} (P : A → Type 0) (xs ys : List A) → Each P xs → Each P ys → Each P (xs ++ ys)
 each_append P [] ys own more = more
 each_append P (x ∷ xs) ys own more = (own.0, each_append P xs ys own.1 more)
@@ -151,8 +157,10 @@ each_at P [] i x own at = absurd (cc at)
 each_at P (y ∷ xs) zero x own at = let same : y ≡ x = cc at in subst P same own.0
 each_at P (y ∷ xs) (suc i) x own at = each_at P xs i x own.1 at
 
-below_own : (catalog : Catalog) (cube h : ℕ) (path : List ℕ) → IsWhole catalog → Each (IsMemberOf catalog cube) (members_with catalog h (λ hierarchy. paths_below catalog hierarchy path))
-below_own catalog cube h path whole = by (slice_get catalog.hierarchies h) refl
+-- the members of a hierarchy with some paths of its levels
+with_own : (catalog : Catalog) (cube h : ℕ) (paths_in : Hierarchy → List (List ℕ)) → IsWhole catalog → ((hierarchy : Hierarchy) → HasLevels catalog hierarchy → list_all (is_path catalog hierarchy.levels) (paths_in hierarchy) ≡ true)
+    → Each (IsMemberOf catalog cube) (members_with catalog h paths_in)
+with_own catalog cube h paths_in whole own = by (slice_get catalog.hierarchies h) refl
   where
     at_paths : (hierarchy : Hierarchy) → slice_get catalog.hierarchies h ≡ Some hierarchy → (ps : List (List ℕ)) → list_all (is_path catalog hierarchy.levels) ps ≡ true → Each (IsMemberOf catalog cube) (map (member.At h) ps)
     at_paths hierarchy there [] all = tt
@@ -160,9 +168,31 @@ below_own catalog cube h path whole = by (slice_get catalog.hierarchies h) refl
         let parts = and_both (is_path catalog hierarchy.levels p) (list_all (is_path catalog hierarchy.levels) ps) all in
         ((slice_get_within catalog.hierarchies h hierarchy there, ap (λ o. is_path catalog (option_map_or (λ (x : Hierarchy). x.levels) o []) p) there ∙ parts.0), at_paths hierarchy there ps parts.1)
 
-    by : (o : Option Hierarchy) → slice_get catalog.hierarchies h ≡ o → Each (IsMemberOf catalog cube) (map (member.At h) (option_map_or (λ hierarchy. paths_below catalog hierarchy path) o []))
+    by : (o : Option Hierarchy) → slice_get catalog.hierarchies h ≡ o → Each (IsMemberOf catalog cube) (map (member.At h) (option_map_or paths_in o []))
     by None there = tt
-    by (Some hierarchy) there = at_paths hierarchy there (paths_below catalog hierarchy path) (all_below catalog hierarchy path whole.has (levels_there catalog h hierarchy whole.leveled there))
+    by (Some hierarchy) there = at_paths hierarchy there (paths_in hierarchy) (own hierarchy (levels_there catalog h hierarchy whole.leveled there))
+
+below_own : (catalog : Catalog) (cube h : ℕ) (path : List ℕ) → IsWhole catalog → Each (IsMemberOf catalog cube) (members_with catalog h (λ hierarchy. paths_below catalog hierarchy path))
+below_own catalog cube h path whole = with_own catalog cube h (λ hierarchy. paths_below catalog hierarchy path) whole (λ hierarchy levels. all_below catalog hierarchy path whole.has levels)
+
+all_flat : (p : List ℕ → Bool) (f : List ℕ → List (List ℕ)) (xs : List (List ℕ)) → list_all p xs ≡ true → ((x : List ℕ) → p x ≡ true → list_all p (f x) ≡ true) → list_all p (flat_map f xs) ≡ true
+all_flat p f [] all each = refl
+all_flat p f (x ∷ xs) all each =
+    let parts = and_both (p x) (list_all p xs) all in
+    list_all-append p (f x) (flat_map f xs) ∙ both _ _ true true (each x parts.0) (all_flat p f xs parts.1 each)
+
+-- the paths of a depth are paths of the levels
+all_at_depth : (catalog : Catalog) (hierarchy : Hierarchy) (depth : ℕ) → HasValues catalog → HasLevels catalog hierarchy → list_all (is_path catalog hierarchy.levels) (paths_at catalog hierarchy depth) ≡ true
+all_at_depth catalog hierarchy zero has levels = refl
+all_at_depth catalog hierarchy (suc depth) has levels =
+    all_flat (is_path catalog hierarchy.levels) (paths_below catalog hierarchy) (paths_at catalog hierarchy depth) (all_at_depth catalog hierarchy depth has levels) (λ path own. all_below catalog hierarchy path has levels)
+
+-- and those below a path
+all_under : (catalog : Catalog) (hierarchy : Hierarchy) (count : ℕ) (path : List ℕ) → HasValues catalog → HasLevels catalog hierarchy → list_all (is_path catalog hierarchy.levels) (paths_under catalog hierarchy count path) ≡ true
+all_under catalog hierarchy zero path has levels = refl
+all_under catalog hierarchy (suc count) path has levels =
+    all_flat (is_path catalog hierarchy.levels) (λ next. next ∷ paths_under catalog hierarchy count next) (paths_below catalog hierarchy path) (all_below catalog hierarchy path has levels)
+    (λ next own. both _ _ true true own (all_under catalog hierarchy count next has levels))
 
 all_own : (catalog : Catalog) (cube h : ℕ) → Each (IsMemberOf catalog cube) (all_member catalog h)
 all_own catalog cube h = by (slice_get catalog.hierarchies h) refl
@@ -190,10 +220,24 @@ measures_own catalog cube = by (slice_get catalog.cubes cube) refl
     by None there = tt
     by (Some own) there = from own there 0 own.measures (omega arith)
 
-children_own : (catalog : Catalog) (cube : ℕ) (m : Member) → IsWhole catalog → Each (IsMemberOf catalog cube) (children catalog m)
+pub children_own : (catalog : Catalog) (cube : ℕ) (m : Member) → IsWhole catalog → Each (IsMemberOf catalog cube) (children catalog m)
 children_own catalog cube (member.Measure m) whole = tt
 children_own catalog cube (member.All h) whole = below_own catalog cube h [] whole
 children_own catalog cube (member.At h path) whole = below_own catalog cube h path whole
+
+-- the members of some levels are the catalog's
+pub level_own : (catalog : Catalog) (cube : ℕ) (level : LevelRef) → IsWhole catalog → Each (IsMemberOf catalog cube) (level_members catalog cube level)
+level_own catalog cube Measures whole = measures_own catalog cube
+level_own catalog cube (Whole h) whole =
+    let under = λ (hierarchy : Hierarchy). paths_under catalog hierarchy (length hierarchy.levels) [] in
+    each_append (IsMemberOf catalog cube) (all_member catalog h) (members_with catalog h under) (all_own catalog cube h) (with_own catalog cube h under whole (λ hierarchy levels. all_under catalog hierarchy (length hierarchy.levels) [] whole.has levels))
+level_own catalog cube (One h level) whole = with_own catalog cube h (λ hierarchy. paths_at catalog hierarchy (suc level)) whole (λ hierarchy levels. all_at_depth catalog hierarchy (suc level) whole.has levels)
+
+-- what holds of each item, item by item
+pub each_all : {A : Type 0} (P : A → Type 0) (xs : List A) → Each P xs → All P xs
+each_all P [] each k e h = absurd (omega (arith, h))
+each_all P (x ∷ xs) each zero e h = each.0
+each_all P (x ∷ xs) each (suc k) e h = each_all P xs each.1 k e (omega (arith, h))
 
 first_own : (catalog : Catalog) (cube : ℕ) (root : LevelRef) → IsWhole catalog → Each (IsMemberOf catalog cube) (first_members catalog cube root)
 first_own catalog cube Measures whole = measures_own catalog cube

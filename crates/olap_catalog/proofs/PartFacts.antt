@@ -1,5 +1,5 @@
 -- The parts of a catalog fit together, by how a schema lays them out.
-use Rattle.std.proofs.Common.{◌≡◌, ◌∙◌, ◌+◌, ◌≤◌, ◌<◌, ◌&&◌, ◌++◌, ℕ, suc, Bool, true, List, [], ◌∷◌, Some, refl, sym, ap, map, slice_get, length, flat_map, nat_lt, nat_le, nat_eq, arith}
+use Rattle.std.proofs.Common.{All, get_or, zero, ◌≡◌, ◌∙◌, ◌+◌, ◌≤◌, ◌<◌, ◌&&◌, ◌++◌, ℕ, suc, Bool, true, List, [], ◌∷◌, Some, refl, sym, ap, map, slice_get, length, flat_map, nat_lt, nat_le, nat_eq, arith}
 use Rattle.std.specs.List.{list_all, AllByRecursion as Each}
 use Rattle.std.proofs.lemmas.List.Elements.{recursion_from_All}
 use Rattle.std.proofs.lemmas.List.{append_assoc, length-append, length-map}
@@ -9,7 +9,7 @@ use Rattle.std.proofs.lemmas.Bool.Decides.{nat_tests}
 use Rattle.olap_meaning.specs.declared.schema.SchemaDimension.{SchemaDimension}
 use Rattle.olap_meaning.specs.declared.schema.SchemaHierarchy.{SchemaHierarchy}
 use Rattle.olap_meaning.specs.declared.schema.SchemaLevel.{SchemaLevel}
-use Rattle.olap_meaning.specs.declared.schema.TheConstants.{MEASURE_LIMIT}
+use Rattle.olap_meaning.specs.declared.schema.TheConstants.{LEVEL_LIMIT, MEASURE_LIMIT}
 use Rattle.olap_meaning.specs.declared.schema.Schema.{Schema}
 use Rattle.olap_meaning.specs.declared.schema.SchemaCube.{SchemaCube}
 use Rattle.olap_meaning.specs.declared.tables.Column.{Column}
@@ -20,8 +20,10 @@ use Rattle.olap_meaning.specs.Legal.{rise}
 use Rattle.olap_meaning.specs.Schema.{columns_from, all_columns, levels_of, numbers_from, hierarchies_from, all_hierarchies, cube_over, hierarchies_in, IsWithinCube}
 use Rattle.olap_meaning.specs.Whole.{IsWhole}
 use Rattle.catalog_tables.specs.Tables.{TableOf, have_fields, are_filled}
-use Rattle.olap_catalog.specs.Parts.{is_column, is_level, has_levels, has_few_measures, AreParts, Names}
-use Rattle.olap_catalog.specs.Roots.{hierarchies_among, full_name_in, measure_names, root_names_in}
+use Rattle.member_trees.specs.Trees.{TreeOf}
+use Rattle.olap_catalog.specs.Parts.{plain, tree_of, is_column, is_level, has_levels, has_few_measures, AreParts, Names}
+use Rattle.olap_catalog.specs.Tables.{AreTables}
+use Rattle.olap_catalog.specs.Roots.{hierarchies_among, full_name_in, level_names_in, measure_names, root_names_in}
 use Rattle.olap_catalog.proofs.LayoutFacts.{columns_append, length_columns}
 
 pub both : (a b c d : Bool) → a ≡ c → b ≡ d → (a && b) ≡ (c && d)
@@ -121,7 +123,6 @@ few_measures_in ds (cube ∷ cubes) within =
     let here : nat_le (length cube.measures) MEASURE_LIMIT ≡ true = grind (arith, nat_tests) in
     both _ _ true true here (few_measures_in ds cubes within.1)
 
--- the parts that a schema and its tables give fit together
 numbers_append : (n : ℕ) (xs ys : List SchemaLevel) → numbers_from n (xs ++ ys) ≡ numbers_from n xs ++ numbers_from (n + length xs) ys
 numbers_append n [] ys = let e : n + 0 ≡ n = omega arith in rw e refl
 numbers_append n (x ∷ xs) ys =
@@ -157,15 +158,50 @@ numbers_rise n (x ∷ ls) = both _ _ true true (numbers_above n (suc n) ls (omeg
 rising_all : (place column : ℕ) (ds : List SchemaDimension) → rise (flat_map (λ (x : Hierarchy). x.levels) (all_hierarchies place column ds)) ≡ true
 rising_all place column ds = ap rise (levels_in_all place column ds) ∙ numbers_rise column (flat_map levels_of ds)
 
-pub parts_fit : (schema : Schema) (tables : List TableOf) (columns : List Column) (hierarchies : List Hierarchy) (cubes : List Cube) (full_names : List (List ℕ)) (roots : List (List ℕ)) (names : Names) → IsWhole schema
+tables_paired : (schema : Schema) (tables : List TableOf) → map (λ t. t.levels) tables ≡ map (λ d. length (levels_of d)) schema.dimensions → length tables ≡ length schema.dimensions
+tables_paired schema tables whole = sym (length-map tables (λ (t : TableOf). t.levels)) ∙ ap length whole ∙ length-map schema.dimensions (λ (d : SchemaDimension). length (levels_of d))
+
+-- the tables and columns that a schema gives are such as trees are built from
+pub tables_fit : (schema : Schema) (tables : List TableOf) (columns : List Column) → list_all (λ t. have_fields t.levels t.records) tables ≡ true → map (λ t. t.levels) tables ≡ map (λ d. length (levels_of d)) schema.dimensions
+    → columns ≡ all_columns 0 schema.dimensions → AreTables schema tables columns
+tables_fit schema tables columns even whole c = record {
+  paired = tables_paired schema tables whole;
+  even = even;
+  columned = ap (list_all (is_column tables)) c ∙ columned_all [] tables schema.dimensions whole;
+}
+
+-- each hierarchy's levels are columns of its dimension
+pub levels_fit : (schema : Schema) (columns : List Column) (hierarchies : List Hierarchy) → columns ≡ all_columns 0 schema.dimensions → hierarchies ≡ all_hierarchies 0 0 schema.dimensions → list_all (has_levels columns) hierarchies ≡ true
+levels_fit schema columns hierarchies c h = ap (list_all (has_levels columns)) h ∙ leveled_all columns [] 0 schema.dimensions c
+
+length_numbers : (n : ℕ) (ls : List SchemaLevel) → length (numbers_from n ls) ≡ length ls
+length_numbers n [] = refl
+length_numbers n (x ∷ ls) = let e = length_numbers (suc n) ls in omega arith
+
+part_short : {A B : Type 0} (f : A → List B) (xs : List A) (k : ℕ) (e : A) → k < length xs → length (f (get_or xs k e)) ≤ length (flat_map f xs)
+part_short f [] k e h = absurd (omega arith)
+part_short f (x ∷ xs) zero e h = omega (arith, length-append (f x) (flat_map f xs))
+part_short f (x ∷ xs) (suc k) e h = omega (arith, length-append (f x) (flat_map f xs), part_short f xs k e (omega arith))
+
+-- and it has few
+pub levels_few : (schema : Schema) (hierarchies : List Hierarchy) → IsWhole schema → hierarchies ≡ all_hierarchies 0 0 schema.dimensions → All (λ h. length h.levels ≤ LEVEL_LIMIT) hierarchies
+levels_few schema hierarchies sound is k e within =
+    let one = part_short (λ (x : Hierarchy). x.levels) hierarchies k e within in
+    let all : length (flat_map (λ (x : Hierarchy). x.levels) hierarchies) ≡ length (flat_map levels_of schema.dimensions) =
+    ap (λ hs. length (flat_map (λ (x : Hierarchy). x.levels) hs)) is ∙ ap length (levels_in_all 0 0 schema.dimensions) ∙ length_numbers 0 (flat_map levels_of schema.dimensions) in
+    let few = sound.limits.levels in
+    omega (arith, one, all, few)
+
+-- the parts that a schema and its tables give fit together
+pub parts_fit : (schema : Schema) (tables : List TableOf) (columns : List Column) (hierarchies : List Hierarchy) (cubes : List Cube) (trees : List TreeOf) (full_names : List (List ℕ)) (roots : List (List ℕ)) (names : Names) → IsWhole schema
     → list_all (λ t. have_fields t.levels t.records) tables ≡ true → list_all (λ t. are_filled t.records) tables ≡ true → map (λ t. t.levels) tables ≡ map (λ d. length (levels_of d)) schema.dimensions → columns ≡ all_columns 0 schema.dimensions → hierarchies ≡ all_hierarchies 0 0 schema.dimensions
-    → cubes ≡ map (cube_over schema.dimensions) schema.cubes → full_names ≡ map (full_name_in schema.dimensions) hierarchies → roots ≡ map (λ cube. flat_map (hierarchies_among hierarchies) cube.dimensions) cubes
-    → names.cubes ≡ map (λ cube. cube.name) cubes → names.tables ≡ map (λ table. table.name) schema.aggregates → names.measures ≡ map measure_names cubes → names.roots ≡ map (root_names_in full_names) roots
-    → AreParts schema tables columns hierarchies cubes full_names roots names
-parts_fit schema tables columns hierarchies cubes full_names roots names sound even filled whole c h k named rooted cubes_named tables_named measures_named roots_named =
+    → cubes ≡ map (cube_over schema.dimensions) schema.cubes → trees ≡ map (tree_of (plain schema tables columns hierarchies cubes)) hierarchies → full_names ≡ map (full_name_in schema.dimensions) hierarchies → roots ≡ map (λ cube. flat_map (hierarchies_among hierarchies) cube.dimensions) cubes
+    → names.cubes ≡ map (λ cube. cube.name) cubes → names.tables ≡ map (λ table. table.name) schema.aggregates → names.measures ≡ map measure_names cubes → names.roots ≡ map (root_names_in full_names) roots → names.levels ≡ map (level_names_in columns) hierarchies
+    → AreParts schema tables columns hierarchies cubes trees full_names roots names
+parts_fit schema tables columns hierarchies cubes trees full_names roots names sound even filled whole c h k treed named rooted cubes_named tables_named measures_named roots_named levels_named =
     let limits = sound.limits in
-    let paired : length tables ≡ length schema.dimensions =
-    sym (length-map tables (λ (t : TableOf). t.levels)) ∙ ap length whole ∙ length-map schema.dimensions (λ (d : SchemaDimension). length (levels_of d)) in
+    let fit = tables_fit schema tables columns even whole c in
+    let paired = fit.paired in
     let few_c : length columns ≡ length (flat_map levels_of schema.dimensions) = ap length c ∙ length_all_columns 0 schema.dimensions in
     let few_h : length hierarchies ≡ length (hierarchies_in schema) = ap length h ∙ length_all_hierarchies 0 0 schema.dimensions in
     let few_k : length cubes ≡ length schema.cubes = ap length k ∙ length-map schema.cubes (cube_over schema.dimensions) in
@@ -176,18 +212,21 @@ parts_fit schema tables columns hierarchies cubes full_names roots names sound e
       paired = paired;
       even = even;
       filled = filled;
-      columned = ap (list_all (is_column tables)) c ∙ columned_all [] tables schema.dimensions whole;
-      leveled = ap (list_all (has_levels columns)) h ∙ leveled_all columns [] 0 schema.dimensions c;
+      columned = fit.columned;
+      leveled = levels_fit schema columns hierarchies c h;
       rising = ap (λ hs. rise (flat_map (λ (x : Hierarchy). x.levels) hs)) h ∙ rising_all 0 0 schema.dimensions;
+      treed = treed;
       named = named;
       rooted = rooted;
       cubes_named = cubes_named;
       tables_named = tables_named;
       measures_named = measures_named;
       roots_named = roots_named;
+      levels_named = levels_named;
       few_tables = omega (arith, limits.dimensions);
       few_columns = omega (arith, limits.levels);
       few_hierarchies = omega (arith, limits.hierarchies);
+      few_levels = levels_few schema hierarchies sound h;
       few_cubes = omega (arith, limits.cubes);
       few_measures = ap (list_all has_few_measures) k ∙ few_measures_in schema.dimensions schema.cubes (recursion_from_All IsWithinCube schema.cubes limits.each);
     }

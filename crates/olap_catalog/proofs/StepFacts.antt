@@ -1,23 +1,25 @@
 -- What a name means below a path: by the first test that passes, as the members' names give it.
-use Rattle.std.proofs.Common.{inl, inr, ◌⊎◌, ◌≡◌, ◌∙◌, ◌<◌, ◌≤◌, ◌&&◌, ◌++◌, ℕ, zero, suc, Bool, true, false, cond, List, [], ◌∷◌, Option, Some, None, refl, sym, ap, map, take, filter, filter_map, option_map, option_and_then, unwrap_or, slice_get, get_or, length, nat_lt, nat_eq, bytes_eq, position, ok_or, arith, if◌then◌else◌}
-use Rattle.std.specs.List.{cons_option, starts_with, find, position_or_len}
+use Rattle.std.proofs.Common.{inl, inr, ◌⊎◌, ◌≡◌, ◌∙◌, ◌<◌, ◌≤◌, ◌&&◌, ◌++◌, ℕ, suc, Bool, true, false, cond, List, [], ◌∷◌, Option, Some, None, refl, sym, ap, map, option_map, option_and_then, unwrap_or, slice_get, get_or, length, nat_lt, bytes_eq, position, ok_or, arith, if◌then◌else◌}
+use Rattle.std.specs.List.{find, position_or_len}
 use Rattle.std.specs.Option.{option_or, option_map_or}
 use Rattle.std.proofs.lemmas.Bool.Decides.{nat_tests}
 use Rattle.std.proofs.lemmas.List.{length-map}
 use Rattle.std.proofs.lemmas.List.Folds.{find-append, find_at}
 use Rattle.std.proofs.lemmas.Option.{slice_get_past, slice_get_cases}
-use Rattle.std.proofs.lemmas.Slice.Eq.{bytes_eq-Decides}
 use Rattle.olap_meaning.specs.declared.tables.Hierarchy.{Hierarchy}
 use Rattle.olap_meaning.specs.declared.tables.Catalog.{Catalog}
 use Rattle.olap_meaning.specs.declared.cells.Member.{Member}
 use Rattle.olap_meaning.specs.declared.cells.Member.TheVariants as member
 use Rattle.olap_meaning.specs.History.{is_some_and}
-use Rattle.olap_meaning.specs.Catalog.{paths, paths_below, values, all_member, members_with, member_name, named}
-use Rattle.olap_meaning.proofs.Appearances.{find-appearances}
+use Rattle.olap_meaning.specs.Catalog.{paths, below, paths_below, values, all_member, members_with, member_name, named}
+use Rattle.member_trees.specs.Nodes.{last_value}
+use Rattle.member_trees.proofs.Below.{shape}
+use Rattle.member_trees.proofs.RowsByPlace.{map-map, map-fixed}
 use Rattle.olap_catalog.specs.declared.members.Below.{Below}
 use Rattle.olap_catalog.specs.declared.members.Below.TheVariants as below
 use Rattle.catalog_tables.specs.Names.{is_but_case}
-use Rattle.olap_catalog.specs.Members.{next_of, values_below, child_values, child_text, all_text, all_by, below_by, members_below, spot, onward}
+use Rattle.olap_meaning.specs.Catalog.{all_text}
+use Rattle.olap_catalog.specs.Members.{child_values, child_text, all_by, below_by, members_below, spot, onward}
 use Rattle.catalog_tables.proofs.SeenFacts.{position-map}
 use Rattle.catalog_tables.proofs.FieldFacts.{position_within}
 use Rattle.olap_catalog.proofs.PartFacts.{item_behind, length_snoc}
@@ -35,76 +37,14 @@ find-map {A} {B} t f (x ∷ xs) = by (t (f x)) (find-map t f xs)
     by true rest = refl
     by false rest = rest
 
--- what a list of paths gives: those that go on from a path, cut one below it
-cut_one : (path leaf : List ℕ) → next_of path leaf ≡ None → (starts_with nat_eq leaf path && nat_eq (length (take (suc (length path)) leaf)) (suc (length path))) ≡ false
-cut_one path leaf none = by (bytes_eq path (take (length path) leaf)) none
-  where
-    short : (xs : List ℕ) (n : ℕ) → slice_get xs n ≡ None → nat_eq (length (take (suc n) xs)) (suc n) ≡ false
-    short [] n e = shift n
-      where
-        shift : (m : ℕ) → nat_eq 0 (suc m) ≡ false
-        shift m = grind (arith, nat_tests)
-    short (x ∷ xs) zero e = absurd (cc e)
-    short (x ∷ xs) (suc n) e = shift (length (take (suc n) xs)) (short xs n e)
-      where
-        shift : (m : ℕ) → nat_eq m (suc n) ≡ false → nat_eq (suc m) (suc (suc n)) ≡ false
-        shift m h = grind (arith, nat_tests)
-
-    by : (b : Bool) → (if b then slice_get leaf (length path) else None) ≡ None → (b && nat_eq (length (take (suc (length path)) leaf)) (suc (length path))) ≡ false
-    by true e = short leaf (length path) e
-    by false e = refl
-
-cut_here : (path leaf : List ℕ) (v : ℕ) → next_of path leaf ≡ Some v
-    → ((starts_with nat_eq leaf path && nat_eq (length (take (suc (length path)) leaf)) (suc (length path))) ≡ true) × (take (suc (length path)) leaf ≡ path ++ v ∷ [])
-cut_here path leaf v found = by (bytes_eq path (take (length path) leaf)) refl found
-  where
-    longer : (xs : List ℕ) (n : ℕ) → slice_get xs n ≡ Some v → (nat_eq (length (take (suc n) xs)) (suc n) ≡ true) × (take (suc n) xs ≡ take n xs ++ v ∷ [])
-    longer [] n e = absurd (cc e)
-    longer (x ∷ xs) zero e = (refl, let k : x ≡ v = cc e in ap (λ y. y ∷ []) k)
-    longer (x ∷ xs) (suc n) e = let rest = longer xs n e in (shift (length (take (suc n) xs)) rest.0, ap (λ ys. x ∷ ys) rest.1)
-      where
-        shift : (m : ℕ) → nat_eq m (suc n) ≡ true → nat_eq (suc m) (suc (suc n)) ≡ true
-        shift m h = grind (arith, nat_tests)
-
-    by : (b : Bool) → bytes_eq path (take (length path) leaf) ≡ b → (if b then slice_get leaf (length path) else None) ≡ Some v
-        → ((b && nat_eq (length (take (suc (length path)) leaf)) (suc (length path))) ≡ true) × (take (suc (length path)) leaf ≡ path ++ v ∷ [])
-    by true same e = let here = longer leaf (length path) e in (here.0, here.1 ∙ ap (λ xs. xs ++ v ∷ []) (sym ((bytes_eq-Decides path (take (length path) leaf)).0 same)))
-    by false same e = absurd (cc e)
-
--- the leaves' paths that go on from a path, cut one below it, are the path with the values that follow
-cut_values : (path : List ℕ) (leaves : List (List ℕ)) →
-    filter (λ below. nat_eq (length below) (suc (length path))) (map (take (suc (length path))) (filter (λ leaf. starts_with nat_eq leaf path) leaves)) ≡ map (λ v. path ++ v ∷ []) (filter_map (next_of path) leaves)
-cut_values path [] = refl
-cut_values path (leaf ∷ leaves) = by (next_of path leaf) refl (cut_values path leaves)
-  where
-    depth : ℕ
-    depth = suc (length path)
-
-    rest : List (List ℕ)
-    rest = filter (λ below. nat_eq (length below) depth) (map (take depth) (filter (λ x. starts_with nat_eq x path) leaves))
-
-    split : (a b : Bool) → (a && b) ≡ false → nat_eq (length (take depth leaf)) depth ≡ b → filter (λ below. nat_eq (length below) depth) (map (take depth) (cond a (leaf ∷ filter (λ x. starts_with nat_eq x path) leaves) (filter (λ x. starts_with nat_eq x path) leaves))) ≡ rest
-    split true true h e = absurd (cc h)
-    split true false h e = ap (λ b. cond b (take depth leaf ∷ rest) rest) e
-    split false b h e = refl
-
-    kept : (a b : Bool) → (a && b) ≡ true → nat_eq (length (take depth leaf)) depth ≡ b → filter (λ below. nat_eq (length below) depth) (map (take depth) (cond a (leaf ∷ filter (λ x. starts_with nat_eq x path) leaves) (filter (λ x. starts_with nat_eq x path) leaves))) ≡ take depth leaf ∷ rest
-    kept true true h e = ap (λ b. cond b (take depth leaf ∷ rest) rest) e
-    kept true false h e = absurd (cc h)
-    kept false b h e = absurd (cc h)
-
-    by : (o : Option ℕ) → next_of path leaf ≡ o → rest ≡ map (λ v. path ++ v ∷ []) (filter_map (next_of path) leaves)
-        → filter (λ below. nat_eq (length below) depth) (map (take depth) (filter (λ x. starts_with nat_eq x path) (leaf ∷ leaves))) ≡ map (λ v. path ++ v ∷ []) (cons_option o (filter_map (next_of path) leaves))
-    by None next more = split (starts_with nat_eq leaf path) (nat_eq (length (take depth leaf)) depth) (cut_one path leaf next) refl ∙ more
-    by (Some v) next more =
-        let here = cut_here path leaf v next in
-        kept (starts_with nat_eq leaf path) (nat_eq (length (take depth leaf)) depth) here.0 refl ∙ ap (λ p. p ∷ rest) here.1 ∙ ap (λ ps. (path ++ v ∷ []) ∷ ps) more
+-- the paths below a path are the path with each of their last values
+lasts_are : (leaves : List (List ℕ)) (path : List ℕ) → below leaves path ≡ map (λ v. path ++ v ∷ []) (map last_value (below leaves path))
+lasts_are leaves path = sym (map-map last_value (λ v. path ++ v ∷ []) (below leaves path) ∙ map-fixed (λ next. path ++ last_value next ∷ []) (below leaves path) (shape leaves path))
 
 -- the first path below a path that passes a test
-find_path : (catalog : Catalog) (hierarchy : Hierarchy) (path : List ℕ) (t : List ℕ → Bool) → find t (paths_below catalog hierarchy path) ≡ option_map (λ v. path ++ v ∷ []) (find (λ v. t (path ++ v ∷ [])) (values_below catalog hierarchy path))
+find_path : (catalog : Catalog) (hierarchy : Hierarchy) (path : List ℕ) (t : List ℕ → Bool) → find t (paths_below catalog hierarchy path) ≡ option_map (λ v. path ++ v ∷ []) (find (λ v. t (path ++ v ∷ [])) (map last_value (paths_below catalog hierarchy path)))
 find_path catalog hierarchy path t =
-    find-appearances t (filter (λ below. nat_eq (length below) (suc (length path))) (map (take (suc (length path))) (filter (λ leaf. starts_with nat_eq leaf path) (paths catalog hierarchy))))
-    ∙ ap (find t) (cut_values path (paths catalog hierarchy)) ∙ find-map t (λ v. path ++ v ∷ []) (values_below catalog hierarchy path)
+    ap (find t) (lasts_are (paths catalog hierarchy) path) ∙ find-map t (λ v. path ++ v ∷ []) (map last_value (paths_below catalog hierarchy path))
 
 -- the name of a path's child
 child_named : (catalog : Catalog) (cube h : ℕ) (path : List ℕ) (v : ℕ) → member_name catalog cube (member.At h (path ++ v ∷ [])) ≡ child_text catalog h path v
@@ -152,13 +92,13 @@ find_below catalog cube h with_all path test =
     twice (Some v) = refl
 
     of_hierarchy : (o : Option Hierarchy) → find (λ m. test (member_name catalog cube m)) (map (member.At h) (option_map_or (λ hierarchy. paths_below catalog hierarchy path) o []))
-        ≡ option_map (below_member h path) (option_map below.Child (find (λ v. test (child_text catalog h path v)) (option_map_or (λ hierarchy. values_below catalog hierarchy path) o [])))
+        ≡ option_map (below_member h path) (option_map below.Child (find (λ v. test (child_text catalog h path v)) (option_map_or (λ hierarchy. map last_value (paths_below catalog hierarchy path)) o [])))
     of_hierarchy None = refl
     of_hierarchy (Some hierarchy) =
         find-map (λ m. test (member_name catalog cube m)) (member.At h) (paths_below catalog hierarchy path)
         ∙ ap (option_map (member.At h)) (find_path catalog hierarchy path (λ p. test (member_name catalog cube (member.At h p)))
-        ∙ ap (option_map (λ v. path ++ v ∷ [])) (congruent (λ v. test (member_name catalog cube (member.At h (path ++ v ∷ [])))) (λ v. test (child_text catalog h path v)) (values_below catalog hierarchy path) (λ v. ap test (child_named catalog cube h path v))))
-        ∙ twice (find (λ v. test (child_text catalog h path v)) (values_below catalog hierarchy path))
+        ∙ ap (option_map (λ v. path ++ v ∷ [])) (congruent (λ v. test (member_name catalog cube (member.At h (path ++ v ∷ [])))) (λ v. test (child_text catalog h path v)) (map last_value (paths_below catalog hierarchy path)) (λ v. ap test (child_named catalog cube h path v))))
+        ∙ twice (find (λ v. test (child_text catalog h path v)) (map last_value (paths_below catalog hierarchy path)))
 
     children : find (λ m. test (member_name catalog cube m)) (members_with catalog h (λ hierarchy. paths_below catalog hierarchy path))
         ≡ option_map (below_member h path) (option_map below.Child (find (λ v. test (child_text catalog h path v)) (child_values catalog h path)))

@@ -15,7 +15,7 @@ use Rattle.olap_meaning.specs.declared.tables.Catalog.{Catalog}
 use Rattle.olap_meaning.specs.declared.schema.Schema.{Schema}
 use Rattle.olap_meaning.specs.declared.schema.SchemaDimension.{SchemaDimension}
 use Rattle.olap_meaning.specs.Schema.{dimension_with}
-use Rattle.olap_meaning.specs.Catalog.{first_appearances, values, leaf_text, leaf_value, records, field_texts, find_leaf}
+use Rattle.olap_meaning.specs.Catalog.{first_appearances, values, leaf_text, leaf_value, value_number, records, field_texts, find_leaf}
 use Rattle.olap_meaning.proofs.Loads.{some_and}
 use Rattle.catalog_tables.specs.Tables.{TableOf, have_fields, number_of, column_of}
 use Rattle.olap_catalog.specs.Columns.{column_texts, column_leaves}
@@ -185,3 +185,11 @@ records_none schema tables columns hierarchies cubes d none =
 pub leaf_known : (catalog : Catalog) (dimension : ℕ) (key : List ℕ) (found : Option ℕ) → found ≡ find_leaf catalog dimension key → IfSome found (λ leaf. leaf < length (records catalog dimension))
 leaf_known catalog dimension key None is = tt
 leaf_known catalog dimension key (Some leaf) is = position_within (λ (r : Record). bytes_eq key r.key) (records catalog dimension) leaf (sym is)
+
+-- the value of a leaf is one of the column's values
+pub value_within : (catalog : Catalog) (column leaf v : ℕ) → Some v ≡ leaf_value catalog column leaf → v < length (values catalog column)
+value_within catalog column leaf v found = by (leaf_text catalog column leaf) (sym found)
+  where
+    by : (o : Option (List ℕ)) → option_and_then (value_number catalog column) o ≡ Some v → v < length (values catalog column)
+    by None e = absurd (cc e)
+    by (Some text) e = position_within (bytes_eq text) (values catalog column) v e

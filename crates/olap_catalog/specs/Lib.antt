@@ -1,6 +1,6 @@
 pub mod Roots
 pub mod Parts
+pub mod Tables
 pub mod Columns
 pub mod Members
-pub mod MemberOf
 pub mod Named

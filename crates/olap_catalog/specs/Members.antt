@@ -1,5 +1,5 @@
 -- The children of a path, by their values in the level below it.
-use Rattle.std.specs.Prelude.{ℕ, ◌≡◌, ◌<◌, true, List, [], ◌∷◌, ◌++◌, Bool, ◌&&◌, Option, Some, None, Result, Ok, Err, length, take, filter_map, option_map, option_and_then, slice_get, nat_lt, bytes_eq, unwrap_or, if◌then◌else◌}
+use Rattle.std.specs.Prelude.{ℕ, ◌≡◌, ◌<◌, true, List, [], ◌∷◌, ◌++◌, Bool, ◌&&◌, Option, Some, None, Result, Ok, Err, length, map, option_map, option_and_then, slice_get, nat_lt, unwrap_or, if◌then◌else◌}
 use Rattle.std.specs.List.{list_all, find}
 use Rattle.std.specs.Option.{option_or, option_map_or}
 use Rattle.olap_meaning.specs.declared.tables.Hierarchy.{Hierarchy}
@@ -7,40 +7,18 @@ use Rattle.olap_meaning.specs.declared.tables.Catalog.{Catalog}
 use Rattle.olap_meaning.specs.declared.cells.Member.{Member}
 use Rattle.olap_meaning.specs.declared.cells.Member.TheVariants as member
 use Rattle.olap_meaning.specs.History.{is_some_and}
-use Rattle.olap_meaning.specs.Catalog.{values, paths, records, all_member, members_with, paths_below, find_member, member_from}
+use Rattle.olap_meaning.specs.Catalog.{values, records, all_text, all_member, members_with, paths_below, member_of, member_from}
 use Rattle.olap_meaning.specs.declared.cells.LevelRef.{LevelRef}
+use Rattle.member_trees.specs.Nodes.{last_value}
 use Rattle.olap_catalog.specs.declared.members.Below.{Below}
 use Rattle.olap_catalog.specs.declared.fault.NameFault.{NameFault}
 use Rattle.olap_catalog.specs.declared.fault.NameFault.TheVariants.{UnknownMember}
 use Rattle.olap_catalog.specs.Columns.{column_leaves}
-use Rattle.catalog_tables.specs.Names.{is_alike}
-use Rattle.catalog_tables.specs.declared.matching.Likeness.{Likeness}
-
--- a number is that of a column of a catalog
-abbrev pub is_known : Catalog → ℕ → Bool
-is_known catalog column = nat_lt column (length catalog.columns)
 
 -- a column of a catalog has a value for a leaf
 abbrev pub is_there : Catalog → ℕ → ℕ → Bool
 is_there catalog leaf column =
     nat_lt column (length catalog.columns) && nat_lt leaf (column_leaves catalog column)
-
--- where a leaf's path goes on from a path, its value there
-abbrev pub next_of : List ℕ → List ℕ → Option ℕ
-next_of path leaf =
-    if bytes_eq path (take (length path) leaf) then slice_get leaf (length path) else None
-
--- the values of the leaves below a path, in the level below it
-abbrev pub values_below : Catalog → Hierarchy → List ℕ → List ℕ
-values_below catalog hierarchy path = filter_map (next_of path) (paths catalog hierarchy)
-
--- the text of a value
-abbrev pub text_of : Catalog → ℕ → ℕ → List ℕ
-text_of catalog column value = unwrap_or (slice_get (values catalog column) value) []
-
--- a value's text is so much like this name
-abbrev pub has_text : Catalog → ℕ → Likeness → List ℕ → ℕ → Bool
-has_text catalog column likeness name value = is_alike likeness name (text_of catalog column value)
 
 -- each level of a hierarchy has a value for each leaf of its dimension
 abbrev pub HasLevels : Catalog → Hierarchy → Type 0
@@ -52,7 +30,8 @@ HasLevels catalog hierarchy =
 abbrev pub child_values : Catalog → ℕ → List ℕ → List ℕ
 child_values catalog h path =
     option_map_or
-    (λ hierarchy. values_below catalog hierarchy path) (slice_get catalog.hierarchies h) []
+    (λ hierarchy. map last_value (paths_below catalog hierarchy path))
+    (slice_get catalog.hierarchies h) []
 
 -- the name of a path's child
 abbrev pub child_text : Catalog → ℕ → List ℕ → ℕ → List ℕ
@@ -62,11 +41,6 @@ child_text catalog h path value =
     (λ hierarchy. option_and_then
     (λ column. slice_get (values catalog column) value)
     (slice_get hierarchy.levels (length path))) (slice_get catalog.hierarchies h)) []
-
--- the name of a hierarchy's all member, where it has one
-abbrev pub all_text : Catalog → ℕ → Option (List ℕ)
-all_text catalog h =
-    option_and_then (λ hierarchy. hierarchy.all_member) (slice_get catalog.hierarchies h)
 
 -- the all member, where it is asked for and its name passes a test
 abbrev pub all_by : (List ℕ → Bool) → Catalog → ℕ → Bool → Option Below
@@ -96,15 +70,14 @@ abbrev pub onward : List ℕ → Below → List ℕ
 onward path Below.All = path
 onward path (Below.Child value) = path ++ value ∷ []
 
--- a member, or the fault of a name without a match
-abbrev pub or_fault : Result Member (List ℕ) → Result Member NameFault
+-- what was found, or the fault of a name without a match
+abbrev pub or_fault : {A : Type 0} → Result A (List ℕ) → Result A NameFault
 or_fault (Ok found) = Ok found
 or_fault (Err name) = Err (UnknownMember name)
 
 -- the member that a path of names means in a cube, or the fault of the first name without a match
 abbrev pub member_or_fault : Catalog → ℕ → List (List ℕ) → Result Member NameFault
-member_or_fault catalog cube [] = Err (UnknownMember [])
-member_or_fault catalog cube (name ∷ names) = or_fault (find_member catalog cube name names)
+member_or_fault catalog cube path = or_fault (member_of catalog cube path)
 
 -- the member that a path means whose first name is a root, or the fault of the first name without a match
 abbrev pub from_root_or_fault : Catalog → ℕ → LevelRef → List (List ℕ) → Result Member NameFault

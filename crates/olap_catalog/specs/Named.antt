@@ -1,13 +1,13 @@
--- That no name in a catalog is empty.
+-- That no member and no hierarchy of a catalog has an empty name.
 use Rattle.std.specs.Prelude.{ℕ, ◌≡◌, ◌≢◌, ◌<◌, List, [], Some, length, slice_get}
 use Rattle.olap_meaning.specs.declared.tables.Catalog.{Catalog}
 use Rattle.olap_meaning.specs.declared.cells.Member.TheVariants as member
 use Rattle.olap_meaning.specs.declared.cells.LevelRef.TheVariants.{Whole}
 use Rattle.olap_meaning.specs.Catalog.{values, member_name, root_name}
-use Rattle.olap_catalog.specs.Members.{all_text}
-use Rattle.olap_catalog.specs.MemberOf.{measure_count}
+use Rattle.olap_meaning.specs.Catalog.{all_text}
+use Rattle.olap_meaning.specs.MemberOf.{measure_count}
 
--- no name in a catalog is empty: no hierarchy's full name, no all member's, no measure's, and no value of a column
+-- no hierarchy's full name is empty, no all member's name, no measure's, and no value of a column
 pub record HasNames (catalog : Catalog) : Type 0 where
   pub hierarchies : (h : ℕ) → h < length catalog.hierarchies → root_name catalog (Whole h) ≢ []
   pub all_members : (h : ℕ) (name : List ℕ) → all_text catalog h ≡ Some name → name ≢ []

@@ -1,5 +1,5 @@
 -- The parts of a catalog, and what ties them together.
-use Rattle.std.specs.Prelude.{ℕ, ◌≡◌, ◌≤◌, List, Bool, true, ◌==◌, length, map, flat_map, nat_lt, slice_get, nat_le}
+use Rattle.std.specs.Prelude.{ℕ, ◌≡◌, ◌≤◌, List, All, Bool, true, ◌==◌, length, map, flat_map, nat_lt, slice_get, nat_le}
 use Rattle.std.specs.List.{list_all, zip}
 use Rattle.olap_meaning.specs.declared.schema.TheConstants.{LEVEL_LIMIT, CUBE_LIMIT, MEASURE_LIMIT, DIMENSION_LIMIT}
 use Rattle.olap_meaning.specs.declared.schema.Schema.{Schema}
@@ -8,12 +8,14 @@ use Rattle.olap_meaning.specs.declared.tables.Column.{Column}
 use Rattle.olap_meaning.specs.declared.tables.Hierarchy.{Hierarchy}
 use Rattle.olap_meaning.specs.declared.tables.Cube.{Cube}
 use Rattle.olap_meaning.specs.declared.tables.Catalog.{Catalog}
+use Rattle.olap_meaning.specs.Catalog.{paths}
 use Rattle.olap_meaning.specs.History.{is_some_and}
 use Rattle.olap_meaning.specs.Legal.{rise}
 use Rattle.olap_meaning.specs.Schema.{all_hierarchies, cube_over, dimension_with}
 use Rattle.olap_meaning.specs.Whole.{IsWhole}
 use Rattle.catalog_tables.specs.Tables.{TableOf, have_fields, are_filled}
-use Rattle.olap_catalog.specs.Roots.{hierarchies_among, full_name_in, measure_names, root_names_in}
+use Rattle.member_trees.specs.Trees.{TreeOf}
+use Rattle.olap_catalog.specs.Roots.{hierarchies_among, full_name_in, level_names_in, measure_names, root_names_in}
 
 -- the records of some tables
 abbrev pub records_in : List TableOf → List (List Record)
@@ -48,18 +50,26 @@ has_levels columns hierarchy = list_all (is_level columns hierarchy.dimension) h
 abbrev pub has_few_measures : Cube → Bool
 has_few_measures cube = nat_le (length cube.measures) MEASURE_LIMIT
 
--- the names that a catalog looks among: of its cubes and aggregate tables, and in each cube of its measures and of
--- what a path may begin with
+-- the tree of a hierarchy's members
+abbrev pub tree_of : Catalog → Hierarchy → TreeOf
+tree_of catalog hierarchy = record {
+  levels = length hierarchy.levels;
+  leaves = paths catalog hierarchy;
+}
+
+-- the names that a catalog looks among: of its cubes and aggregate tables, in each cube of its measures and of what a
+-- path may begin with, and of each hierarchy's levels
 pub record Names : Type 0 where
   pub cubes : List (List ℕ)
   pub tables : List (List ℕ)
   pub measures : List (List (List ℕ))
   pub roots : List (List (List ℕ))
+  pub levels : List (List (List ℕ))
 
 -- what ties the parts of a catalog together
 pub record AreParts (schema : Schema) (tables : List TableOf) (columns : List Column)
-    (hierarchies : List Hierarchy) (cubes : List Cube) (full_names : List (List ℕ))
-    (roots : List (List ℕ)) (names : Names) : Type 0 where
+    (hierarchies : List Hierarchy) (cubes : List Cube) (trees : List TreeOf)
+    (full_names : List (List ℕ)) (roots : List (List ℕ)) (names : Names) : Type 0 where
   pub whole : IsWhole schema
   pub hierarchies_are : hierarchies ≡ all_hierarchies 0 0 schema.dimensions
   pub cubes_are : cubes ≡ map (cube_over schema.dimensions) schema.cubes
@@ -69,14 +79,17 @@ pub record AreParts (schema : Schema) (tables : List TableOf) (columns : List Co
   pub columned : list_all (is_column tables) columns ≡ true
   pub leveled : list_all (has_levels columns) hierarchies ≡ true
   pub rising : rise (flat_map (λ hierarchy. hierarchy.levels) hierarchies) ≡ true
+  pub treed : trees ≡ map (tree_of (plain schema tables columns hierarchies cubes)) hierarchies
   pub named : full_names ≡ map (full_name_in schema.dimensions) hierarchies
   pub rooted : roots ≡ map (λ cube. flat_map (hierarchies_among hierarchies) cube.dimensions) cubes
   pub cubes_named : names.cubes ≡ map (λ cube. cube.name) cubes
   pub tables_named : names.tables ≡ map (λ table. table.name) schema.aggregates
   pub measures_named : names.measures ≡ map measure_names cubes
   pub roots_named : names.roots ≡ map (root_names_in full_names) roots
+  pub levels_named : names.levels ≡ map (level_names_in columns) hierarchies
   pub few_tables : length tables ≤ DIMENSION_LIMIT
   pub few_columns : length columns ≤ LEVEL_LIMIT
   pub few_hierarchies : length hierarchies ≤ LEVEL_LIMIT
+  pub few_levels : All (λ hierarchy. length hierarchy.levels ≤ LEVEL_LIMIT) hierarchies
   pub few_cubes : length cubes ≤ CUBE_LIMIT
   pub few_measures : list_all has_few_measures cubes ≡ true

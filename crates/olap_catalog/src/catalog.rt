@@ -10,8 +10,10 @@ use crate::cubes::{
     cube_names_of, cubes_of, full_names_of, measure_names_of, root_names_of, roots_of,
     table_names_of,
 };
-use crate::layout::{columns_of, hierarchies_of};
+use crate::layout::{columns_of, hierarchies_of, level_names_of};
+use crate::trees::trees_of;
 use catalog_tables::{DimensionTable, Table};
+use member_trees::MemberTree;
 use olap_meaning::schema::Schema;
 use olap_meaning::tables::{Column, Cube, Hierarchy};
 use olap_meaning::{HierarchyId, List, OutOfMemory, Text};
@@ -26,12 +28,14 @@ pub struct Catalog {
     pub(crate) columns: List<Column>,
     pub(crate) hierarchies: List<Hierarchy>,
     pub(crate) cubes: List<Cube>,
+    pub(crate) trees: List<MemberTree>,
     pub(crate) full_names: List<Text>,
     pub(crate) roots: List<List<HierarchyId>>,
     pub(crate) cube_names: List<Text>,
     pub(crate) table_names: List<Text>,
     pub(crate) measure_names: List<List<Text>>,
     pub(crate) root_names: List<List<Text>>,
+    pub(crate) level_names: List<List<Text>>,
 }
 
 impl Model for Catalog {
@@ -42,7 +46,7 @@ impl Model for Catalog {
 
     ghost view = { λ a. plain a.schema a.tables a.columns a.hierarchies a.cubes };
 
-    ghost invariant = { λ a. AreParts a.schema a.tables a.columns a.hierarchies a.cubes a.full_names a.roots (record { cubes = a.cube_names; tables = a.table_names; measures = a.measure_names; roots = a.root_names }) };
+    ghost invariant = { λ a. AreParts a.schema a.tables a.columns a.hierarchies a.cubes a.trees a.full_names a.roots (record { cubes = a.cube_names; tables = a.table_names; measures = a.measure_names; roots = a.root_names; levels = a.level_names }) };
 }
 
 /// The catalog of a schema and its dimensions' tables, in the schema's order. The schema is one that the reader of
@@ -67,19 +71,23 @@ pub fn build_catalog(
     let table_names = table_names_of(alloc, schema.aggregates.as_slice())?;
     let measure_names = measure_names_of(alloc, cubes.as_slice())?;
     let root_names = root_names_of(alloc, full_names.as_slice(), roots.as_slice())?;
+    let level_names = level_names_of(alloc, columns.as_slice(), hierarchies.as_slice())?;
     let tables = numbered(alloc, tables)?;
+    let trees = trees_of(alloc, &schema, &tables, &columns, hierarchies.as_slice())?;
     Ok(Catalog {
         schema,
         tables,
         columns,
         hierarchies,
         cubes,
+        trees,
         full_names,
         roots,
         cube_names,
         table_names,
         measure_names,
         root_names,
+        level_names,
     })
 }
 

@@ -1,6 +1,7 @@
-//! The columns and hierarchies of a schema, numbered in the schema's order.
-ghost use Rattle.std.specs.Prelude.{◌≡◌, ◌≤◌, ◌<◌, ◌+◌, ◌++◌, length, flat_map, IfOk, OnOk};
+//! The columns and hierarchies of a schema, numbered in the schema's order, and the names of the hierarchies' levels.
+ghost use Rattle.std.specs.Prelude.{◌≡◌, ◌≤◌, ◌<◌, ◌+◌, ◌++◌, length, map, flat_map, IfOk, OnOk};
 ghost use Rattle.olap_meaning.specs.Schema.{all_columns, columns_from, all_hierarchies, hierarchies_from, numbers_from, levels_of, all_name};
+ghost use Rattle.olap_catalog.specs.Roots.{column_name, level_names_in};
 
 use olap_meaning::schema::{
     DIMENSION_LIMIT, LEVEL_LIMIT, SchemaDimension, SchemaHierarchy, SchemaLevel,
@@ -141,4 +142,43 @@ fn numbers(alloc: Global, first: u32, levels: &[SchemaLevel]) -> Result<List<Col
         column += 1;
     }
     Ok(columns)
+}
+
+/// The names of the levels of each of some hierarchies.
+pub(crate) fn level_names_of(
+    alloc: Global,
+    columns: &[Column],
+    hierarchies: &[Hierarchy],
+) -> Result<List<List<Text>>, OutOfMemory>
+    ensures { IfOk result (λ names. names ≡ map (level_names_in columns.now) hierarchies.now) }
+{
+    let mut names = List::new(alloc);
+    for hierarchy in hierarchies {
+        names.push(column_names(alloc, columns, hierarchy.levels.as_slice())?)?;
+    }
+    Ok(names)
+}
+
+// The names of some columns.
+fn column_names(
+    alloc: Global,
+    columns: &[Column],
+    ids: &[ColumnId],
+) -> Result<List<Text>, OutOfMemory>
+    ensures { IfOk result (λ names. names ≡ map (column_name columns.now) ids.now) }
+{
+    let mut names = List::new(alloc);
+    for id in ids {
+        names.push(column_name(alloc, columns, *id)?)?;
+    }
+    Ok(names)
+}
+
+fn column_name(alloc: Global, columns: &[Column], id: ColumnId) -> Result<Text, OutOfMemory>
+    ensures { IfOk result (λ name. name ≡ column_name columns.now id) }
+{
+    match columns.get(id.0 as usize) {
+        None => Text::from_str(alloc, ""),
+        Some(column) => column.name.copy(),
+    }
 }

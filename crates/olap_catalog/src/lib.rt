@@ -7,10 +7,13 @@ mod catalog;
 mod cubes;
 mod fault;
 mod layout;
+mod leaves;
+mod levels;
 mod lookups;
 mod members;
 mod paths;
 mod shared;
+mod trees;
 mod values;
 
 pub use catalog::{Catalog, build_catalog};

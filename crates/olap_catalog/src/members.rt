@@ -1,14 +1,15 @@
-//! Members of hierarchies: their names, and the columns and values that they stand for.
-ghost use Rattle.std.specs.Prelude.{◌≡◌, ◌<◌, ◌≤◌, ℕ, ◌⊎◌, ◌∷◌, ◌++◌, [], true, None, Some, Ok, Err, length, position, slice_get, nat_eq, filter_map, IfOk, IfErr, IfSome, unwrap_or, option_copied};
-ghost use Rattle.std.specs.List.{list_all, find, cons_option};
-ghost use Rattle.olap_meaning.specs.Catalog as meaning;
+//! The children of paths in the hierarchies, from the trees of members: their values, and their names.
+ghost use Rattle.std.specs.Prelude.{◌≡◌, ◌++◌, ◌∷◌, [], true, All, map};
+ghost use Rattle.std.specs.List.{find};
+ghost use Rattle.olap_meaning.specs.declared.cells.Member.TheVariants as member;
+ghost use Rattle.olap_meaning.specs.MemberOf.{IsMemberOf};
 ghost use Rattle.catalog_tables.specs.Names.{is_alike};
-ghost use Rattle.olap_catalog.specs.Members.{is_there, next_of, has_text, values_below, HasLevels, child_text, child_values, is_known};
+ghost use Rattle.olap_catalog.specs.Members.{child_text, child_values};
 
 use crate::catalog::Catalog;
 use catalog_tables::Likeness;
-use olap_meaning::tables::Hierarchy;
-use olap_meaning::{ColumnId, HierarchyId, LeafId, ValueId};
+use member_trees::Node;
+use olap_meaning::{HierarchyId, ValueId};
 
 /// What stands below a path of a hierarchy.
 #[derive(Clone, Copy, PartialEq, Eq)]
@@ -20,87 +21,6 @@ pub(crate) enum Below {
 }
 
 impl Catalog {
-    // The value of a leaf in the level below a path, where the leaf is below the path.
-    fn next_below(&self, hierarchy: &Hierarchy, path: &[ValueId], leaf: LeafId) -> Option<ValueId>
-        requires deep { length path.now < length hierarchy.now.levels }
-        requires levels { list_all (is_there self.now leaf) hierarchy.now.levels ≡ true }
-        ensures next { result ≡ next_of path.now (meaning.path_of self.now hierarchy.now leaf) }
-        ensures value { (column : ℕ)
-            → slice_get hierarchy.now.levels (length path.now) ≡ Some column
-            → IfSome result (λ v. v < length (meaning.values self.now column)) }
-    {
-        let levels = hierarchy.levels.as_slice();
-        for i in 0..path.len() {
-            if self.leaf_value(levels[i], leaf) != path[i] {
-                return None;
-            }
-        }
-        Some(self.leaf_value(levels[path.len()], leaf))
-    }
-
-    // The first child of a path whose name is so much like this one, by its value.
-    fn first_alike(
-        &self,
-        hierarchy: &Hierarchy,
-        path: &[ValueId],
-        column: ColumnId,
-        likeness: Likeness,
-        name: &str,
-    ) -> Option<ValueId>
-        requires level { slice_get hierarchy.now.levels (length path.now) ≡ Some column }
-        requires known { column < length self.now.columns }
-        requires levels { HasLevels self.now hierarchy.now }
-        ensures { result
-            ≡ find (has_text self.now column likeness name.now)
-            (values_below self.now hierarchy.now path.now) }
-    {
-        for leaf in 0..self.leaf_count(hierarchy.dimension) {
-            let found = self.alike_at(hierarchy, path, column, likeness, name, LeafId(leaf));
-            if let Some(value) = found {
-                return Some(value);
-            }
-        }
-        None
-    }
-
-    // The value of a leaf in the level below a path, where it is below the path and the value's name is so much like this one.
-    fn alike_at(
-        &self,
-        hierarchy: &Hierarchy,
-        path: &[ValueId],
-        column: ColumnId,
-        likeness: Likeness,
-        name: &str,
-        leaf: LeafId,
-    ) -> Option<ValueId>
-        requires level { slice_get hierarchy.now.levels (length path.now) ≡ Some column }
-        requires known { column < length self.now.columns }
-        requires levels { list_all (is_there self.now leaf) hierarchy.now.levels ≡ true }
-        ensures { result
-            ≡ find (has_text self.now column likeness name.now)
-            (cons_option (next_of path.now (meaning.path_of self.now hierarchy.now leaf)) []) }
-    {
-        match self.next_below(hierarchy, path, leaf) {
-            None => None,
-            Some(value) => {
-                if self.has_text(column, value, likeness, name) {
-                    return Some(value);
-                }
-                None
-            }
-        }
-    }
-
-    // A hierarchy, None where the schema has none of this place.
-    pub(crate) fn hierarchy_at(&self, h: HierarchyId) -> Option<&Hierarchy>
-        ensures shown { option_copied result ≡ slice_get self.now.hierarchies h }
-        ensures known { IfSome result
-            (λ hierarchy. list_all (is_known self.now) hierarchy.now.levels ≡ true) }
-        ensures levels { IfSome result (λ hierarchy. HasLevels self.now hierarchy.now) }
-    {
-        self.hierarchies.get(h.0 as usize)
-    }
-
     // The first child of a path whose name is so much like this one, by its value.
     pub(crate) fn child_alike(
         &self,
@@ -114,50 +34,44 @@ impl Catalog {
             (λ value. is_alike likeness name.now (child_text self.now h path.now value))
             (child_values self.now h path.now) }
     {
-        match self.hierarchy_at(h) {
-            None => None,
-            Some(hierarchy) => match hierarchy.levels.get(path.len()) {
-                None => None,
-                Some(column) => self.first_alike(hierarchy, path, *column, likeness, name),
-            },
+        for node in self.nodes_below(h, path) {
+            if likeness.holds(name, self.child_name(h, path, node.value)) {
+                return Some(node.value);
+            }
         }
+        None
     }
 
     // The first child of the top of a hierarchy, by its value.
     pub(crate) fn first_child(&self, h: HierarchyId) -> Option<ValueId>
         ensures { result ≡ find (λ value. true) (child_values self.now h []) }
     {
-        match self.hierarchy_at(h) {
+        match self.nodes_below(h, &[]).first() {
             None => None,
-            Some(hierarchy) => {
-                if hierarchy.levels.is_empty() {
-                    return None;
-                }
-                self.first_below(hierarchy, &[])
-            }
+            Some(node) => Some(node.value),
         }
     }
 
-    // The first child of a path, by its value.
-    fn first_below(&self, hierarchy: &Hierarchy, path: &[ValueId]) -> Option<ValueId>
-        requires deep { length path.now < length hierarchy.now.levels }
-        requires levels { HasLevels self.now hierarchy.now }
-        ensures { result ≡ find (λ value. true) (values_below self.now hierarchy.now path.now) }
+    // The members one level below a path of a hierarchy, in their order.
+    fn nodes_below(&self, h: HierarchyId, path: &[ValueId]) -> &[Node]
+        ensures values { map (λ node. node.value) result.now ≡ child_values self.now h path.now }
+        ensures own { All
+            (λ node. IsMemberOf self.now 0 (member.At h (path.now ++ node.value ∷ [])))
+            result.now }
     {
-        for leaf in 0..self.leaf_count(hierarchy.dimension) {
-            if let Some(value) = self.next_below(hierarchy, path, LeafId(leaf)) {
-                return Some(value);
-            }
+        let _ = &self.hierarchies;
+        match self.tree_at(h) {
+            None => &[],
+            Some(tree) => tree.nodes_below(path),
         }
-        None
     }
 
-    // Whether a value's text is so much like this name.
-    fn has_text(&self, column: ColumnId, value: ValueId, likeness: Likeness, name: &str) -> bool
-        requires known { column < length self.now.columns }
-        requires there { value < length (meaning.values self.now column) }
-        ensures { result ≡ has_text self.now column likeness name.now value }
+    // The name of a path's child, by its value.
+    fn child_name(&self, h: HierarchyId, path: &[ValueId], value: ValueId) -> &str
+        requires { IsMemberOf self.now 0 (member.At h (path.now ++ value ∷ [])) }
+        ensures { result.now ≡ child_text self.now h path.now value }
     {
-        likeness.holds(name, self.value_name(column, value))
+        let levels = self.hierarchy(h).levels.as_slice();
+        self.value_name(levels[path.len()], value)
     }
 }

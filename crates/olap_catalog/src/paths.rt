@@ -5,8 +5,9 @@ ghost use Rattle.std.specs.List.{zip};
 ghost use Rattle.olap_meaning.specs.History.{is_some_and};
 ghost use Rattle.olap_meaning.specs.Catalog as meaning;
 ghost use Rattle.catalog_tables.specs.Names.{is_alike, is_but_case};
-ghost use Rattle.olap_catalog.specs.MemberOf.{IsMemberOf};
-ghost use Rattle.olap_catalog.specs.Members.{all_text, below_by, onward, members_below, spot, member_or_fault, from_root_or_fault};
+ghost use Rattle.olap_meaning.specs.MemberOf.{IsMemberOf};
+ghost use Rattle.olap_meaning.specs.Catalog.{all_text};
+ghost use Rattle.olap_catalog.specs.Members.{below_by, onward, members_below, spot, member_or_fault, from_root_or_fault};
 
 use crate::catalog::Catalog;
 use crate::fault::NameFault;
@@ -83,7 +84,7 @@ impl Catalog {
     }
 
     // Whether a hierarchy has an all member.
-    fn has_all(&self, h: HierarchyId) -> bool
+    pub(crate) fn has_all(&self, h: HierarchyId) -> bool
         ensures { result ≡ is_some_and (λ name. true) (all_text self.now h) }
     {
         match self.hierarchies.get(h.0 as usize) {
@@ -298,7 +299,7 @@ fn extended(path: List<ValueId>, below: Below) -> Result<List<ValueId>, OutOfMem
 }
 
 // The fault of a name without a match.
-fn unknown(name: &Text) -> NameFault
+pub(crate) fn unknown(name: &Text) -> NameFault
     ensures { (result ≡ NameFault.OutOfMemory) ⊎ (result ≡ NameFault.UnknownMember name.now) }
 {
     match name.copy() {

@@ -10,6 +10,7 @@ ghost use Rattle.olap_catalog.specs.Named.{HasNames};
 ghost use Rattle.olap_catalog.specs.Parts.{has_levels};
 
 use crate::catalog::Catalog;
+use crate::leaves::{field_of, leaf_count};
 use catalog_tables::FieldColumn;
 use olap_meaning::schema::{CUBE_LIMIT, LEVEL_LIMIT, Schema};
 use olap_meaning::tables::{Column, Cube, Hierarchy};
@@ -113,10 +114,7 @@ impl Catalog {
     pub fn leaf_count(&self, dimension: u32) -> u32
         ensures { result ≡ length (meaning.records self.now dimension) }
     {
-        match self.tables.get(dimension as usize) {
-            None => 0,
-            Some(table) => table.len(),
-        }
+        leaf_count(&self.schema, &self.tables, &self.columns, dimension)
     }
 
     /// The leaf with exactly this primary key, None where there is none.
@@ -167,8 +165,6 @@ impl Catalog {
         requires { column < length self.now.columns }
         ensures { result.now ≡ column_texts self.now column }
     {
-        let at = self.column(column);
-        let table = &self.tables.as_slice()[at.dimension as usize];
-        table.column(at.field).unwrap()
+        field_of(&self.schema, &self.tables, &self.columns, column)
     }
 }

@@ -68,30 +68,42 @@ paths catalog hierarchy =
     (λ leaf. path_of catalog hierarchy leaf.0)
     (enumerate_from 0 (records catalog hierarchy.dimension))
 
--- the paths one level below a path: the leaves' paths that go on from it, cut there, each once by first appearance
-abbrev pub paths_below : Catalog → Hierarchy → List ℕ → List (List ℕ)
-paths_below catalog hierarchy path =
+-- the paths one level below a path, among the paths of leaves: those that go on from it, cut there, each once by first
+-- appearance
+abbrev pub below : List (List ℕ) → List ℕ → List (List ℕ)
+below leaves path =
     let depth = suc (length path) in
     first_appearances
     (filter
-    (λ below. length below == depth)
-    (map (take depth)
-    (filter (λ leaf. starts_with nat_eq leaf path) (paths catalog hierarchy))))
+    (λ cut. length cut == depth)
+    (map (take depth) (filter (λ leaf. starts_with nat_eq leaf path) leaves)))
 
 -- the paths of a depth in hierarchical order: those below each path of the depth above, in turn
-abbrev pub paths_at : Catalog → Hierarchy → ℕ → List (List ℕ)
-paths_at catalog hierarchy zero = [] ∷ []
-paths_at catalog hierarchy (suc depth) =
-    flat_map (paths_below catalog hierarchy) (paths_at catalog hierarchy depth)
+abbrev pub at_depth : List (List ℕ) → ℕ → List (List ℕ)
+at_depth leaves zero = [] ∷ []
+at_depth leaves (suc depth) = flat_map (below leaves) (at_depth leaves depth)
 
 -- the paths of some levels below a path in hierarchical order: each before those below it, and those before its next
 -- sibling
+abbrev pub under : List (List ℕ) → ℕ → List ℕ → List (List ℕ)
+under leaves zero path = []
+under leaves (suc levels) path =
+    flat_map (λ next. next ∷ under leaves levels next) (below leaves path)
+
+-- the same of a hierarchy
+abbrev pub paths_below : Catalog → Hierarchy → List ℕ → List (List ℕ)
+paths_below catalog hierarchy path = below (paths catalog hierarchy) path
+
+abbrev pub paths_at : Catalog → Hierarchy → ℕ → List (List ℕ)
+paths_at catalog hierarchy depth = at_depth (paths catalog hierarchy) depth
+
 abbrev pub paths_under : Catalog → Hierarchy → ℕ → List ℕ → List (List ℕ)
-paths_under catalog hierarchy zero path = []
-paths_under catalog hierarchy (suc levels) path =
-    flat_map
-    (λ below. below ∷ paths_under catalog hierarchy levels below)
-    (paths_below catalog hierarchy path)
+paths_under catalog hierarchy levels path = under (paths catalog hierarchy) levels path
+
+-- the name of a hierarchy's all member, where it has one
+abbrev pub all_text : Catalog → ℕ → Option (List ℕ)
+all_text catalog h =
+    option_and_then (λ hierarchy. hierarchy.all_member) (slice_get catalog.hierarchies h)
 
 -- the all member of a hierarchy, where it has one (Schema Guide, "The 'all' member")
 abbrev pub all_member : Catalog → ℕ → List Member
@@ -263,3 +275,43 @@ member_from catalog cube name names (Some root) =
 abbrev pub find_member : Catalog → ℕ → List ℕ → List (List ℕ) → Result Member (List ℕ)
 find_member catalog cube name names =
     member_from catalog cube name names (find_root catalog cube name)
+
+-- the names of a hierarchy's levels, from the top
+abbrev pub level_names : Catalog → ℕ → List (List ℕ)
+level_names catalog h =
+    option_map_or
+    (λ hierarchy. map
+    (λ column. option_map_or (λ c. c.name) (slice_get catalog.columns column) [])
+    hierarchy.levels)
+    (slice_get catalog.hierarchies h) []
+
+-- the level of a hierarchy at the place of a name; or that name where it has none, or the next, which is one too many
+abbrev pub level_at : ℕ → List ℕ → List (List ℕ) → Option ℕ → Result LevelRef (List ℕ)
+level_at h name names None = Err name
+level_at h name [] (Some level) = Ok (One h level)
+level_at h name (next ∷ names) (Some level) = Err next
+
+-- the level that names after a root lead to: the root itself where there are none; a hierarchy's level of the one name;
+-- the measures have no level
+abbrev pub level_from : Catalog → LevelRef → List (List ℕ) → Result LevelRef (List ℕ)
+level_from catalog root [] = Ok root
+level_from catalog Measures (name ∷ names) = Err name
+level_from catalog (Whole h) (name ∷ names) =
+    level_at h name names (match_of name (level_names catalog h))
+level_from catalog (One h level) (name ∷ names) = Err name
+
+-- the level that a path of names means in a cube: a root, or a hierarchy and one of its levels; or the first name without
+-- a match, or the third name where two have one
+abbrev pub find_level : Catalog → ℕ → List ℕ → List (List ℕ) → Result LevelRef (List ℕ)
+find_level catalog cube name names =
+    option_map_or (λ root. level_from catalog root names) (find_root catalog cube name) (Err name)
+
+-- the member that a path of names means in a cube, or the first name without a match; no name means none
+abbrev pub member_of : Catalog → ℕ → List (List ℕ) → Result Member (List ℕ)
+member_of catalog cube [] = Err []
+member_of catalog cube (name ∷ names) = find_member catalog cube name names
+
+-- the level that a path of names means in a cube, or the first name without a match or one too many
+abbrev pub level_of : Catalog → ℕ → List (List ℕ) → Result LevelRef (List ℕ)
+level_of catalog cube [] = Err []
+level_of catalog cube (name ∷ names) = find_level catalog cube name names

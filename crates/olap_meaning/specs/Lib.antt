@@ -7,6 +7,7 @@ pub mod Records
 pub mod FileQuery
 pub mod Commands
 pub mod Catalog
+pub mod MemberOf
 pub mod Schema
 pub mod Whole
 pub mod Covering

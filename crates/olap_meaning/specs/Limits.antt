@@ -1,6 +1,6 @@
 -- The limits of what is taken in, as numbers.
 use Rattle.std.specs.Prelude.{ℕ, ◌≡◌}
-use Rattle.olap_meaning.specs.declared.TheConstants.{ROW_LIMIT, VERSION_LIMIT}
+use Rattle.olap_meaning.specs.declared.TheConstants.{CELL_LIMIT, ROW_LIMIT, VERSION_LIMIT}
 use Rattle.olap_meaning.specs.declared.schema.TheConstants.{AGGREGATE_LIMIT, CUBE_LIMIT, DIMENSION_LIMIT, LEVEL_LIMIT, MEASURE_LIMIT, RECORD_LIMIT, USE_LIMIT}
 
 -- the most fact rows that the cubes of a cache have together, and the most records of a file that is asked by itself
@@ -16,6 +16,7 @@ pub record LimitsAreStated : Type 0 where
   pub rows : ROW_LIMIT ≡ row_limit
   pub records : RECORD_LIMIT ≡ record_limit
   pub versions : VERSION_LIMIT ≡ 100_000
+  pub cells : CELL_LIMIT ≡ 100_000
   pub dimensions : DIMENSION_LIMIT ≡ 32
   pub levels : LEVEL_LIMIT ≡ 64
   pub cubes : CUBE_LIMIT ≡ 16

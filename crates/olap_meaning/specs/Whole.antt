@@ -90,13 +90,14 @@ pub record IsNamedDimension (dimension : SchemaDimension) : Type 0 where
   pub own : dimension.name ≢ []
   pub hierarchies : All IsNamedHierarchy dimension.hierarchies
 
--- no name of a cube is empty: its own, and its measures'
+-- a cube has a measure, and no name of it is empty: its own, and its measures'
 pub record IsNamedCube (cube : SchemaCube) : Type 0 where
   pub own : cube.name ≢ []
+  pub some : cube.measures ≢ []
   pub measures : All (λ measure. measure.name ≢ []) cube.measures
 
--- a schema is whole: it is within the limits, no name is empty, each use of a cube names a dimension, and each
--- aggregate table speaks of a cube, and of levels and measures that the cube has
+-- a schema is whole: it is within the limits, no name of its dimensions and of its cubes is empty, each use of a cube names
+-- a dimension, and each aggregate table speaks of a cube, and of levels and measures that the cube has
 pub record IsWhole (schema : Schema) : Type 0 where
   pub limits : IsWithinLimits schema
   pub named : All IsNamedDimension schema.dimensions

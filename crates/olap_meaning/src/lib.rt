@@ -29,6 +29,9 @@ pub const ROW_LIMIT: u32 = 8_000_000;
 /// The greatest version of a cube.
 pub const VERSION_LIMIT: u32 = 100_000;
 
+/// The greatest number of cells of a query.
+pub const CELL_LIMIT: u32 = 100_000;
+
 /// Want of memory. It is a fault of its own wherever a call takes memory.
 #[derive(Clone, Copy, Debug, PartialEq, Eq)]
 pub struct OutOfMemory;

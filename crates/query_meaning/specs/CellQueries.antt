@@ -1,5 +1,5 @@
 -- What a query of one cell means in a catalog: a member, and the cell under it.
-use Rattle.std.specs.Prelude.{ℕ, codes, if◌then◌else◌, ◌==◌, ◌++◌, List, [], ◌∷◌, Bool, false, Option, Some, Result, Ok, Err, filter, map, ok_or, option_map, slice_get}
+use Rattle.std.specs.Prelude.{ℕ, codes, if◌then◌else◌, ◌==◌, ◌++◌, List, [], ◌∷◌, Bool, false, Option, Some, Result, Ok, filter, map, ok_or, option_map, slice_get}
 use Rattle.std.specs.List.{enumerate_from, list_any}
 use Rattle.std.specs.Option.{option_map_or}
 use Rattle.query_meaning.specs.declared.CellQuery.{CellQuery}
@@ -9,7 +9,7 @@ use Rattle.olap_meaning.specs.declared.cells.Member.TheVariants as member
 use Rattle.olap_meaning.specs.declared.cells.LevelRef.TheVariants.{Whole}
 use Rattle.olap_meaning.specs.declared.tables.Catalog.{Catalog}
 use Rattle.olap_meaning.specs.Results.{◌>>=◌, refused_as}
-use Rattle.olap_meaning.specs.Catalog.{box, default_member, find_cube, find_member, measure_members, root_name}
+use Rattle.olap_meaning.specs.Catalog.{box, default_member, find_cube, measure_members, member_of, root_name}
 
 -- a member is one of a hierarchy
 abbrev pub is_of : Member → ℕ → Bool
@@ -61,11 +61,6 @@ cell_under catalog cube under = do
   measure ← ok_or (measure_under catalog cube under) (codes "Measures")
   at ← boxes_under catalog cube under (hierarchies_within catalog cube)
   Ok (record { cube = cube; measure = measure; at = at })
-
--- the member that a path of names means in a cube, or the first name without a match
-abbrev pub member_of : Catalog → ℕ → List (List ℕ) → Result Member (List ℕ)
-member_of catalog cube [] = Err []
-member_of catalog cube (name ∷ names) = find_member catalog cube name names
 
 -- what a query of one cell means: the cube, the member and the cell
 pub record Meant : Type 0 where

@@ -15,6 +15,9 @@ pub mod Shown
 pub mod Titles
 pub mod GridForm
 pub mod Grids
+pub mod OwnAxes
 pub mod CellQueries
+pub mod Resolution
+pub mod AxisCells
 pub mod Requests
 pub mod Replies

@@ -6,12 +6,12 @@ use query_meaning::{Grid, GridRow};
 use std::alloc::{AllocError, Global};
 use std::test::Fail;
 
-/// A grid: its position, the titles of its columns, and the title and the values of each row.
+// A grid: its position, the titles of its columns, and the title and the values of each row.
 #[derive(Clone, Copy)]
-pub(crate) struct Sheet {
-    pub(crate) position: u64,
-    pub(crate) columns: &'static [&'static str],
-    pub(crate) rows: &'static [(&'static str, &'static [CellValue])],
+struct Sheet {
+    position: u64,
+    columns: &'static [&'static str],
+    rows: &'static [(&'static str, &'static [CellValue])],
 }
 
 const READ: [(&str, Sheet); 5] = [
@@ -155,8 +155,8 @@ fn are_rows(rows: &[GridRow], wanted: &[(&str, &[CellValue])]) -> bool {
             && row.values.as_slice() == one.1)
 }
 
-/// Whether a text is read as a grid.
-pub(crate) fn reads(alloc: Global, text: &[u8], sheet: &Sheet) -> bool {
+// Whether a text is read as a grid.
+fn reads(alloc: Global, text: &[u8], sheet: &Sheet) -> bool {
     match read_grid(alloc, text) {
         Ok(grid) => {
             grid.position == sheet.position

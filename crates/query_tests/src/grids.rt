@@ -3,268 +3,134 @@ ghost use Rattle.std.specs.Prelude.{IfOk};
 ghost use Rattle.olap_meaning.specs.Texts.{CanBeShown};
 ghost use Rattle.query_meaning.specs.Shown.{Shows};
 
-use crate::axes::{Side, answer, axes, is_whole};
-use crate::grid_texts::{Sheet, reads};
-use crate::spaced::shown_with_spaces;
-use grid_reader::read_grid;
 use history_core::Answer;
 use olap_catalog::Catalog;
 use olap_meaning::{CellValue, OutOfMemory, Text};
-use result_layout::grid;
+use query_samples::{answer, laid_out, shown_with_spaces, told_grid};
 use shown_values::{Formatter, Showing, shown_plainly, shown_with_commas};
 use std::alloc::Global;
 use std::test::Fail;
 use test_samples::files::{schema, stores, times};
 use test_samples::open_catalog;
 
-// The axes of a grid, the values of all its cells, its text, and what is shown.
-#[derive(Clone, Copy)]
-struct Case {
-    columns: Side<'static>,
-    rows: Option<Side<'static>>,
-    values: &'static [CellValue],
-    text: &'static str,
-    shown: Sheet,
-}
+// A query, the values of its cells, and its grid.
+type Case = (&'static str, &'static [&'static str], &'static str);
 
-const EMPTY: CellValue = CellValue::Empty;
-
-const ZERO: CellValue = CellValue::Whole(0);
-
-const FIVE: CellValue = CellValue::Whole(5);
-
-// Grids over the sample files.
+// Grids over the sample files: a query, the values of its cells, and the grid.
 static SAMPLES: [Case; 15] = [
     // Two measures by a year.
-    Case {
-        columns: (false, &["Measures/Units", "Measures/Count"]),
-        rows: Some((false, &["Time/1997"])),
-        values: &[CellValue::Whole(12), CellValue::Whole(3)],
-        text: "GRID 1 2 1\nC\t[Measures].[Units]\nC\t[Measures].[Count]\nR\t[Time].[1997]\t12\t3\n.\n",
-        shown: Sheet {
-            position: 1,
-            columns: &["[Measures].[Units]", "[Measures].[Count]"],
-            rows: &[(
-                "[Time].[1997]",
-                &[CellValue::Whole(12), CellValue::Whole(3)],
-            )],
-        },
-    },
+    (
+        "SELECT {[Measures].[Units], [Measures].[Count]} ON 0, {[Time].[1997]} ON 1 FROM [Sales]",
+        &["12", "3"],
+        "GRID 1 2 1\nC\t[Measures].[Units]\nC\t[Measures].[Count]\nR\t[Time].[1997]\t12\t3\n.\n",
+    ),
     // A tuple of two members.
-    Case {
-        columns: (false, &["Time/1998+Store/All Stores/CA"]),
-        rows: Some((false, &["Measures/Units"])),
-        values: &[CellValue::Hundredths(-150)],
-        text: "GRID 3 1 1\nC\t[Time].[1998], [Store].[CA]\nR\t[Measures].[Units]\t-1.50\n.\n",
-        shown: Sheet {
-            position: 3,
-            columns: &["[Time].[1998], [Store].[CA]"],
-            rows: &[("[Measures].[Units]", &[CellValue::Hundredths(-150)])],
-        },
-    },
+    (
+        "SELECT {([Time].[1998], [Store].[All Stores].[CA])} ON 0, {[Measures].[Units]} ON 1 FROM [Sales]",
+        &["-1.50"],
+        "GRID 1 1 1\nC\t[Time].[1998], [Store].[CA]\nR\t[Measures].[Units]\t-1.50\n.\n",
+    ),
     // All members, and paths of two levels.
-    Case {
-        columns: (false, &["Store/All Stores", "Store/WA/Seattle"]),
-        rows: Some((false, &["Time/1997/Q2+Store", "Time/1998/Q1+Store/CA/SF"])),
-        values: &[
-            ZERO,
-            EMPTY,
-            CellValue::Hundredths(705),
-            CellValue::Whole(-3),
-        ],
-        text: "GRID 18446744073709551615 2 2\nC\t[Store].[All Stores]\nC\t[Store].[WA].[Seattle]\n\
-            R\t[Time].[1997].[Q2], [Store].[All Stores]\t0\t\nR\t[Time].[1998].[Q1], [Store].[CA].[SF]\t7.05\t-3\n.\n",
-        shown: Sheet {
-            position: 18_446_744_073_709_551_615,
-            columns: &["[Store].[All Stores]", "[Store].[WA].[Seattle]"],
-            rows: &[
-                ("[Time].[1997].[Q2], [Store].[All Stores]", &[ZERO, EMPTY]),
-                (
-                    "[Time].[1998].[Q1], [Store].[CA].[SF]",
-                    &[CellValue::Hundredths(705), CellValue::Whole(-3)],
-                ),
-            ],
-        },
-    },
+    (
+        "SELECT {[Store].[All Stores], [Store].[WA].[Seattle]} ON 0, \
+            {[Time].[1997].[Q2], [Time].[1998].[Q1]} ON 1 FROM [Sales]",
+        &["0", "", "7.05", "-3"],
+        "GRID 1 2 2\nC\t[Store].[All Stores]\nC\t[Store].[WA].[Seattle]\n\
+            R\t[Time].[1997].[Q2]\t0\t\nR\t[Time].[1998].[Q1]\t7.05\t-3\n.\n",
+    ),
+    // Tuples of two members on rows.
+    (
+        "SELECT {[Measures].[Units]} ON 0, \
+            {([Time].[1997].[Q2], [Store]), ([Time].[1998].[Q1], [Store].[CA].[SF])} ON 1 FROM [Sales]",
+        &["5", "-3"],
+        "GRID 1 1 2\nC\t[Measures].[Units]\n\
+            R\t[Time].[1997].[Q2], [Store].[All Stores]\t5\nR\t[Time].[1998].[Q1], [Store].[CA].[SF]\t-3\n.\n",
+    ),
     // Columns alone.
-    Case {
-        columns: (false, &["Measures/Units", "Measures/Count"]),
-        rows: None,
-        values: &[FIVE, EMPTY],
-        text: "GRID 4 2 1\nC\t[Measures].[Units]\nC\t[Measures].[Count]\nR\t\t5\t\n.\n",
-        shown: Sheet {
-            position: 4,
-            columns: &["[Measures].[Units]", "[Measures].[Count]"],
-            rows: &[("", &[FIVE, EMPTY])],
-        },
-    },
+    (
+        "SELECT [Measures].Members ON 0 FROM [Sales]",
+        &["5", ""],
+        "GRID 1 2 1\nC\t[Measures].[Units]\nC\t[Measures].[Count]\nR\t\t5\t\n.\n",
+    ),
     // No columns.
-    Case {
-        columns: (false, &[]),
-        rows: None,
-        values: &[],
-        text: "GRID 2 0 1\nR\t\n.\n",
-        shown: Sheet {
-            position: 2,
-            columns: &[],
-            rows: &[("", &[])],
-        },
-    },
+    ("SELECT {} ON 0 FROM [Sales]", &[], "GRID 1 0 1\nR\t\n.\n"),
     // No rows.
-    Case {
-        columns: (false, &["Measures/Units"]),
-        rows: Some((false, &[])),
-        values: &[],
-        text: "GRID 5 1 0\nC\t[Measures].[Units]\n.\n",
-        shown: Sheet {
-            position: 5,
-            columns: &["[Measures].[Units]"],
-            rows: &[],
-        },
-    },
+    (
+        "SELECT {[Measures].[Units]} ON 0, {} ON 1 FROM [Sales]",
+        &[],
+        "GRID 1 1 0\nC\t[Measures].[Units]\n.\n",
+    ),
     // NON EMPTY on columns: the second is empty in each row, the third is 0 in one.
-    Case {
-        columns: (true, &["Store/CA", "Store/WA", "Store/CA/LA"]),
-        rows: Some((false, &["Time/1997", "Time/1998"])),
-        values: &[FIVE, EMPTY, EMPTY, EMPTY, EMPTY, ZERO],
-        text: "GRID 6 2 2\nC\t[Store].[CA]\nC\t[Store].[CA].[LA]\nR\t[Time].[1997]\t5\t\nR\t[Time].[1998]\t\t0\n.\n",
-        shown: Sheet {
-            position: 6,
-            columns: &["[Store].[CA]", "[Store].[CA].[LA]"],
-            rows: &[
-                ("[Time].[1997]", &[FIVE, EMPTY]),
-                ("[Time].[1998]", &[EMPTY, ZERO]),
-            ],
-        },
-    },
+    (
+        "SELECT NON EMPTY {[Store].[CA], [Store].[WA], [Store].[CA].[LA]} ON 0, \
+            {[Time].[1997], [Time].[1998]} ON 1 FROM [Sales]",
+        &["5", "", "", "", "", "0"],
+        "GRID 1 2 2\nC\t[Store].[CA]\nC\t[Store].[CA].[LA]\nR\t[Time].[1997]\t5\t\nR\t[Time].[1998]\t\t0\n.\n",
+    ),
     // NON EMPTY on rows: the first is empty, the second is 0 in a column.
-    Case {
-        columns: (false, &["Measures/Units", "Measures/Count"]),
-        rows: Some((true, &["Time/1997", "Time/1998", "Time/1997/Q1"])),
-        values: &[EMPTY, EMPTY, EMPTY, ZERO, FIVE, EMPTY],
-        text: "GRID 7 2 2\nC\t[Measures].[Units]\nC\t[Measures].[Count]\n\
+    (
+        "SELECT [Measures].Members ON 0, \
+            NON EMPTY {[Time].[1997], [Time].[1998], [Time].[1997].[Q1]} ON 1 FROM [Sales]",
+        &["", "", "", "0", "5", ""],
+        "GRID 1 2 2\nC\t[Measures].[Units]\nC\t[Measures].[Count]\n\
             R\t[Time].[1998]\t\t0\nR\t[Time].[1997].[Q1]\t5\t\n.\n",
-        shown: Sheet {
-            position: 7,
-            columns: &["[Measures].[Units]", "[Measures].[Count]"],
-            rows: &[
-                ("[Time].[1998]", &[EMPTY, ZERO]),
-                ("[Time].[1997].[Q1]", &[FIVE, EMPTY]),
-            ],
-        },
-    },
+    ),
     // NON EMPTY on both: one cell is left that is not empty.
-    Case {
-        columns: (true, &["Store/CA", "Store/WA", "Store"]),
-        rows: Some((true, &["Time/1997", "Time/1998"])),
-        values: &[EMPTY, EMPTY, EMPTY, EMPTY, ZERO, EMPTY],
-        text: "GRID 8 1 1\nC\t[Store].[WA]\nR\t[Time].[1998]\t0\n.\n",
-        shown: Sheet {
-            position: 8,
-            columns: &["[Store].[WA]"],
-            rows: &[("[Time].[1998]", &[ZERO])],
-        },
-    },
+    (
+        "SELECT NON EMPTY {[Store].[CA], [Store].[WA], [Store]} ON 0, \
+            NON EMPTY {[Time].[1997], [Time].[1998]} ON 1 FROM [Sales]",
+        &["", "", "", "", "0", ""],
+        "GRID 1 1 1\nC\t[Store].[WA]\nR\t[Time].[1998]\t0\n.\n",
+    ),
     // NON EMPTY on both, and each cell empty.
-    Case {
-        columns: (true, &["Store/CA", "Store/WA"]),
-        rows: Some((true, &["Time/1997"])),
-        values: &[EMPTY, EMPTY],
-        text: "GRID 9 0 0\n.\n",
-        shown: Sheet {
-            position: 9,
-            columns: &[],
-            rows: &[],
-        },
-    },
+    (
+        "SELECT NON EMPTY {[Store].[CA], [Store].[WA]} ON 0, NON EMPTY {[Time].[1997]} ON 1 FROM [Sales]",
+        &["", ""],
+        "GRID 1 0 0\n.\n",
+    ),
     // NON EMPTY on columns without a position on rows.
-    Case {
-        columns: (true, &["Measures/Units", "Measures/Count"]),
-        rows: Some((false, &[])),
-        values: &[],
-        text: "GRID 10 0 0\n.\n",
-        shown: Sheet {
-            position: 10,
-            columns: &[],
-            rows: &[],
-        },
-    },
-    // NON EMPTY on rows without a position on columns.
-    Case {
-        columns: (false, &[]),
-        rows: Some((true, &["Time/1997", "Time/1998"])),
-        values: &[],
-        text: "GRID 11 0 0\n.\n",
-        shown: Sheet {
-            position: 11,
-            columns: &[],
-            rows: &[],
-        },
-    },
-    // NON EMPTY on rows that have no position leaves the columns.
-    Case {
-        columns: (false, &["Measures/Units"]),
-        rows: Some((true, &[])),
-        values: &[],
-        text: "GRID 12 1 0\nC\t[Measures].[Units]\n.\n",
-        shown: Sheet {
-            position: 12,
-            columns: &["[Measures].[Units]"],
-            rows: &[],
-        },
-    },
+    (
+        "SELECT NON EMPTY [Measures].Members ON 0, {} ON 1 FROM [Sales]",
+        &[],
+        "GRID 1 0 0\n.\n",
+    ),
+    // NON EMPTY on rows that have no position leaves the columns, and so the other way round.
+    (
+        "SELECT {} ON 0, NON EMPTY {[Time].[1997], [Time].[1998]} ON 1 FROM [Sales]",
+        &[],
+        "GRID 1 0 0\n.\n",
+    ),
     // NON EMPTY on columns without a rows axis.
-    Case {
-        columns: (true, &["Measures/Units", "Measures/Count"]),
-        rows: None,
-        values: &[EMPTY, FIVE],
-        text: "GRID 13 1 1\nC\t[Measures].[Count]\nR\t\t5\n.\n",
-        shown: Sheet {
-            position: 13,
-            columns: &["[Measures].[Count]"],
-            rows: &[("", &[FIVE])],
-        },
-    },
+    (
+        "SELECT NON EMPTY [Measures].Members ON 0 FROM [Sales]",
+        &["", "5"],
+        "GRID 1 1 1\nC\t[Measures].[Count]\nR\t\t5\n.\n",
+    ),
     // The same without a column left.
-    Case {
-        columns: (true, &["Measures/Units", "Measures/Count"]),
-        rows: None,
-        values: &[EMPTY, EMPTY],
-        text: "GRID 14 0 1\nR\t\n.\n",
-        shown: Sheet {
-            position: 14,
-            columns: &[],
-            rows: &[("", &[])],
-        },
-    },
+    (
+        "SELECT NON EMPTY [Measures].Members ON 0 FROM [Sales]",
+        &["", ""],
+        "GRID 1 0 1\nR\t\n.\n",
+    ),
 ];
 
-// A grid over these names: a backslash and an n, and an LF, have two texts.
-static ODD: Case = Case {
-    columns: (false, &["Measures/U\\n", "Measures/U\n"]),
-    rows: Some((
-        false,
-        &[
-            "P]q/a\\b\tc\ndé\r]",
-            "P]q/x]]y\\/d\te\nfé",
-            "P]q.é/All és+P]q.é/x]]y\\",
-        ],
-    )),
-    values: &[FIVE, EMPTY, ZERO, FIVE, EMPTY, ZERO],
-    text: "GRID 1 2 3\nC\t[Measures].[U\\\\n]\nC\t[Measures].[U\\n]\n\
+// A grid over names with brackets, backslashes, tabs and ends of lines: a backslash and an n, and an LF, have two texts.
+static ODD: [Case; 2] = [
+    (
+        "SELECT {[Measures].[U\\n], [Measures].[U\n]} ON 0, \
+        {[P]]q].[a\\b\tc\ndé\r]]], [P]]q].[x]]]]y\\].[d\te\nfé]} ON 1 FROM [C]",
+        &["5", "", "0", "5"],
+        "GRID 1 2 2\nC\t[Measures].[U\\\\n]\nC\t[Measures].[U\\n]\n\
         R\t[P]]q].[a\\\\b\\tc\\ndé\\r]]]\t5\t\n\
-        R\t[P]]q].[x]]]]y\\\\].[d\\te\\nfé]\t0\t5\n\
-        R\t[P]]q.é].[All és], [P]]q.é].[x]]]]y\\\\]\t\t0\n.\n",
-    shown: Sheet {
-        position: 1,
-        columns: &["[Measures].[U\\\\n]", "[Measures].[U\\n]"],
-        rows: &[
-            ("[P]]q].[a\\\\b\\tc\\ndé\\r]]]", &[FIVE, EMPTY]),
-            ("[P]]q].[x]]]]y\\\\].[d\\te\\nfé]", &[ZERO, FIVE]),
-            ("[P]]q.é].[All és], [P]]q.é].[x]]]]y\\\\]", &[EMPTY, ZERO]),
-        ],
-    },
-};
+        R\t[P]]q].[x]]]]y\\\\].[d\\te\\nfé]\t0\t5\n.\n",
+    ),
+    // Two hierarchies of the same dimension, with such names.
+    (
+        "SELECT {([P]]q.é].[All és], [P]]q].[x]]]]y\\])} ON 0 FROM [C]",
+        &["-0.05"],
+        "GRID 1 1 1\nC\t[P]]q.é].[All és], [P]]q].[x]]]]y\\\\]\nR\t\t-0.05\n.\n",
+    ),
+];
 
 // The cases and files stand behind functions, so that no proof above reads them.
 
@@ -272,7 +138,7 @@ fn samples() -> &'static [Case] {
     &SAMPLES
 }
 
-fn odd() -> &'static Case {
+fn odd() -> &'static [Case] {
     &ODD
 }
 
@@ -294,31 +160,11 @@ fn odd_table() -> &'static [u8] {
 }
 
 // A grid that formatters show each in its way.
-static FORMATTED: Case = Case {
-    columns: (false, &["Measures/Units", "Measures/Count"]),
-    rows: Some((false, &["Time/1997", "Time/1998"])),
-    values: &[
-        CellValue::Whole(1_234_567),
-        CellValue::Hundredths(-123_456_789),
-        EMPTY,
-        CellValue::Hundredths(5),
-    ],
-    text: PLAINLY,
-    shown: Sheet {
-        position: 1,
-        columns: &["[Measures].[Units]", "[Measures].[Count]"],
-        rows: &[
-            (
-                "[Time].[1997]",
-                &[
-                    CellValue::Whole(1_234_567),
-                    CellValue::Hundredths(-123_456_789),
-                ],
-            ),
-            ("[Time].[1998]", &[EMPTY, CellValue::Hundredths(5)]),
-        ],
-    },
-};
+static FORMATTED: Case = (
+    "SELECT [Measures].Members ON 0, {[Time].[1997], [Time].[1998]} ON 1 FROM [Sales]",
+    &["1234567", "-1234567.89", "", "0.05"],
+    PLAINLY,
+);
 
 const PLAINLY: &str = "GRID 1 2 2\nC\t[Measures].[Units]\nC\t[Measures].[Count]\n\
     R\t[Time].[1997]\t1234567\t-1234567.89\nR\t[Time].[1998]\t\t0.05\n.\n";
@@ -336,22 +182,6 @@ fn opened(alloc: Global, schema: &[u8], tables: &[&[u8]]) -> Result<Catalog, Fai
     }
 }
 
-// The grid of an answer over the axes with these sides, where it has a cell for each row and column.
-fn laid_out(
-    alloc: Global,
-    catalog: &Catalog,
-    columns: &Side<'_>,
-    rows: Option<&Side<'_>>,
-    answer: &Answer,
-    formatter: &Formatter,
-) -> Result<Result<Text, OutOfMemory>, Fail> {
-    let axes = axes(alloc, catalog, columns, rows)?;
-    if !is_whole(&axes, answer) {
-        return Err(Fail::from("not as many cells"));
-    }
-    Ok(grid(alloc, catalog, &axes, answer, formatter))
-}
-
 // The grid of a case.
 fn grid_of(
     alloc: Global,
@@ -359,12 +189,17 @@ fn grid_of(
     case: &Case,
     formatter: &Formatter,
 ) -> Result<Result<Text, OutOfMemory>, Fail> {
-    let answer = answer(alloc, case.shown.position, case.values)?;
-    let rows = case.rows.as_ref();
-    laid_out(alloc, catalog, &case.columns, rows, &answer, formatter)
+    let answer = answer(alloc, 1, case.1)?;
+    laid_out(alloc, catalog, case.0, &answer, formatter)
 }
 
-// Lays out a case, compares its text, and reads it back.
+// Whether a text is this grid, and read back as another.
+fn is_grid(alloc: Global, text: &str, wanted: &str, plain: &str) -> Result<bool, OutOfMemory> {
+    let told = told_grid(alloc, text.as_bytes())?;
+    Ok(text == wanted && told.is_some_and(|told| told.as_str() == plain))
+}
+
+// Lays out a case, compares its text, and what is read back of it.
 fn show(
     alloc: Global,
     catalog: &Catalog,
@@ -373,24 +208,33 @@ fn show(
     wanted: &'static str,
 ) -> Result<(), Fail> {
     let text = grid_of(alloc, catalog, case, formatter)??;
-    if text.as_str() == wanted && reads(alloc, wanted.as_bytes(), &case.shown) {
+    if is_grid(alloc, text.as_str(), wanted, case.2)? {
         Ok(())
     } else {
         Err(Fail::from(wanted))
     }
 }
 
-fn show_samples(alloc: Global, formatter: &Formatter) -> Result<(), Fail> {
-    let catalog = opened(alloc, schema(), &[times(), stores()])?;
-    for case in samples() {
-        show(alloc, &catalog, case, formatter, case.text)?;
+fn show_each(
+    alloc: Global,
+    catalog: &Catalog,
+    cases: &[Case],
+    formatter: &Formatter,
+) -> Result<(), Fail> {
+    for case in cases {
+        show(alloc, catalog, case, formatter, case.2)?;
     }
     Ok(())
 }
 
+fn show_samples(alloc: Global, formatter: &Formatter) -> Result<(), Fail> {
+    let catalog = opened(alloc, schema(), &[times(), stores()])?;
+    show_each(alloc, &catalog, samples(), formatter)
+}
+
 fn show_odd(alloc: Global, formatter: &Formatter) -> Result<(), Fail> {
     let catalog = opened(alloc, odd_schema(), &[odd_table()])?;
-    show(alloc, &catalog, odd(), formatter, odd().text)
+    show_each(alloc, &catalog, odd(), formatter)
 }
 
 fn show_formatted(alloc: Global, formatter: &Formatter, wanted: &'static str) -> Result<(), Fail> {
@@ -464,108 +308,105 @@ fn a_formatter_without_memory_shows_no_grid(rt: HostRuntime) -> Result<(), Fail>
     Ok(())
 }
 
+// The largest query: as many cells as may be, 100 columns by 1,000 rows. Each third value is empty, and the others are their
+// places; both axes are NON EMPTY.
 const WIDTH: usize = 100;
 
 const HEIGHT: usize = 1_000;
 
-// The values of many cells: each third is empty, and the others are their places.
-fn many_values(alloc: Global) -> Result<Vec<CellValue>, OutOfMemory> {
+// A set of one member so often.
+fn repeated(alloc: Global, member: &str, count: usize) -> Result<String, OutOfMemory> {
+    let mut set = String::from_str(alloc, "{")?;
+    let mut between = "";
+    for _ in 0..count {
+        set.push_str(between)?;
+        set.push_str(member)?;
+        between = ",";
+    }
+    set.push_str("}")?;
+    Ok(set)
+}
+
+fn many_query(alloc: Global) -> Result<String, OutOfMemory> {
+    let columns = repeated(alloc, "[Measures].[Units]", WIDTH)?;
+    let rows = repeated(alloc, "[Time].[1997]", HEIGHT)?;
+    Ok(format!(in alloc; "SELECT NON EMPTY {columns} ON 0, NON EMPTY {rows} ON 1 FROM [Sales]")?)
+}
+
+// The text of the value of a cell.
+fn many_value(alloc: Global, place: usize) -> Result<String, OutOfMemory> {
+    if place % 3 == 0 {
+        return Ok(String::new(alloc));
+    }
+    Ok(place.to_string(alloc)?)
+}
+
+fn many_values(alloc: Global) -> Result<Vec<String>, OutOfMemory> {
     let mut values = Vec::new(alloc);
     for place in 0..WIDTH * HEIGHT {
-        if place % 3 == 0 {
-            values.push(CellValue::Empty)?;
-        } else {
-            values.push(CellValue::Whole(place as i128))?;
-        }
+        values.push(many_value(alloc, place)?)?;
     }
     Ok(values)
 }
 
-// The paths of an axis with one member at each position.
-fn repeated(
-    alloc: Global,
-    path: &'static str,
-    count: usize,
-) -> Result<Vec<&'static str>, OutOfMemory> {
-    let mut paths = Vec::new(alloc);
-    for _ in 0..count {
-        paths.push(path)?;
-    }
-    Ok(paths)
-}
-
-// Adds the line of a row of whole numbers.
-fn push_row(alloc: Global, text: &mut String, values: &[CellValue]) -> Result<(), OutOfMemory> {
-    text.push_str("R\t[Time].[1997]")?;
-    for value in values {
-        text.push_str("\t")?;
-        if let CellValue::Whole(number) = value {
-            text.push_str(number.to_string(alloc)?.as_str())?;
-        }
-    }
-    text.push_str("\n")?;
-    Ok(())
-}
-
 // The grid of many cells, line by line.
-fn many_lines(alloc: Global, values: &[CellValue]) -> Result<String, OutOfMemory> {
-    let mut text = String::from_str(alloc, "GRID 7 100 1000\n")?;
+fn many_lines(alloc: Global, values: &[String]) -> Result<String, OutOfMemory> {
+    let mut text = String::from_str(alloc, "GRID 1 100 1000\n")?;
     for _ in 0..WIDTH {
         text.push_str("C\t[Measures].[Units]\n")?;
     }
     for row in values.chunks(WIDTH) {
-        push_row(alloc, &mut text, row)?;
+        text.push_str("R\t[Time].[1997]")?;
+        for value in row {
+            text.push_str("\t")?;
+            text.push_str(value.as_str())?;
+        }
+        text.push_str("\n")?;
     }
     text.push_str(".\n")?;
     Ok(text)
 }
 
-// Whether a text is read as a grid whose rows have these values.
-fn reads_values(alloc: Global, text: &str, values: &[CellValue]) -> bool {
-    match read_grid(alloc, text.as_bytes()) {
-        Ok(grid) => {
-            grid.rows.len() == HEIGHT
-                && grid
-                    .rows
-                    .as_slice()
-                    .iter()
-                    .zip(values.chunks(WIDTH))
-                    .all(|(row, wanted)| row.values.as_slice() == wanted)
-        }
-        Err(_) => false,
-    }
-}
-
-// The grid of many cells, under NON EMPTY on both axes.
-fn many_cells(
-    alloc: Global,
-    catalog: &Catalog,
-    formatter: &Formatter,
-    values: &[CellValue],
-) -> Result<Result<Text, OutOfMemory>, Fail> {
-    let titles = repeated(alloc, "Measures/Units", WIDTH)?;
-    let years = repeated(alloc, "Time/1997", HEIGHT)?;
-    let answer = answer(alloc, 7, values)?;
-    let columns = (true, titles.as_slice());
-    let rows = (true, years.as_slice());
-    laid_out(alloc, catalog, &columns, Some(&rows), &answer, formatter)
-}
-
-// Compares the grid of many cells, and reads it back.
-fn compare_many(alloc: Global, text: &str, values: &[CellValue]) -> Result<(), Fail> {
+// Whether a text is the grid of many cells, and read back so.
+fn is_many(alloc: Global, text: &str, values: &[String]) -> Result<bool, OutOfMemory> {
     let lines = many_lines(alloc, values)?;
-    if text == lines.as_str() && reads_values(alloc, text, values) {
+    let told = told_grid(alloc, text.as_bytes())?;
+    Ok(text == lines.as_str() && told.is_some_and(|told| told.as_str() == text))
+}
+
+fn many_answer(alloc: Global, values: &[String]) -> Result<Answer, Fail> {
+    let shown = values
+        .iter()
+        .map(|value| value.as_str())
+        .collect::<Vec<&str>>(alloc)?;
+    answer(alloc, 1, shown.as_slice())
+}
+
+// The grid of many cells over the sample files.
+fn many_grid(
+    alloc: Global,
+    answer: &Answer,
+    formatter: &Formatter,
+) -> Result<Result<Text, OutOfMemory>, Fail> {
+    let query = many_query(alloc)?;
+    let catalog = opened(alloc, schema(), &[times(), stores()])?;
+    laid_out(alloc, &catalog, query.as_str(), answer, formatter)
+}
+
+fn many_text(alloc: Global, values: &[String], formatter: &Formatter) -> Result<Text, Fail> {
+    let answer = many_answer(alloc, values)?;
+    let text = many_grid(alloc, &answer, formatter)??;
+    Ok(text)
+}
+
+fn show_many(alloc: Global, formatter: &Formatter) -> Result<(), Fail> {
+    let values = many_values(alloc)?;
+    let text = many_text(alloc, values.as_slice(), formatter)?;
+    if is_many(alloc, text.as_str(), values.as_slice())? {
         Ok(())
     } else {
         Err(Fail::from("another grid"))
     }
-}
-
-fn show_many(alloc: Global, formatter: &Formatter) -> Result<(), Fail> {
-    let catalog = opened(alloc, schema(), &[times(), stores()])?;
-    let values = many_values(alloc)?;
-    let text = many_cells(alloc, &catalog, formatter, values.as_slice())??;
-    compare_many(alloc, text.as_str(), values.as_slice())
 }
 
 #[test]

@@ -1,20 +1,18 @@
-//! Tests of the readers of queries, of paths and of shown values, and of grids laid out and read back. They stand apart,
-//! since a crate with tests is proved twice.
+//! Tests of the readers of queries, of paths and of shown values; of what queries mean; and of grids laid out and read back.
+//! They stand apart, since a crate with tests is proved twice.
 #![tactic(auto)]
 
-#[cfg(test)]
-mod axes;
 #[cfg(test)]
 mod grid_texts;
 #[cfg(test)]
 mod grids;
+#[cfg(test)]
+mod meanings;
 #[cfg(test)]
 mod paths;
 #[cfg(test)]
 mod queries;
 #[cfg(test)]
 mod shown;
-#[cfg(test)]
-mod spaced;
 #[cfg(test)]
 mod trees;

@@ -8,7 +8,7 @@ use Rattle.std.proofs.lemmas.List.Elements.{All-nil, All-cons, All-head, All-tai
 use Rattle.std.specs.Prelude.{option_and_then, slice_get}
 use Rattle.std.specs.Option.{option_map_or}
 use Rattle.std.proofs.lemmas.Option.{slice_get-get_or}
-use Rattle.olap_catalog.specs.MemberOf.{measure_count}
+use Rattle.olap_meaning.specs.MemberOf.{measure_count}
 use Rattle.olap_meaning.specs.declared.tables.Catalog.{Catalog}
 use Rattle.olap_meaning.specs.declared.tables.Cube.{Cube}
 use Rattle.olap_meaning.specs.declared.tables.Measure.{Measure}

@@ -12,14 +12,14 @@ use Rattle.olap_meaning.specs.declared.tables.Catalog.{Catalog}
 use Rattle.olap_meaning.specs.declared.cells.Member.TheVariants as member
 use Rattle.olap_meaning.specs.Catalog.{values, first_appearances, field_texts, records, box}
 use Rattle.olap_meaning.specs.Texts.{name_text}
-use Rattle.olap_catalog.specs.MemberOf.{is_path, levels_of}
+use Rattle.olap_meaning.specs.MemberOf.{is_path, level_columns}
 use Rattle.olap_catalog.proofs.ValueFacts.{and_both}
 use Rattle.query_meaning.specs.Titles.{value_part}
 
 -- a path is one of its hierarchy's levels
-pub path_own : (catalog : Catalog) (h : ℕ) (path levels : List ℕ) (hierarchy : Hierarchy) → is_path catalog (levels_of catalog h) path ≡ true → slice_get catalog.hierarchies h ≡ Some hierarchy → levels ≡ hierarchy.levels → is_path catalog levels path ≡ true
+pub path_own : (catalog : Catalog) (h : ℕ) (path levels : List ℕ) (hierarchy : Hierarchy) → is_path catalog (level_columns catalog h) path ≡ true → slice_get catalog.hierarchies h ≡ Some hierarchy → levels ≡ hierarchy.levels → is_path catalog levels path ≡ true
 path_own catalog h path levels hierarchy own found at =
-    let there : levels_of catalog h ≡ levels = ap (λ o. option_map_or (λ (x : Hierarchy). x.levels) o []) found ∙ sym at in
+    let there : level_columns catalog h ≡ levels = ap (λ o. option_map_or (λ (x : Hierarchy). x.levels) o []) found ∙ sym at in
     ap (λ ls. is_path catalog ls path) (sym there) ∙ own
 
 -- a path is no longer than the levels

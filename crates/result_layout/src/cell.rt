@@ -1,6 +1,6 @@
 //! The grid of one cell.
 ghost use Rattle.std.specs.Prelude.{◌≡◌, IfOk};
-ghost use Rattle.olap_catalog.specs.MemberOf.{IsMemberOf};
+ghost use Rattle.olap_meaning.specs.MemberOf.{IsMemberOf};
 ghost use Rattle.query_meaning.specs.Grids.{cell_grid, member_grid};
 
 use crate::titles::member_title;

@@ -3,7 +3,8 @@ ghost use Rattle.std.specs.Prelude.{◌≡◌, IfOk, string_bytes};
 ghost use Rattle.olap_meaning.specs.Texts.{line};
 ghost use Rattle.query_meaning.specs.GridForm.{IsGridText, IsOfGrid, head_text};
 ghost use Rattle.query_meaning.specs.Grids.{grid_of};
-ghost use Rattle.result_layout.specs.Axes.{AreAxesOf, IsAnswerTo, values_of};
+ghost use Rattle.query_meaning.specs.OwnAxes.{AreAxesOf};
+ghost use Rattle.result_layout.specs.Axes.{IsAnswerTo, values_of};
 ghost use Rattle.shown_values.specs.Given.{Given};
 
 use crate::places::{shown_columns, shown_rows};

@@ -4,7 +4,8 @@ ghost use Rattle.olap_meaning.specs.Texts.{line};
 ghost use Rattle.query_meaning.specs.GridForm.{column_text};
 ghost use Rattle.query_meaning.specs.Grids.{grid_row, row_tuples, title_at, value_at};
 ghost use Rattle.query_meaning.specs.Titles.{IsTitle};
-ghost use Rattle.result_layout.specs.Axes.{AreAxesOf, IsAnswerTo, values_of};
+ghost use Rattle.query_meaning.specs.OwnAxes.{AreAxesOf};
+ghost use Rattle.result_layout.specs.Axes.{IsAnswerTo, values_of};
 ghost use Rattle.result_layout.specs.Lines.{AreRowsBehind, AreShownBehind};
 ghost use Rattle.shown_values.specs.Given.{Given};
 

@@ -1,8 +1,8 @@
 //! The titles of members.
 ghost use Rattle.std.specs.Prelude.{ℕ, ◌≡◌, ◌<◌, true, All, length, IfOk};
 ghost use Rattle.std.specs.Option.{IsSome};
-ghost use Rattle.olap_catalog.specs.Members.{all_text};
-ghost use Rattle.olap_catalog.specs.MemberOf.{IsMemberOf, measure_count, levels_of, is_path};
+ghost use Rattle.olap_meaning.specs.Catalog.{all_text};
+ghost use Rattle.olap_meaning.specs.MemberOf.{IsMemberOf, measure_count, level_columns, is_path};
 ghost use Rattle.query_meaning.specs.Titles.{IsTitle, title, tuple_title};
 ghost use Rattle.result_layout.specs.Named.{IsNamed};
 
@@ -94,7 +94,7 @@ fn path_title(
     path: &[ValueId],
 ) -> Result<Text, OutOfMemory>
     requires hierarchy { h < length catalog.now.hierarchies }
-    requires path { is_path catalog.now (levels_of catalog.now h) path.now ≡ true }
+    requires path { is_path catalog.now (level_columns catalog.now h) path.now ≡ true }
     ensures title { IfOk result
         (λ text. (cube : ℕ) → text ≡ title catalog.now cube (Member.At h path.now)) }
     ensures named { IfOk result IsNamed }

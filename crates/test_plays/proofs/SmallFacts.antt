@@ -12,6 +12,10 @@ use Rattle.test_plays.specs.Small.{small_schema}
 some_name : (first : ℕ) (rest : List ℕ) → first ∷ rest ≢ []
 some_name first rest is = cc
 
+-- nor is a list of at least one measure
+some_measure : (first : Measure) (rest : List Measure) → first ∷ rest ≢ []
+some_measure first rest is = cc
+
 pub whole_small : IsWhole small_schema
 whole_small = record {
   limits = record {
@@ -22,7 +26,7 @@ whole_small = record {
     each = All-cons IsWithinCube _ [] (record { dimensions = omega arith; measures = omega arith }) (All-nil IsWithinCube);
   };
   named = All-nil IsNamedDimension;
-  named_cubes = All-cons IsNamedCube _ [] (record { own = some_name _ _; measures = All-cons NamedMeasure _ [] (some_name _ _) (All-nil NamedMeasure) }) (All-nil IsNamedCube);
+  named_cubes = All-cons IsNamedCube _ [] (record { own = some_name _ _; some = some_measure _ _; measures = All-cons NamedMeasure _ [] (some_name _ _) (All-nil NamedMeasure) }) (All-nil IsNamedCube);
   uses = All-cons (AreUsesNamed small_schema) _ [] (All-nil Named) (All-nil (AreUsesNamed small_schema));
   few_tables = omega arith;
   tables = All-nil (IsTableOf small_schema);

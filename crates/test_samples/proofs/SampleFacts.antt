@@ -94,6 +94,10 @@ loadable catalog measure columns is few known = and_from _ _ (measure_known cata
 some_name : (first : ℕ) (rest : List ℕ) → first ∷ rest ≢ []
 some_name first rest is = cc
 
+-- nor is a list of at least one measure
+some_measure : (first : Measure) (rest : List Measure) → first ∷ rest ≢ []
+some_measure first rest is = cc
+
 -- no name of a dimension of one hierarchy is empty, where its own is not, and none of its levels' is
 dimension_named : (name : List ℕ) (levels : List SchemaLevel) → name ≢ [] → All (λ level. level.name ≢ []) levels → IsNamedDimension (dimension_of name levels)
 dimension_named name levels own each = record {
@@ -133,7 +137,7 @@ whole_sample = record {
     each = All-cons IsWithinCube _ [] (record { dimensions = omega arith; measures = omega arith }) (All-nil IsWithinCube);
   };
   named = All-cons IsNamedDimension time (store ∷ []) time_named (All-cons IsNamedDimension store [] store_named (All-nil IsNamedDimension));
-  named_cubes = All-cons IsNamedCube _ [] (record { own = some_name _ _; measures = measures_named }) (All-nil IsNamedCube);
+  named_cubes = All-cons IsNamedCube _ [] (record { own = some_name _ _; some = some_measure _ _; measures = measures_named }) (All-nil IsNamedCube);
   uses = All-cons (AreUsesNamed sample_schema) _ [] (All-cons Named (use_of (codes "Time")) (use_of (codes "Store") ∷ []) refl (All-cons Named (use_of (codes "Store")) [] refl (All-nil Named))) (All-nil (AreUsesNamed sample_schema));
   few_tables = omega arith;
   tables = All-nil (IsTableOf sample_schema);

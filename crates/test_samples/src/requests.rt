@@ -1,7 +1,7 @@
 //! What queries of one cell mean.
 use crate::lines::{add_line, asked};
 use crate::members::{add_pairs, names_of};
-use cell_request::{QueryFault, Resolved, resolve};
+use cell_meaning::{QueryFault, Resolved, resolve};
 use olap_catalog::Catalog;
 use olap_meaning::{Member, Text};
 use query_meaning::CellQuery;

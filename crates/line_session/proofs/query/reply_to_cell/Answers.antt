@@ -1,6 +1,6 @@
 -- A cell that was answered is replied to with its grid.
 use Rattle.std.proofs.Common.{Some, inl}
-use Rattle.cell_request.specs.Meanings.{meant}
+use Rattle.cell_meaning.specs.Meanings.{meant}
 use Rattle.line_session.proofs.Replying.{gives_grid}
 use Rattle.line_session.proofs.query.reply_to_cell.Goals as goal
 

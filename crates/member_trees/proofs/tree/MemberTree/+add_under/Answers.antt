@@ -1,5 +1,6 @@
 use Rattle.std.proofs.Common.{◌≡◌, ◌+◌, ◌-◌, ◌<◌, ◌≤◌, ℕ, suc, List, [], ◌∷◌, ◌++◌, ap, ◌∙◌, sym, length, get_or, flat_map, take, append-nil, arith}
-use Rattle.member_trees.specs.Trees.{TreeOf, at_depth, below, under}
+use Rattle.olap_meaning.specs.Catalog.{at_depth, below, under}
+use Rattle.member_trees.specs.Trees.{TreeOf}
 use Rattle.member_trees.proofs.Steps.{next-is, next-long, span-next, add-step, add-all}
 use Rattle.member_trees.proofs.Under.{under-none}
 use Rattle.member_trees.proofs.tree.MemberTree.+add_under.Goals as goal

@@ -1,5 +1,5 @@
 use Rattle.std.proofs.Common.{◌≡◌, suc, ◌-◌, ◌++◌, ◌∷◌, take, length, flat_map}
-use Rattle.member_trees.specs.Trees.{below, under}
+use Rattle.olap_meaning.specs.Catalog.{below, under}
 use Rattle.member_trees.proofs.tree.MemberTree.+add_under.Given as goal
 
 abbrev pub decreases-add_under : goal.decreases-add_under

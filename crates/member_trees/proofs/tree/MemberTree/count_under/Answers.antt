@@ -1,5 +1,6 @@
 use Rattle.std.proofs.Common.{◌≡◌, ◌+◌, ◌-◌, ℕ, suc, ap, length, flat_map, arith}
-use Rattle.member_trees.specs.Trees.{TreeOf, at_depth, under}
+use Rattle.olap_meaning.specs.Catalog.{at_depth, under}
+use Rattle.member_trees.specs.Trees.{TreeOf}
 use Rattle.member_trees.proofs.Under.{left-step, left-none}
 use Rattle.member_trees.proofs.tree.MemberTree.count_under.Goals as goal
 
@@ -16,8 +17,8 @@ loop-depth-preserved c =
     let few = c.row.ensures.few in
     (omega arith, omega (arith, left, same, so_far, row))
 
-pub returns : goal.returns
-returns c =
+pub returns-clause-count : goal.returns-clause-count
+returns-clause-count c =
     let tree = c.args.self.now in
     let levels = ap (λ (t : TreeOf). t.levels) c.self.view_is in
     let none = left-none tree.leaves tree.levels c.loop-depth.depth (omega (arith, levels)) in

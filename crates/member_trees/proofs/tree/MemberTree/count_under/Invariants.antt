@@ -1,6 +1,6 @@
 use Rattle.std.proofs.Common.{◌≡◌, ◌+◌, ◌*◌, ◌-◌, ◌≤◌, length, flat_map, []}
 use Rattle.olap_meaning.specs.declared.schema.TheConstants.{RECORD_LIMIT}
-use Rattle.member_trees.specs.Trees.{at_depth, under}
+use Rattle.olap_meaning.specs.Catalog.{at_depth, under}
 use Rattle.member_trees.proofs.tree.MemberTree.count_under.Given as goal
 
 abbrev pub invariant-loop-depth : goal.invariant-loop-depth

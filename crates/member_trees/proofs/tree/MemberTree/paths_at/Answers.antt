@@ -1,6 +1,6 @@
 use Rattle.std.proofs.Common.{◌≡◌, ◌+◌, ◌<◌, ℕ, suc, List, [], ◌∷◌, ◌++◌, map, get_or, ap, ◌∙◌, sym, subst, length, All, arith}
 use Rattle.member_trees.specs.declared.node.Node.{Node}
-use Rattle.member_trees.specs.Trees.{at_depth}
+use Rattle.olap_meaning.specs.Catalog.{at_depth}
 use Rattle.member_trees.proofs.RowsByPlace.{by-parents, parents-within}
 use Rattle.member_trees.proofs.tree.MemberTree.paths_at.Goals as goal
 

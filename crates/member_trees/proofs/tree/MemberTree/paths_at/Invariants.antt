@@ -1,5 +1,5 @@
 use Rattle.std.proofs.Common.{◌≡◌}
-use Rattle.member_trees.specs.Trees.{at_depth}
+use Rattle.olap_meaning.specs.Catalog.{at_depth}
 use Rattle.member_trees.proofs.tree.MemberTree.paths_at.Given as goal
 
 abbrev pub invariant-loop-above : goal.invariant-loop-above

@@ -1,5 +1,6 @@
 use Rattle.std.proofs.Common.{sym, ◌∙◌, ap}
-use Rattle.member_trees.specs.Trees.{TreeOf, below}
+use Rattle.olap_meaning.specs.Catalog.{below}
+use Rattle.member_trees.specs.Trees.{TreeOf}
 use Rattle.member_trees.proofs.Below.{none_past}
 use Rattle.member_trees.proofs.tree.MemberTree.span_below.Goals as goal
 

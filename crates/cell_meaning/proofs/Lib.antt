@@ -1,0 +1,4 @@
+pub mod BoxFacts
+pub mod FaultFacts
+pub mod CellFacts
+pub mod MeasureFacts
