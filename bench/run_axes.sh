@@ -9,15 +9,15 @@ trap 'rm -rf "$folder"' EXIT
 mkdir -p "$folder/crates/axes/src"
 cp "$here/../HANDLES" "$here/../LICENSE" "$here/../crates.txt" "$folder"
 cp -r "$here/../crates/." "$folder/crates"
-echo "axes: olap_catalog cell_request query_samples test_samples" >> "$folder/crates.txt"
+echo "axes: olap_catalog mdx_reader cell_request test_samples" >> "$folder/crates.txt"
 cat > "$folder/crates/axes/src/main.rt" <<'END'
 //! Opens a catalog over a table: its input behind the first line. Where that line is not empty, it is a query that is
 //! resolved, a hundred times.
 #![tactic(auto)]
 
-use cell_request::ResolveFault;
+use cell_request::{ResolveFault, resolve};
+use mdx_reader::read_query;
 use olap_catalog::Catalog;
-use query_samples::asked;
 use std::alloc::Global;
 use std::io::Read;
 use test_samples::open_catalog;
@@ -28,10 +28,16 @@ fn schema() -> &'static [u8] {
 
 // How many columns a query has, or how many cells where they are too many.
 fn columns(alloc: Global, catalog: &Catalog, query: &str) -> u64 {
-    match asked(alloc, catalog, query) {
-        Ok(Ok(axes)) => axes.columns.tuples.len() as u64,
-        Ok(Err(ResolveFault::TooManyCells { count, limit: _ })) => count,
-        _ => 0,
+    if query.len() >= 4_294_967_296 {
+        return 0;
+    }
+    let Ok(query) = read_query(alloc, query) else {
+        return 0;
+    };
+    match resolve(alloc, catalog, &query) {
+        Ok(axes) => axes.columns.tuples.len() as u64,
+        Err(ResolveFault::TooManyCells { count, limit: _ }) => count,
+        Err(_) => 0,
     }
 }
 
