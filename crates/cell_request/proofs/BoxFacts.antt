@@ -13,7 +13,7 @@ use Rattle.olap_meaning.specs.declared.tables.Column.{Column}
 use Rattle.olap_meaning.specs.declared.tables.Cube.{Cube}
 use Rattle.olap_meaning.specs.declared.tables.Hierarchy.{Hierarchy}
 use Rattle.olap_meaning.specs.Catalog.{box, default_member, field_texts, first_appearances, paths_below, records, values}
-use Rattle.query_meaning.specs.CellQueries.{is_of}
+use Rattle.cell_request.specs.Standing.{is_of}
 use Rattle.olap_meaning.specs.Covering.{among}
 use Rattle.olap_meaning.specs.History.{is_some_and}
 use Rattle.olap_meaning.proofs.Loads.{some_and}

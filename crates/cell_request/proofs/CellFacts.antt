@@ -1,8 +1,9 @@
 -- What the code makes of a column and a row is their cell, and what it makes of the rows are the cells of the axes.
-use Rattle.std.proofs.Common.{◌≡◌, ◌∙◌, ◌++◌, ℕ, List, [], ◌∷◌, Option, Some, None, refl, sym, ap, map, flat_map, slice_get}
+use Rattle.std.proofs.Common.{◌≡◌, ◌∙◌, ◌++◌, ◌*◌, ℕ, List, [], ◌∷◌, Option, Some, None, refl, sym, ap, arith, length, map, flat_map, slice_get}
 use Rattle.std.specs.List.{enumerate_from}
 use Rattle.std.specs.Option.{option_map_or, option_or}
-use Rattle.std.proofs.lemmas.List.{append-nil}
+use Rattle.std.proofs.Math.Nat.{suc-mul}
+use Rattle.std.proofs.lemmas.List.{append-nil, length-append, length-map}
 use Rattle.std.proofs.lemmas.List.Folds.{flat_map-map}
 use Rattle.olap_meaning.specs.declared.cells.Cell.{Cell}
 use Rattle.olap_meaning.specs.declared.cells.LevelRef.TheVariants.{Measures, Whole}
@@ -13,7 +14,8 @@ use Rattle.olap_meaning.specs.declared.tables.Cube.{Cube}
 use Rattle.olap_meaning.specs.declared.tables.Measure.{Measure}
 use Rattle.olap_meaning.specs.Catalog.{box, default_member}
 use Rattle.query_meaning.specs.AxisCells.{cell_among, cells_of, measure_number, standing_among}
-use Rattle.query_meaning.specs.CellQueries.{hierarchies_within}
+use Rattle.olap_meaning.specs.Catalog.{hierarchies_within}
+use Rattle.query_meaning.specs.Grids.{row_tuples}
 use Rattle.query_meaning.specs.declared.axes.Axes.{Axes}
 use Rattle.query_meaning.specs.declared.axes.Axis.{Axis}
 use Rattle.cell_request.specs.Defaults.{default_box, default_boxes}
@@ -63,3 +65,15 @@ one_row catalog axes cells none are = are ∙ sym (append-nil (row_cells catalog
 -- with one they are those of its tuples
 pub all_rows : (catalog : Catalog) (axes : Axes) (rows : Axis) (cells : List Cell) → axes.rows ≡ Some rows → cells ≡ flat_map (row_cells catalog axes) rows.tuples → cells ≡ cells_of catalog axes
 all_rows catalog axes rows cells some are = are ∙ sym (ap (λ (x : Option Axis). flat_map (row_cells catalog axes) (option_map_or (λ (axis : Axis). axis.tuples) x ([] ∷ []))) some)
+
+-- there are as many cells as rows times columns
+pub count_of : (catalog : Catalog) (axes : Axes) → length (cells_of catalog axes) ≡ length (row_tuples axes) * length axes.columns.tuples
+count_of catalog axes = by (row_tuples axes)
+  where
+    by : (rows : List (List Member)) → length (flat_map (row_cells catalog axes) rows) ≡ length rows * length axes.columns.tuples
+    by [] = omega (arith)
+    by (row ∷ rows) =
+        let first = length-append (row_cells catalog axes row) (flat_map (row_cells catalog axes) rows) in
+        let one = length-map axes.columns.tuples (λ column. cell_among catalog axes.cube (column ++ row ++ axes.slicer)) in
+        let others = by rows in
+        omega (arith, first, one, others, suc-mul (length rows) (length axes.columns.tuples))

@@ -22,7 +22,7 @@ use Rattle.olap_meaning.specs.MemberOf.{IsMemberOf, measure_count}
 use Rattle.olap_meaning.specs.Schema.{cube_over}
 use Rattle.olap_meaning.specs.Whole.{IsNamedCube, IsWhole}
 use Rattle.query_meaning.specs.AxisCells.{cell_among, cells_of, measure_number}
-use Rattle.query_meaning.specs.CellQueries.{is_of}
+use Rattle.cell_request.specs.Standing.{is_of}
 use Rattle.query_meaning.specs.Grids.{row_tuples}
 use Rattle.query_meaning.specs.OwnAxes.{AreAxesOf}
 use Rattle.query_meaning.specs.Resolution.{is_root, root_of}
@@ -145,8 +145,8 @@ all_flat P f [] all = All-nil P
 all_flat P f (x ∷ xs) all = All-append P (f x) (flat_map f xs) (All-head (λ k. All P (f k)) x xs all) (all_flat P f xs (All-tail (λ k. All P (f k)) x xs all))
 
 -- each cell of axes is one of the catalog
-pub cells_known : (catalog : Catalog) (axes : Axes) → IsSound catalog axes.cube → AreAxesOf catalog axes → All (IsMemberOf catalog axes.cube) axes.slicer → All (λ cell. IsTrue (is_cell catalog cell)) (cells_of catalog axes)
-cells_known catalog axes sound own slicer = all_flat Known (row_cells catalog axes) (row_tuples axes) (All-weaker Owned (λ row. All Known (row_cells catalog axes row)) in_row (row_tuples axes) own.rows)
+pub cells_known : (catalog : Catalog) (axes : Axes) → IsSound catalog axes.cube → AreAxesOf catalog axes → All (λ cell. IsTrue (is_cell catalog cell)) (cells_of catalog axes)
+cells_known catalog axes sound own = all_flat Known (row_cells catalog axes) (row_tuples axes) (All-weaker Owned (λ row. All Known (row_cells catalog axes row)) in_row (row_tuples axes) own.rows)
   where
     Known : Cell → Type 0
     Known cell = IsTrue (is_cell catalog cell)
@@ -157,7 +157,7 @@ cells_known catalog axes sound own slicer = all_flat Known (row_cells catalog ax
     in_cell : (row : List Member) → Owned row → (column : List Member) → Owned column → Known (cell_among catalog axes.cube (column ++ row ++ axes.slicer))
     in_cell row is column own_column =
         among_known catalog axes.cube (column ++ row ++ axes.slicer)
-        (All-append (IsMemberOf catalog axes.cube) (column ++ row) axes.slicer (All-append (IsMemberOf catalog axes.cube) column row own_column is) slicer) sound
+        (All-append (IsMemberOf catalog axes.cube) (column ++ row) axes.slicer (All-append (IsMemberOf catalog axes.cube) column row own_column is) own.slicer) sound
 
     in_row : (row : List Member) → Owned row → All Known (row_cells catalog axes row)
     in_row row is =

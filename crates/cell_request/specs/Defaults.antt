@@ -3,8 +3,7 @@ use Rattle.std.specs.Prelude.{ℕ, false, List, [], ◌∷◌, if◌then◌else�
 use Rattle.std.specs.Option.{option_map_or}
 use Rattle.olap_meaning.specs.declared.cells.LevelRef.TheVariants.{Whole}
 use Rattle.olap_meaning.specs.declared.tables.Catalog.{Catalog}
-use Rattle.olap_meaning.specs.Catalog.{box, default_member}
-use Rattle.query_meaning.specs.CellQueries.{hierarchies_within}
+use Rattle.olap_meaning.specs.Catalog.{box, default_member, hierarchies_within}
 use Rattle.cell_request.specs.declared.defaults.DefaultBox.{DefaultBox}
 use Rattle.cell_request.specs.Boxes.{is_within}
 

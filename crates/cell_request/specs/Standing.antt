@@ -1,8 +1,9 @@
 -- The members on which the roots of a cell stand: one of the cell's members, or else what was kept for them all.
-use Rattle.std.specs.Prelude.{ℕ, ◌++◌, List, Option, find, map}
+use Rattle.std.specs.Prelude.{ℕ, ◌==◌, ◌++◌, Bool, false, List, Option, find, map}
 use Rattle.std.specs.Option.{option_map_or}
 use Rattle.olap_meaning.specs.declared.cells.Cell.{Cell}
 use Rattle.olap_meaning.specs.declared.cells.Member.{Member}
+use Rattle.olap_meaning.specs.declared.cells.Member.TheVariants as member
 use Rattle.olap_meaning.specs.declared.cells.LevelRef.{LevelRef}
 use Rattle.olap_meaning.specs.declared.cells.LevelRef.TheVariants.{Measures, Whole}
 use Rattle.olap_meaning.specs.declared.tables.Catalog.{Catalog}
@@ -11,6 +12,12 @@ use Rattle.query_meaning.specs.AxisCells.{cell_among, measure_number}
 use Rattle.query_meaning.specs.declared.axes.Axes.{Axes}
 use Rattle.query_meaning.specs.Resolution.{is_root, root_of}
 use Rattle.cell_request.specs.declared.defaults.DefaultBox.{DefaultBox}
+
+-- a member is one of a hierarchy
+abbrev pub is_of : Member → ℕ → Bool
+is_of (member.Measure m) h = false
+is_of (member.All of) h = of == h
+is_of (member.At of path) h = of == h
 
 -- the first of some members that is of a root
 abbrev pub member_of_root : LevelRef → List Member → Option Member

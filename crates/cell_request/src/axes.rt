@@ -27,8 +27,6 @@ use std::alloc::Global;
 pub fn resolve(alloc: Global, catalog: &Catalog, query: &Query) -> Result<Axes, ResolveFault>
     ensures ok { IfOk result (λ axes. axes_meant catalog.now query.now ≡ Ok axes) }
     ensures own { IfOk result (AreAxesOf catalog.now) }
-    ensures slicer { IfOk result (λ axes. All (IsMemberOf catalog.now axes.cube) axes.slicer) }
-    ensures within { IfOk result (λ axes. axes.cube < length catalog.now.cubes) }
     ensures fault { IfErr result
         (λ fault. (fault ≡ ResolveFault.OutOfMemory)
         ⊎ IsSomeAnd (refusal_of fault)
@@ -51,8 +49,6 @@ fn axes_in(
     requires found { find_cube catalog.now query.now.cube ≡ Some cube }
     ensures ok { IfOk result (λ axes. axes_meant catalog.now query.now ≡ Ok axes) }
     ensures own { IfOk result (AreAxesOf catalog.now) }
-    ensures slicer { IfOk result (λ axes. All (IsMemberOf catalog.now cube) axes.slicer) }
-    ensures cube { IfOk result (λ axes. axes.cube ≡ cube) }
     ensures fault { IfErr result (λ fault. IsFaultOf fault (axes_meant catalog.now query.now)) }
 {
     let columns = set_part(alloc, catalog, cube, &query.columns.set)?;

@@ -1,8 +1,9 @@
 //! The cells of a query's axes.
-ghost use Rattle.std.specs.Prelude.{◌≡◌, ◌<◌, ◌++◌, All, length, map, IfOk, IsTrue, OnOk};
+ghost use Rattle.std.specs.Prelude.{◌≡◌, ◌*◌, ◌++◌, length, map, IfOk, IsTrue, OnOk};
+ghost use Rattle.std.specs.List.{list_all};
 ghost use Rattle.olap_meaning.specs.Legal.{is_cell};
-ghost use Rattle.olap_meaning.specs.MemberOf.{IsMemberOf};
 ghost use Rattle.query_meaning.specs.AxisCells.{cell_among, cells_of};
+ghost use Rattle.query_meaning.specs.Grids.{row_tuples};
 ghost use Rattle.query_meaning.specs.OwnAxes.{AreAxesOf};
 ghost use Rattle.cell_request.specs.Defaults as meaning;
 ghost use Rattle.cell_request.specs.Standing.{row_cells};
@@ -18,11 +19,11 @@ use std::alloc::Global;
 /// The cells of axes, row by row, columns fastest. A hierarchy that no axis names stands on its default member, and the
 /// measure is the cube's first where none is named.
 pub fn cells(alloc: Global, catalog: &Catalog, axes: &Axes) -> Result<List<Cell>, OutOfMemory>
-    requires cube { axes.now.cube < length catalog.now.cubes }
-    requires own { AreAxesOf catalog.now axes.now }
-    requires slicer { All (IsMemberOf catalog.now axes.now.cube) axes.now.slicer }
+    requires { AreAxesOf catalog.now axes.now }
     ensures cells { IfOk result (λ cells. cells ≡ cells_of catalog.now axes.now) }
-    ensures known { IfOk result (λ cells. All (λ cell. IsTrue (is_cell catalog.now cell)) cells) }
+    ensures count { IfOk result (λ cells. length cells
+        ≡ length (row_tuples axes.now) * length axes.now.columns.tuples) }
+    ensures known { IfOk result (λ cells. IsTrue (list_all (is_cell catalog.now) cells)) }
 {
     catalog.layout_holds();
     catalog.is_whole();

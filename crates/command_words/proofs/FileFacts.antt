@@ -6,8 +6,8 @@ use Rattle.std.specs.Str.{bytes_eq}
 use Rattle.std.proofs.lemmas.Bool.{cases_Bool}
 use Rattle.std.proofs.lemmas.Bool.Decides.{Decides-eqb}
 use Rattle.std.proofs.lemmas.Slice.Eq.{bytes_eq-Decides, starts_is}
-use Rattle.olap_meaning.specs.Commands.{is_file_word, joined_file, schema_file}
-use Rattle.command_words.specs.Line.{Text, Given, behind_hyphens, from_word, is_equals, is_known, is_value, joined_value, option_parts, option_word, options_from, run_file, run_known, taken, takes, value_of}
+use Rattle.command_words.specs.OneOption.{is_file_word, joined_file, schema_file}
+use Rattle.olap_meaning.specs.Options.{Text, Given, behind_hyphens, from_word, is_equals, is_known, is_value, joined_value, option_parts, option_word, options_from, run_file, run_known, taken, takes, value_of}
 use Rattle.command_words.proofs.WordFacts.{drop-one, take-one}
 use Rattle.command_words.proofs.WordByWord.{eq-turn}
 

@@ -3,7 +3,7 @@ use Rattle.std.proofs.Common.{◌≡◌, ◌∙◌, ◌⊎◌, ◌==◌, ◌&&�
 use Rattle.std.specs.List.{list_any, before_first, after_first, position_or_len}
 use Rattle.std.proofs.lemmas.Bool.{cases_Bool}
 use Rattle.clap.specs.Lexer.{long_of, name_and_value}
-use Rattle.command_words.specs.Line.{Text, Given, from_word, is_equals, is_value, joined_value, option_parts, option_word, options_from}
+use Rattle.olap_meaning.specs.Options.{Text, Given, from_word, is_equals, is_value, joined_value, option_parts, option_word, options_from}
 use Rattle.command_words.specs.OddWords.{is_odd}
 
 abbrev pub begins_with_hyphen : Text → Bool

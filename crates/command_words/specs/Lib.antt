@@ -1,3 +1,3 @@
-pub mod Line
+pub mod OneOption
 pub mod OddWords
 pub mod Shapes

@@ -7,7 +7,7 @@ use Rattle.clap.specs.declared.builder.action.ArgAction.TheVariants.{Set}
 use Rattle.clap.specs.declared.builder.value_parser.ValueParser.TheVariants as vp
 use Rattle.clap.specs.declared.parser.matches.ValueSource.TheVariants.{CommandLine}
 use Rattle.clap.specs.declared.parser.matches.Found.{Found}
-use Rattle.command_words.specs.Line.{Given, Known, Text, value_of}
+use Rattle.olap_meaning.specs.Options.{Given, Known, Text, value_of}
 use Rattle.command_words.specs.declared.options.KnownOption.{KnownOption}
 
 -- a known option, as the definitions name it

@@ -1,7 +1,7 @@
 //! What follows of the definitions alone. Each function does nothing: its contract is the law.
 ghost use Rattle.std.specs.Prelude.{◌≡◌, List};
-ghost use Rattle.olap_meaning.specs.Commands.{schema_file};
-ghost use Rattle.command_words.specs.Line.{Text, run_file};
+ghost use Rattle.command_words.specs.OneOption.{schema_file};
+ghost use Rattle.olap_meaning.specs.Options.{Text, run_file};
 
 /// The file of a command line of `run` is that of the one or two words in which `--schema FILE` can stand.
 pub fn files_are_of_one_option()

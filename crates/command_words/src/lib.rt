@@ -1,6 +1,6 @@
 //! The options of a command, read from its words.
 //!
-//! `specs/Line.antt` says which words are a command line. The words are read with `clap`, after a test that each of
+//! `Options` of `olap_meaning` says which words are a command line. The words are read with `clap`, after a test that each of
 //! them can be an option or a value. What `clap` makes of such words is proved once, for any list of option names.
 #![tactic(auto)]
 

@@ -2,7 +2,7 @@
 ghost use Rattle.std.specs.Prelude.{◌≡◌, ◌⊎◌, IfErr, IfOk, None, [], map, string_bytes, false};
 ghost use Rattle.std.specs.List.{list_any};
 ghost use Rattle.clap.specs.Words.{app_of, found_of, with_rule};
-ghost use Rattle.command_words.specs.Line.{command_line};
+ghost use Rattle.olap_meaning.specs.Options.{command_line};
 ghost use Rattle.command_words.specs.OddWords.{is_odd};
 ghost use Rattle.command_words.specs.Shapes.{HasOptions, known_option, option_rule, options_app};
 ghost use Rattle.command_words.specs.declared.fault.CommandFault.TheVariants.{Usage, OutOfMemory};
@@ -101,6 +101,8 @@ pub(crate) fn read_options<'a>(
         (found_of matches)) }
     ensures err { IfErr result (λ fault. (fault ≡ OutOfMemory) ⊎ ((fault ≡ Usage)
         × (command_line (map known_option known.now) (map string_bytes words.now) ≡ None))) }
+    ensures lack { IfErr result (λ fault. fault ≡ OutOfMemory
+        → list_any is_odd (map string_bytes words.now) ≡ false) }
 {
     if has_odd_word(words) {
         return Err(CommandFault::Usage);

@@ -1,94 +1,93 @@
-//! A cache in a program of one's own: it is opened from the files of the working folder, and asked for one cell.
+//! A cache in a program of one's own: it is opened from the files of the working folder, and asked for the cells of a query.
 #![tactic(auto)]
 
 ghost use Rattle.std.specs.Prelude.{◌≡◌, IfOk, IsTrue};
+ghost use Rattle.std.specs.List.{list_all};
 ghost use Rattle.olap_meaning.specs.Legal.{is_cell};
 
 use cache_opening::{OpenFault, open_cache};
-use cell_meaning::{QueryFault, Resolved, resolve};
+use cell_request::{ResolveFault, cells, resolve};
 use fact_versions::Steps;
 use history_core::Answer;
 use line_session::Desk;
 use manager_desk::ManagerDesk;
-use mdx_reader::read_cell_query;
-use olap_meaning::{OutOfMemory, Text, plain_text};
+use mdx_reader::{QueryFault, read_query};
+use olap_meaning::{Cell, List, OutOfMemory, plain_text};
 use outside::{Depot, FolderDepot};
 use std::alloc::{AllocError, Global};
 use std::marker::Brand;
-use std::slice;
 use std::sync::ledger::{Blank, Ledger};
 use thiserror::Error;
 
 const SCHEMA: &str = "sales.json";
-
-const QUERY: &str = "SELECT {[Time].[1997].[Q1]} ON COLUMNS FROM [Sales]";
 
 /// Why there is no answer.
 #[derive(Debug, Drop, Error)]
 enum Failure {
     #[error("the cache was not opened")]
     Opening(#[from] OpenFault),
-    #[error("this is no query of one cell")]
-    NoQuery,
-    #[error("the query has no match")]
-    Query(#[from] QueryFault),
-    #[error("no answer")]
-    NoAnswer,
+    #[error("this is no query")]
+    NoQuery(#[from] QueryFault),
+    #[error("the query means nothing here")]
+    NoMeaning(#[from] ResolveFault),
     #[error("out of memory")]
     OutOfMemory(#[from] OutOfMemory),
     #[error("out of memory")]
     NoText(#[from] AllocError),
 }
 
-// The cell that a query means over the catalog of a cache.
-fn cell_of(alloc: Global, desk: &ManagerDesk, query: &str) -> Result<Resolved, Failure>
-    ensures { IfOk result (λ found. IsTrue (is_cell desk.now.setting.catalog found.cell)) }
+// The cells of the program's query over the catalog of a cache.
+fn cells_of(alloc: Global, desk: &ManagerDesk) -> Result<List<Cell>, Failure>
+    ensures { IfOk result
+        (λ cells. IsTrue (list_all (is_cell desk.now.setting.catalog) cells)) }
 {
-    let Some(query) = read_cell_query(alloc, query)? else {
-        return Err(Failure::NoQuery);
-    };
-    Ok(resolve(alloc, desk.catalog(), &query)?)
+    let query = read_query(
+        alloc,
+        "SELECT {[Time].[1997], [Time].[1998]} ON COLUMNS, [Store].[State].Members ON ROWS FROM [Sales]",
+    )?;
+    let axes = resolve(alloc, desk.catalog(), &query)?;
+    Ok(cells(alloc, desk.catalog(), &axes)?)
 }
 
-// The answer to the cell, asked for by seat 1: the base batches are appended by seat 0. Loads that are missing are run
+// The answer to the cells, asked for by seat 1: the base batches are appended by seat 0. Loads that are missing are run
 // first, and the rows that they read are counted.
 fn answer_to<L: Ledger>(
     alloc: Global,
     desk: &mut ManagerDesk,
-    found: &Resolved,
+    cells: &[Cell],
     blank: Blank,
 ) -> Result<Answer, OutOfMemory>
-    requires cell { IsTrue (is_cell desk.old.setting.catalog found.now.cell) }
+    requires cells { IsTrue (list_all (is_cell desk.old.setting.catalog) cells.now) }
     requires name { blank.name ≡ L.name }
     requires parts { blank.parts ≡ L.parts }
     requires one { blank.parts ≡ 1 }
 {
     let mut steps: Steps<L> = Steps::new(blank);
-    desk.ask(alloc, slice::from_ref(&found.cell), &mut steps)
+    desk.ask(alloc, cells, &mut steps)
 }
 
-// What an answer tells of its one cell.
-fn told(alloc: Global, answer: &Answer) -> Result<Text, Failure> {
-    let Some(answered) = answer.cells.as_slice().first() else {
-        return Err(Failure::NoAnswer);
-    };
-    let value = plain_text(alloc, &answered.value)?;
-    let version = answered.version.0;
-    let position = answer.position;
-    Ok(Text::from_string(format!(in alloc;
-        "{value} in version {version}, at position {position}"
-    )?))
+// What an answer tells of each of its cells.
+fn told(alloc: Global, answer: &Answer) -> Result<String, Failure> {
+    let mut text = format!(in alloc; "at position {}", answer.position)?;
+    for answered in answer.cells.as_slice() {
+        let value = plain_text(alloc, &answered.value)?;
+        text.push_str(format!(in alloc;
+            ", '{value}' in version {}",
+            answered.version.0
+        )?.as_str())?;
+    }
+    Ok(text)
 }
 
 // Opens the cache, and asks.
-fn run<D: Depot, L: Ledger>(alloc: Global, depot: &mut D, blank: Blank) -> Result<Text, Failure>
+fn run<D: Depot, L: Ledger>(alloc: Global, depot: &mut D, blank: Blank) -> Result<String, Failure>
     requires name { blank.name ≡ L.name }
     requires parts { blank.parts ≡ L.parts }
     requires one { blank.parts ≡ 1 }
 {
     let mut desk = ManagerDesk::new(open_cache(alloc, depot, SCHEMA)?);
-    let found = cell_of(alloc, &desk, QUERY)?;
-    let answer = answer_to::<L>(alloc, &mut desk, &found, blank)?;
+    let cells = cells_of(alloc, &desk)?;
+    let answer = answer_to::<L>(alloc, &mut desk, cells.as_slice(), blank)?;
     told(alloc, &answer)
 }
 

@@ -4,7 +4,7 @@ use Rattle.std.specs.Str.{is_utf8}
 use Rattle.query_meaning.specs.Requests.{argument_of}
 use Rattle.input_lines.specs.Requests as meaning
 use Rattle.input_lines.specs.declared.request.Request.{Request}
-use Rattle.input_lines.specs.declared.request.Request.TheVariants.{NotText, Blank, NoCommand, Stops, Quit, After, Append, OneCell, Unbuilt}
+use Rattle.input_lines.specs.declared.request.Request.TheVariants.{NotText, Blank, NoCommand, Stops, Quit, After, Append, Ask, Unbuilt}
 
 -- what a request asks for
 abbrev pub asked : Request → meaning.Request
@@ -15,7 +15,7 @@ asked (Stops byte) = meaning.Stops byte
 asked Quit = meaning.Quit
 asked (After n) = meaning.After n
 asked (Append argument) = meaning.Append argument
-asked (OneCell query) = meaning.OneCell query
+asked (Ask query) = meaning.Ask query
 asked Unbuilt = meaning.Unbuilt
 
 -- each line of text that has this command, by its word, and this argument asks for this

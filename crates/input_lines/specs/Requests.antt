@@ -1,9 +1,9 @@
 -- What a line of an input asks for.
 use Rattle.std.specs.Prelude.{ℕ, ◌≡◌, ◌⊎◌, List, true, false, Some, codes}
-use Rattle.std.specs.Option.{IsSome}
 use Rattle.std.specs.Str.{is_utf8}
-use Rattle.query_meaning.specs.declared.CellQuery.{CellQuery}
-use Rattle.query_meaning.specs.Requests.{AsksFor, argument_of, commands, has_one_of, is_blank, is_quit, unbuilt_commands}
+use Rattle.query_meaning.specs.declared.query.Query.{Query}
+use Rattle.query_meaning.specs.Requests.{argument_of, commands, has_one_of, is_blank, is_quit, unbuilt_commands}
+use Rattle.query_meaning.specs.WholeQueries.{WritesQuery}
 use Rattle.text_forms.specs.Forms.{StopsAt, Writes}
 use Rattle.command_arguments.specs.Append.{IsAppend}
 use Rattle.command_arguments.specs.Blank.{IsBlank}
@@ -11,8 +11,8 @@ use Rattle.command_arguments.specs.Position.{IsPosition}
 use Rattle.command_arguments.specs.declared.append.AppendArgument.{AppendArgument}
 
 -- what a line asks for: nothing, since it is no text, or blank, or has no command, or its argument is none of its
--- command's form and stops at a byte; the end; that a cache has so many entries; an append; one cell; or what is not
--- built
+-- command's form and stops at a byte; the end; that a cache has so many entries; an append; the answer to a query; or
+-- what is not built
 pub data Request : Type 0 where
   NotText : Request
   Blank : Request
@@ -21,36 +21,31 @@ pub data Request : Type 0 where
   Quit : Request
   After : ℕ → Request
   Append : AppendArgument → Request
-  OneCell : CellQuery → Request
+  Ask : Query → Request
   Unbuilt : Request
 
--- a line has a command, by its word, and an argument of a form, which means this
-pub record HasArgument {Q : Type 0} (word : List ℕ) (form : ℕ → List ℕ → Q → Type 0)
+-- a line has a command, by its word, and an argument that writes this
+pub record HasArgument {Q : Type 0} (word : List ℕ) (W : List ℕ → Q → Type 0)
     (line : List ℕ) (value : Q) : Type 0 where
   pub argument : List ℕ
   pub command : argument_of word line ≡ Some argument
-  pub writes : Writes form argument value
+  pub writes : W argument value
 
--- a line has a command, by its word, and an argument that is none of a form: this byte ends the longest front of the
--- argument with which one of the form begins
-pub record ArgumentStops {Q : Type 0} (word : List ℕ) (form : ℕ → List ℕ → Q → Type 0)
+-- a line has a command, by its word, and an argument that writes nothing: this byte ends the longest front of the
+-- argument with which one begins that does
+pub record ArgumentStops {Q : Type 0} (word : List ℕ) (W : List ℕ → Q → Type 0)
     (line : List ℕ) (byte : ℕ) : Type 0 where
   pub argument : List ℕ
   pub command : argument_of word line ≡ Some argument
-  pub stops : StopsAt (Writes form) argument byte
+  pub stops : StopsAt W argument byte
 
 -- a line has a command whose argument stops at this byte
 abbrev pub Stopped : List ℕ → ℕ → Type 0
 Stopped line byte =
-    ArgumentStops (codes "APPEND") IsAppend line byte
-    ⊎ ArgumentStops (codes "AFTER") IsPosition line byte
-    ⊎ ArgumentStops (codes "QUIT") IsBlank line byte
-
--- a line has a command of which nothing is built, or MDX with what is no query of one cell
-abbrev pub IsUnbuilt : List ℕ → Type 0
-IsUnbuilt line =
-    (has_one_of unbuilt_commands line ≡ true)
-    ⊎ (IsSome (argument_of (codes "MDX") line) × ((query : CellQuery) → ¬ AsksFor line query))
+    ArgumentStops (codes "MDX") WritesQuery line byte
+    ⊎ ArgumentStops (codes "APPEND") (Writes IsAppend) line byte
+    ⊎ ArgumentStops (codes "AFTER") (Writes IsPosition) line byte
+    ⊎ ArgumentStops (codes "QUIT") (Writes IsBlank) line byte
 
 -- a line asks for this
 abbrev pub IsRequest : List ℕ → Request → Type 0
@@ -61,8 +56,9 @@ IsRequest line NoCommand =
 IsRequest line (Stops byte) = (is_utf8 line ≡ true) × Stopped line byte
 IsRequest line Quit = (is_utf8 line ≡ true) × (is_quit line ≡ true)
 IsRequest line (After n) =
-    (is_utf8 line ≡ true) × HasArgument (codes "AFTER") IsPosition line n
+    (is_utf8 line ≡ true) × HasArgument (codes "AFTER") (Writes IsPosition) line n
 IsRequest line (Append argument) =
-    (is_utf8 line ≡ true) × HasArgument (codes "APPEND") IsAppend line argument
-IsRequest line (OneCell query) = (is_utf8 line ≡ true) × AsksFor line query
-IsRequest line Unbuilt = (is_utf8 line ≡ true) × IsUnbuilt line
+    (is_utf8 line ≡ true) × HasArgument (codes "APPEND") (Writes IsAppend) line argument
+IsRequest line (Ask query) =
+    (is_utf8 line ≡ true) × HasArgument (codes "MDX") WritesQuery line query
+IsRequest line Unbuilt = (is_utf8 line ≡ true) × (has_one_of unbuilt_commands line ≡ true)

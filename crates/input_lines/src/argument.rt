@@ -101,7 +101,8 @@ fn argument_start(word: &[u8], line: &[u8]) -> Option<usize>
 /// The argument of a command in a line, by the command's word in capital letters. None where the line has another word,
 /// or no white behind it.
 pub(crate) fn argument_of<'a>(word: &str, line: &'a str) -> Option<&'a str>
-    ensures { option_map (λ text. text.now) result ≡ argument_of word.now line.now }
+    ensures found { option_map (λ text. text.now) result ≡ argument_of word.now line.now }
+    ensures within { IfSome result (λ text. length text.now ≤ length line.now) }
 {
     match argument_start(word.as_bytes(), line.as_bytes()) {
         Some(start) => Some(&line[start..]),

@@ -208,9 +208,10 @@ impl LineReader {
         })
     }
 
-    /// The line that was given last, until the next answer that gives none.
+    /// The line that was given last, until the next answer that gives none. It is no longer than what a reader holds.
     pub fn line(&self) -> &[u8]
-        ensures { result.now ≡ self.now.line }
+        ensures value { result.now ≡ self.now.line }
+        ensures within { length result.now ≤ BUFFER_SIZE }
     {
         &self.bytes[self.line_start..self.line_end]
     }

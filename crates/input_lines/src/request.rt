@@ -1,5 +1,5 @@
 //! What a line asks for.
-ghost use Rattle.std.specs.Prelude.{◌≡◌, IfOk, MatchOption, OnErr, codes, false, is_some, true};
+ghost use Rattle.std.specs.Prelude.{◌≡◌, ◌<◌, ◌^◌, IfOk, MatchOption, OnErr, codes, false, is_some, length, true};
 ghost use Rattle.std.specs.Str.{is_utf8};
 ghost use Rattle.query_meaning.specs.Requests.{MayFindNoMemory, argument_of, has_one_of, unbuilt_commands};
 ghost use Rattle.input_lines.specs.Asked.{Asks, asked};
@@ -7,7 +7,7 @@ ghost use Rattle.input_lines.specs.Requests.{IsRequest};
 
 use crate::argument::{argument_of, is_blank};
 use command_arguments::{AppendArgument, ReadFault, read_append, read_blank, read_position};
-use mdx_reader::{CellQuery, read_cell_query};
+use mdx_reader::{Query, QueryFault, read_query};
 use olap_meaning::OutOfMemory;
 use std::alloc::Global;
 use std::str;
@@ -29,8 +29,8 @@ pub enum Request {
     After(u64),
     /// That the batch of a file is appended to a cube.
     Append(AppendArgument),
-    /// One cell.
-    OneCell(CellQuery),
+    /// The answer to a query.
+    Ask(Query),
     /// What is not built.
     Unbuilt,
 }
@@ -67,12 +67,14 @@ fn has_unbuilt_command(line: &str) -> bool
 }
 
 // What the command MDX with this argument asks for.
-fn ask_cell(alloc: Global, argument: &str) -> Result<Request, OutOfMemory>
+fn ask_query(alloc: Global, argument: &str) -> Result<Request, OutOfMemory>
+    requires { length argument.now < 2 ^ 32 }
     ensures { IfOk result (λ request. Asks (codes "MDX") argument.now (asked request)) }
 {
-    match read_cell_query(alloc, argument)? {
-        Some(query) => Ok(Request::OneCell(query)),
-        None => Ok(Request::Unbuilt),
+    match read_query(alloc, argument) {
+        Ok(query) => Ok(Request::Ask(query)),
+        Err(QueryFault::SyntaxAt { byte }) => Ok(Request::Stops(byte as usize)),
+        Err(QueryFault::OutOfMemory) => Err(OutOfMemory),
     }
 }
 
@@ -113,6 +115,7 @@ fn ask_quit(alloc: Global, argument: &str) -> Result<Request, OutOfMemory>
 
 /// What a line asks for. Only a line with the command MDX or APPEND takes memory.
 pub fn read_request(alloc: Global, line: &[u8]) -> Result<Request, OutOfMemory>
+    requires { length line.now < 2 ^ 32 }
     ensures request { IfOk result (λ request. IsRequest line.now (asked request)) }
     ensures err { OnErr result (MayFindNoMemory line.now) }
 {
@@ -123,7 +126,7 @@ pub fn read_request(alloc: Global, line: &[u8]) -> Result<Request, OutOfMemory>
         return Ok(Request::Blank);
     }
     if let Some(argument) = argument_of("MDX", text) {
-        return ask_cell(alloc, argument);
+        return ask_query(alloc, argument);
     }
     if let Some(argument) = argument_of("APPEND", text) {
         return ask_append(alloc, argument);

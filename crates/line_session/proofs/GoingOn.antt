@@ -2,17 +2,18 @@
 use Rattle.std.proofs.Common.{◌≡◌, refl, sym, ap, subst, ℕ, List, [], append-nil, Option, Some, None, Result, Ok, Err, inl, inr}
 use Rattle.olap_meaning.specs.Catalog.{find_cube}
 use Rattle.olap_meaning.specs.History.{Entry}
-use Rattle.query_meaning.specs.CellQueries.{Meant, NoMatch, meaning_of}
+use Rattle.query_meaning.specs.declared.axes.Axes.{Axes}
+use Rattle.query_meaning.specs.Resolution.{Refusal, axes_meant}
 use Rattle.outside.specs.declared.depot.DepotRefusal.{DepotRefusal}
 use Rattle.outside.specs.declared.depot.DepotRefusal.TheVariants as depot
 use Rattle.command_arguments.specs.declared.append.AppendArgument.{AppendArgument}
-use Rattle.input_lines.specs.Requests.{Request, NotText, Blank, NoCommand, Stops, Quit, After, Append, OneCell, Unbuilt}
+use Rattle.input_lines.specs.Requests.{Request, NotText, Blank, NoCommand, Stops, Quit, After, Append, Ask, Unbuilt}
 use Rattle.fact_rows.specs.BatchFiles.{batch_of}
 use Rattle.fact_rows.specs.declared.fault.BatchFault.{BatchFault}
 use Rattle.fact_versions.specs.FactRows.{FactRows}
 use Rattle.history_core.specs.Cache.{CacheOf}
 use Rattle.line_session.specs.Desks.{AddsNone, DeskOf, GoesOn, GoesOnBy}
-use Rattle.line_session.specs.Replies.{AnswersAppend, AnswersMeaning, AnswersRequest, AppendsFile, AppendsRows, Dealing, catalog_of}
+use Rattle.line_session.specs.Replies.{AnswersAppend, AnswersMeaning, AnswersRequest, AppendsFile, AppendsRows, Dealing, Texts, catalog_of}
 
 -- a desk that was not asked goes on by nothing
 pub stands : (desk : DeskOf) → GoesOnBy desk desk []
@@ -32,13 +33,13 @@ same_goes_on before after same = subst (GoesOn before) (sym same) ([], stands be
 none_goes_on : (before after : DeskOf) → AddsNone before after → GoesOn before after
 none_goes_on before after adds = (adds.more, adds.goes_on)
 
-meaning_goes_on : (around : Dealing) (meaning : Result Meant NoMatch) (position : Option ℕ) (reply : List ℕ) → AnswersMeaning around meaning position reply → GoesOn around.before around.after
-meaning_goes_on around (Ok meant) position reply (inl grid) = (_, grid.asks.adds.goes_on)
-meaning_goes_on around (Ok meant) position reply (inr none) = elim none.asks [
+meaning_goes_on : (texts : Texts) (around : Dealing) (meaning : Result Axes Refusal) (position : Option ℕ) (reply : List ℕ) → AnswersMeaning texts around meaning position reply → GoesOn around.before around.after
+meaning_goes_on texts around (Ok axes) position reply (inl grid) = (_, grid.asks.adds.goes_on)
+meaning_goes_on texts around (Ok axes) position reply (inr none) = elim none.asks [
   | inl same ↦ same_goes_on around.before around.after same
   | inr asks ↦ (asks.more, asks.goes_on)
 ]
-meaning_goes_on around (Err none) position reply is = same_goes_on around.before around.after is.0.same
+meaning_goes_on texts around (Err refused) position reply is = same_goes_on around.before around.after is.0.same
 
 rows_go_on : (around : Dealing) (cube : ℕ) (read : Result FactRows BatchFault) (position : Option ℕ) (reply : List ℕ) → AppendsRows around cube read position reply → GoesOn around.before around.after
 rows_go_on around cube (Ok rows) position reply (inl version) = (_, version.appends.adds.goes_on)
@@ -57,16 +58,16 @@ append_goes_on around argument (Some cube) position reply (came, asks, inr lacks
 append_goes_on around argument None position reply is = same_goes_on around.before around.after is.0.same
 
 -- whatever a line asks for
-pub request_goes_on : (around : Dealing) (request : Request) (position : Option ℕ) (reply : List ℕ) → AnswersRequest around request position reply → GoesOn around.before around.after
-request_goes_on around NotText position reply is = same_goes_on around.before around.after is.0.same
-request_goes_on around Blank position reply is = same_goes_on around.before around.after is.0.same
-request_goes_on around NoCommand position reply is = same_goes_on around.before around.after is.0.same
-request_goes_on around (Stops byte) position reply is = same_goes_on around.before around.after is.0.same
-request_goes_on around Quit position reply is = same_goes_on around.before around.after is.0.same
-request_goes_on around (After n) position reply is = (is.fronts.more, is.fronts.goes_on)
-request_goes_on around (Append argument) position reply is = append_goes_on around argument (find_cube (catalog_of around.before) argument.cube) position reply is
-request_goes_on around (OneCell query) position reply is = meaning_goes_on around (meaning_of (catalog_of around.before) query) position reply is.1
-request_goes_on around Unbuilt position reply is = same_goes_on around.before around.after is.0.same
+pub request_goes_on : (texts : Texts) (around : Dealing) (request : Request) (position : Option ℕ) (reply : List ℕ) → AnswersRequest texts around request position reply → GoesOn around.before around.after
+request_goes_on texts around NotText position reply is = same_goes_on around.before around.after is.0.same
+request_goes_on texts around Blank position reply is = same_goes_on around.before around.after is.0.same
+request_goes_on texts around NoCommand position reply is = same_goes_on around.before around.after is.0.same
+request_goes_on texts around (Stops byte) position reply is = same_goes_on around.before around.after is.0.same
+request_goes_on texts around Quit position reply is = same_goes_on around.before around.after is.0.same
+request_goes_on texts around (After n) position reply is = (is.fronts.more, is.fronts.goes_on)
+request_goes_on texts around (Append argument) position reply is = append_goes_on around argument (find_cube (catalog_of around.before) argument.cube) position reply is
+request_goes_on texts around (Ask query) position reply is = meaning_goes_on texts around (axes_meant (catalog_of around.before) query) position reply is.1
+request_goes_on texts around Unbuilt position reply is = same_goes_on around.before around.after is.0.same
 
 -- and where nothing of it was read
 pub still_goes_on : (desk : DeskOf) → GoesOn desk desk

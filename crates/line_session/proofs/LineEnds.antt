@@ -17,7 +17,7 @@ use Rattle.command_arguments.specs.Blank.{IsBlank}
 use Rattle.input_lines.specs.Asked.{asked}
 use Rattle.input_lines.specs.declared.request.Request.{Request as Read}
 use Rattle.input_lines.specs.declared.request.Request.TheVariants as read
-use Rattle.input_lines.specs.Requests.{Request, NotText, Blank, NoCommand, Stops, Quit, After, Append, OneCell, Unbuilt, IsRequest, Stopped}
+use Rattle.input_lines.specs.Requests.{Request, NotText, Blank, NoCommand, Stops, Quit, After, Append, Ask, Unbuilt, IsRequest, Stopped}
 use Rattle.line_session.specs.Sessions.{ends_session}
 
 none_other : (p : ℕ → Bool) (text : List ℕ) → list_all p text ≡ true → position_or_len (λ c. not (p c)) text ≡ length text
@@ -97,9 +97,10 @@ not_blank line argument command none = ap (λ o. option_map_or is_blank o false)
     by false blank = blank
 
 stopped : (line : List ℕ) (byte : ℕ) → Stopped line byte → is_quit line ≡ false
-stopped line byte (inl append) = other_command (codes "APPEND") line refl (has_some _ append.argument append.command)
-stopped line byte (inr (inl after)) = other_command (codes "AFTER") line refl (has_some _ after.argument after.command)
-stopped line byte (inr (inr quit)) = not_blank line quit.argument quit.command (quit.stops.none tt)
+stopped line byte (inl mdx) = other_command (codes "MDX") line refl (has_some _ mdx.argument mdx.command)
+stopped line byte (inr (inl append)) = other_command (codes "APPEND") line refl (has_some _ append.argument append.command)
+stopped line byte (inr (inr (inl after))) = other_command (codes "AFTER") line refl (has_some _ after.argument after.command)
+stopped line byte (inr (inr (inr quit))) = not_blank line quit.argument quit.command (quit.stops.none tt)
 
 unbuilt : (line : List ℕ) → has_one_of unbuilt_commands line ≡ true → is_quit line ≡ false
 unbuilt line has = by (is_some (argument_of (codes "FLUSH") line)) (is_some (argument_of (codes "AGG") line)) (is_some (argument_of (codes "CACHE") line)) refl refl refl has
@@ -130,9 +131,8 @@ goes_on line (Stops byte) is other = no_end line (stopped line byte is.1)
 goes_on line Quit is other = absurd (other refl)
 goes_on line (After n) is other = no_end line (other_command (codes "AFTER") line refl (has_some _ is.1.argument is.1.command))
 goes_on line (Append argument) is other = no_end line (other_command (codes "APPEND") line refl (has_some _ is.1.argument is.1.command))
-goes_on line (OneCell query) is other = no_end line (other_command (codes "MDX") line refl (has_some _ is.1.argument is.1.command))
-goes_on line Unbuilt (utf8, inl has) other = no_end line (unbuilt line has)
-goes_on line Unbuilt (utf8, inr mdx) other = no_end line (other_command (codes "MDX") line refl mdx.0)
+goes_on line (Ask query) is other = no_end line (other_command (codes "MDX") line refl (has_some _ is.1.argument is.1.command))
+goes_on line Unbuilt is other = no_end line (unbuilt line is.1)
 
 -- a line for which there may be no memory does not
 pub lacking : (line : List ℕ) → MayFindNoMemory line → ends_session line ≡ false
@@ -148,5 +148,5 @@ asks_for_end (read.Stops byte) is = absurd (let n : ⊥ = cc in n)
 asks_for_end read.Quit is = refl
 asks_for_end (read.After n) is = absurd (let n : ⊥ = cc in n)
 asks_for_end (read.Append argument) is = absurd (let n : ⊥ = cc in n)
-asks_for_end (read.OneCell query) is = absurd (let n : ⊥ = cc in n)
+asks_for_end (read.Ask query) is = absurd (let n : ⊥ = cc in n)
 asks_for_end read.Unbuilt is = absurd (let n : ⊥ = cc in n)

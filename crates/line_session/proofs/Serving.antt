@@ -13,7 +13,7 @@ use Rattle.input_lines.specs.Reader.{GivesLine, IsAtEnd, Reading, TellsFront, Te
 use Rattle.input_lines.specs.declared.next.Next.{Next}
 use Rattle.input_lines.specs.declared.next.Next.TheVariants as next
 use Rattle.line_session.specs.Desks.{DeskOf}
-use Rattle.line_session.specs.Replies.{Dealing, Handled}
+use Rattle.line_session.specs.Replies.{Dealing, Handled, Texts}
 use Rattle.line_session.specs.Sessions.{AreFirst, none, line as first_line, AreHandled, AreSent, EndsAtLast, IsServed, ends_session, go_on}
 use Rattle.line_session.specs.Turns.{Answers, HasPassed, IsStill, Replies, Turn}
 use Rattle.line_session.specs.declared.end.SessionEnd.{SessionEnd}
@@ -90,135 +90,136 @@ sent_then most n Budget left rest text lines before middle after reply replies g
 sent_then most n ReceiveFault left rest text lines before middle after reply replies goes first sent then = sent_past before middle after reply replies sent then
 sent_then most n Memory left rest text lines before middle after reply replies goes first sent then = sent_past before middle after reply replies sent then
 
--- a line that goes on was answered, and then a session is served
-line_then :
-    (most n : ℕ) (end : SessionEnd) (around : Dealing) (after : DeskOf) (later : List Fetched) (left rest : Option (List ℕ)) (text : List ℕ) (last : List Event) (before middle final : List ℕ) → end ≢ Memory → Replies around text last None → TellsFront left most next.Line text rest n
-    → middle ≡ before ++ taken last → IsServed n end (record { before = around.after; after = after; asked = later }) rest middle final
-    → IsServed most end (record { before = around.before; after = after; asked = around.asked ++ later }) left before final
-line_then most n end around after later left rest text last before middle final other replies first sent served = record {
-  handled = record { line = text; position = replies.position; reply = replies.reply } ∷ served.handled;
-  session = (around.after, around.asked, later, refl, replies.handles, served.session);
-  lines =
-      told_then (AreHandled n end (map (λ (one : Handled). one.line) served.handled)) (AreHandled most end (text ∷ map (λ (one : Handled). one.line) served.handled)) most n left rest text
-      (λ bytes behind gives are. handled_then most n end text (map (λ (one : Handled). one.line) served.handled) bytes behind other replies.ends.0 gives are) first served.lines;
-  sent =
-      sent_then most n end left rest text (map (λ (one : Handled). one.line) served.handled) before middle final replies.reply (flat_map (λ (one : Handled). one.reply) served.handled) replies.ends.0 first
-      (sent_whole before middle last replies.reply sent replies.ends.1) served.sent;
-}
-
--- the only line of a session
-line_ends :
-    (most n : ℕ) (end : SessionEnd) (around : Dealing) (left rest : Option (List ℕ)) (text : List ℕ) (last : List Event) (before after : List ℕ) → Replies around text last (Some end) → TellsFront left most next.Line text rest n → after ≡ before ++ taken last → IsServed most end around left before after
-line_ends most n Quit around left rest text last before after replies first sent = record {
-  handled = record { line = text; position = replies.position; reply = replies.reply } ∷ [];
-  session = (around.after, around.asked, [], sym (append-nil around.asked), replies.handles, (refl, refl));
-  lines = told_of (AreHandled most Quit (text ∷ [])) most n next.Line left rest text (λ bytes behind gives. (n, behind, first_then most n n text [] bytes behind behind gives none, only_last text replies.ends.0)) first;
-  sent = sent_whole before after last replies.reply sent replies.ends.1 ∙ ap (λ (bs : List ℕ). before ++ bs) (sym (append-nil replies.reply));
-}
-line_ends most n SendFault around left rest text last before after replies first sent = record {
-  handled = record { line = text; position = replies.position; reply = replies.reply } ∷ [];
-  session = (around.after, around.asked, [], sym (append-nil around.asked), replies.handles, (refl, refl));
-  lines = told_of (AreHandled most SendFault (text ∷ [])) most n next.Line left rest text (λ bytes behind gives. (n, behind, first_then most n n text [] bytes behind behind gives none, by (ends_session text) refl)) first;
-  sent = inl (subst (TakesFront before after) (sym (append-nil replies.reply)) (sent_front before after last replies.reply sent replies.ends));
-}
-  where
-    by : (b : Bool) → ends_session text ≡ b → (go_on (text ∷ []) ≡ true) ⊎ EndsAtLast (text ∷ [])
-    by true is = inr (only_last text is)
-    by false is = inl (going text [] is refl)
-line_ends most n _ around left rest text last before after replies first sent = absurd replies.ends
-
--- no line was handled
-none_handled : (most : ℕ) (end : SessionEnd) (around : Dealing) (left : Option (List ℕ)) (before after : List ℕ) → IsStill around → IfSome left (AreHandled most end []) → AreSent most end left [] before after [] → IsServed most end around left before after
-none_handled most end around left before after is lines sent = record { handled = []; session = is; lines = lines; sent = sent }
-
--- at the end of all that was told no more is taken
-nothing_sent : (before after : List ℕ) (last : List Event) → after ≡ before ++ taken last → last ≡ [] → after ≡ before ++ []
-nothing_sent before after last passed is = passed ∙ ap (λ (es : List Event). before ++ taken es) is
-
--- what ends a session was answered
-ends_by :
-    (most n : ℕ) (end : SessionEnd) (around : Dealing) (left rest : Option (List ℕ)) (text : List ℕ) (last : List Event) (before after : List ℕ) (told : Result Next Failed) → Answers told around text last (Some end) → IfOk told (λ next. TellsFront left most next text rest n) → after ≡ before ++ taken last
-    → IsServed most end around left before after
-ends_by most n end around left rest text last before after (Ok next.Line) answers first sent = line_ends most n end around left rest text last before after answers first sent
-ends_by most n LongLine around left rest text last before after (Ok next.TooLong) answers first sent =
-    none_handled most LongLine around left before after answers.0 (told_of (AreHandled most LongLine []) most n next.TooLong left rest text (λ bytes behind is. (most, bytes, none, refl, is)) first)
-    (sent ∙ ap (λ (es : List Event). before ++ taken es) answers.1 ∙ ap (λ (bs : List ℕ). before ++ bs) (append-nil too_long_reply))
-ends_by most n SendFault around left rest text last before after (Ok next.TooLong) answers first sent =
-    none_handled most SendFault around left before after answers.0 (told_of (AreHandled most SendFault []) most n next.TooLong left rest text (λ bytes behind is. (most, bytes, none, inl refl)) first)
-    (inr (told_of (AreHandled most LongLine []) most n next.TooLong left rest text (λ bytes behind is. (most, bytes, none, refl, is)) first, sent_front before after last too_long_reply sent answers.1))
-ends_by most n EndOfInput around left rest text last before after (Ok next.End) answers first sent =
-    none_handled most EndOfInput around left before after answers.0 (told_of (AreHandled most EndOfInput []) most n next.End left rest text (λ bytes behind is. (most, bytes, none, refl, is)) first) (nothing_sent before after last sent answers.1)
-ends_by most n Budget around left rest text last before after (Ok next.Spent) answers first sent =
-    none_handled most Budget around left before after answers.0 (told_of (AreHandled most Budget []) most n next.Spent left rest text (λ bytes behind is. (most, bytes, none, refl, is)) first) (nothing_sent before after last sent answers.1)
-ends_by most n ReceiveFault around left rest text last before after (Err e) answers first sent =
-    none_handled most ReceiveFault around left before after answers.0 (all_of left) (nothing_sent before after last sent answers.1)
-  where
-    all_of : (left : Option (List ℕ)) → IfSome left (AreHandled most ReceiveFault [])
-    all_of None = tt
-    all_of (Some bytes) = (most, bytes, none, refl)
-ends_by most n _ around left rest text last before after _ answers first sent = absurd answers
-
--- what is told of the bytes that are left, where the end has not come before
-first_told : (reading then : Reading) (left rest : Option (List ℕ)) (told : Result Next Failed) → IsAtEnd reading.ended left → IfOk told (λ next. IsAtEnd reading.ended left → TellsFront (not_given reading left) (allowed reading) next then.line (not_given then rest) (allowed then))
-    → IfOk told (λ next. TellsFront (not_given reading left) (allowed reading) next then.line (not_given then rest) (allowed then))
-first_told reading then left rest (Ok next) at_end first = first at_end
-first_told reading then left rest (Err e) at_end first = tt
-
 -- of what an object has answered in all, and what it answers then
-pub record Serves (most : ℕ) (end : SessionEnd) (before after : DeskOf) (answers_before answers_after : List Fetched) (left : Option (List ℕ)) (sent_before sent_after : List ℕ) : Type 0 where
+pub record Serves (texts : Texts) (most : ℕ) (end : SessionEnd) (before after : DeskOf) (answers_before answers_after : List Fetched) (left : Option (List ℕ)) (sent_before sent_after : List ℕ) : Type 0 where
   pub asked : List Fetched
   pub answered : answers_after ≡ answers_before ++ asked
-  pub served : IsServed most end (record { before = before; after = after; asked = asked }) left sent_before sent_after
+  pub served : IsServed texts most end (record { before = before; after = after; asked = asked }) left sent_before sent_after
 
--- a turn that ends the session
-pub turn_ends_served :
-    (reading then : Reading) (before after : DeskOf) (a b : List Event) (answers answered : List Fetched) (files : Option (List (List ℕ × List ℕ))) (left rest : Option (List ℕ)) (end : SessionEnd) → IsAtEnd reading.ended left
-    → (events : List Event) × (asked : List Fetched) × HasPassed a b answers answered files events asked × Turn reading then (record { before = before; after = after; asked = asked }) events left rest (Some end)
-    → Serves (allowed reading) end before after answers answered (not_given reading left) (taken a) (taken b)
-turn_ends_served reading then before after a b answers answered files left rest end at_end (events, asked, passed, one) = record {
-  asked = asked;
-  answered = passed.answered;
-  served =
-      ends_by (allowed reading) (allowed then) end (record { before = before; after = after; asked = asked }) (not_given reading left) (not_given then rest) then.line one.last (taken a) (taken b) one.told one.answers (first_told reading then left rest one.told at_end one.first)
-      (taken_behind a b reading then one.told one.heard one.last one.tells (passed.passed ∙ ap (λ (es : List Event). a ++ es) one.events_are));
-}
+module _ (texts : Texts) where
+  -- a line that goes on was answered, and then a session is served
+  line_then :
+      (most n : ℕ) (end : SessionEnd) (around : Dealing) (after : DeskOf) (later : List Fetched) (left rest : Option (List ℕ)) (text : List ℕ) (last : List Event) (before middle final : List ℕ) → end ≢ Memory → Replies texts around text last None → TellsFront left most next.Line text rest n
+      → middle ≡ before ++ taken last → IsServed texts n end (record { before = around.after; after = after; asked = later }) rest middle final
+      → IsServed texts most end (record { before = around.before; after = after; asked = around.asked ++ later }) left before final
+  line_then most n end around after later left rest text last before middle final other replies first sent served = record {
+    handled = record { line = text; position = replies.position; reply = replies.reply } ∷ served.handled;
+    session = (around.after, around.asked, later, refl, replies.handles, served.session);
+    lines =
+        told_then (AreHandled n end (map (λ (one : Handled). one.line) served.handled)) (AreHandled most end (text ∷ map (λ (one : Handled). one.line) served.handled)) most n left rest text
+        (λ bytes behind gives are. handled_then most n end text (map (λ (one : Handled). one.line) served.handled) bytes behind other replies.ends.0 gives are) first served.lines;
+    sent =
+        sent_then most n end left rest text (map (λ (one : Handled). one.line) served.handled) before middle final replies.reply (flat_map (λ (one : Handled). one.reply) served.handled) replies.ends.0 first
+        (sent_whole before middle last replies.reply sent replies.ends.1) served.sent;
+  }
 
--- a turn that goes on, and then a session
-goes_on_by :
-    (most n : ℕ) (end : SessionEnd) (around : Dealing) (after : DeskOf) (later : List Fetched) (left rest : Option (List ℕ)) (text : List ℕ) (last : List Event) (before middle final : List ℕ) (told : Result Next Failed) → end ≢ Memory → Answers told around text last None → IfOk told (λ next. TellsFront left most next text rest n)
-    → middle ≡ before ++ taken last → IsServed n end (record { before = around.after; after = after; asked = later }) rest middle final
-    → IsServed most end (record { before = around.before; after = after; asked = around.asked ++ later }) left before final
-goes_on_by most n end around after later left rest text last before middle final (Ok next.Line) other answers first sent served = line_then most n end around after later left rest text last before middle final other answers first sent served
-goes_on_by most n end around after later left rest text last before middle final _ other answers first sent served = absurd answers
+  -- the only line of a session
+  line_ends :
+      (most n : ℕ) (end : SessionEnd) (around : Dealing) (left rest : Option (List ℕ)) (text : List ℕ) (last : List Event) (before after : List ℕ) → Replies texts around text last (Some end) → TellsFront left most next.Line text rest n → after ≡ before ++ taken last → IsServed texts most end around left before after
+  line_ends most n Quit around left rest text last before after replies first sent = record {
+    handled = record { line = text; position = replies.position; reply = replies.reply } ∷ [];
+    session = (around.after, around.asked, [], sym (append-nil around.asked), replies.handles, (refl, refl));
+    lines = told_of (AreHandled most Quit (text ∷ [])) most n next.Line left rest text (λ bytes behind gives. (n, behind, first_then most n n text [] bytes behind behind gives none, only_last text replies.ends.0)) first;
+    sent = sent_whole before after last replies.reply sent replies.ends.1 ∙ ap (λ (bs : List ℕ). before ++ bs) (sym (append-nil replies.reply));
+  }
+  line_ends most n SendFault around left rest text last before after replies first sent = record {
+    handled = record { line = text; position = replies.position; reply = replies.reply } ∷ [];
+    session = (around.after, around.asked, [], sym (append-nil around.asked), replies.handles, (refl, refl));
+    lines = told_of (AreHandled most SendFault (text ∷ [])) most n next.Line left rest text (λ bytes behind gives. (n, behind, first_then most n n text [] bytes behind behind gives none, by (ends_session text) refl)) first;
+    sent = inl (subst (TakesFront before after) (sym (append-nil replies.reply)) (sent_front before after last replies.reply sent replies.ends));
+  }
+    where
+      by : (b : Bool) → ends_session text ≡ b → (go_on (text ∷ []) ≡ true) ⊎ EndsAtLast (text ∷ [])
+      by true is = inr (only_last text is)
+      by false is = inl (going text [] is refl)
+  line_ends most n _ around left rest text last before after replies first sent = absurd replies.ends
 
-pub turn_goes_on_served :
-    (reading then : Reading) (before middle after : DeskOf) (a b : List Event) (c : List ℕ) (answers answered told : List Fetched) (files : Option (List (List ℕ × List ℕ))) (left rest : Option (List ℕ)) (end : SessionEnd) → end ≢ Memory → IsAtEnd reading.ended left
-    → (events : List Event) × (asked : List Fetched) × HasPassed a b answers answered files events asked × Turn reading then (record { before = before; after = middle; asked = asked }) events left rest None
-    → Serves (allowed then) end middle after answered told (not_given then rest) (taken b) c → Serves (allowed reading) end before after answers told (not_given reading left) (taken a) c
-turn_goes_on_served reading then before middle after a b c answers answered told files left rest end other at_end (events, asked, passed, one) later = record {
-  asked = asked ++ later.asked;
-  answered = later.answered ∙ ap (λ (es : List Fetched). es ++ later.asked) passed.answered ∙ append_assoc answers asked later.asked;
-  served =
-      goes_on_by (allowed reading) (allowed then) end (record { before = before; after = middle; asked = asked }) after later.asked (not_given reading left) (not_given then rest) then.line one.last (taken a) (taken b) c one.told other one.answers (first_told reading then left rest one.told at_end one.first)
-      (taken_behind a b reading then one.told one.heard one.last one.tells (passed.passed ∙ ap (λ (es : List Event). a ++ es) one.events_are)) later.served;
-}
+  -- no line was handled
+  none_handled : (most : ℕ) (end : SessionEnd) (around : Dealing) (left : Option (List ℕ)) (before after : List ℕ) → IsStill around → IfSome left (AreHandled most end []) → AreSent most end left [] before after [] → IsServed texts most end around left before after
+  none_handled most end around left before after is lines sent = record { handled = []; session = is; lines = lines; sent = sent }
 
--- at the begin a reader holds nothing
-none_held : (left : Option (List ℕ)) (most : ℕ) → not_given (record { line = []; held = []; room = most; beyond = []; ended = false }) left ≡ left
-none_held None most = refl
-none_held (Some bytes) most = refl
+  -- at the end of all that was told no more is taken
+  nothing_sent : (before after : List ℕ) (last : List Event) → after ≡ before ++ taken last → last ≡ [] → after ≡ before ++ []
+  nothing_sent before after last passed is = passed ∙ ap (λ (es : List Event). before ++ taken es) is
 
--- what is served of a reader that holds nothing is served of the link
-pub from_begin :
-    (most : ℕ) (end : SessionEnd) (before after : DeskOf) (answers answered : List Fetched) (left : Option (List ℕ)) (sent sent_last : List ℕ) (reading : Reading) → reading ≡ record { line = []; held = []; room = most; beyond = []; ended = false }
-    → Serves (allowed reading) end before after answers answered (not_given reading left) sent sent_last
-    → (asked : List Fetched) × (answered ≡ answers ++ asked) × IsServed most end (record { before = before; after = after; asked = asked }) left sent sent_last
-from_begin most end before after answers answered left sent sent_last reading is serves =
-    let begin : Reading = record { line = []; held = []; room = most; beyond = []; ended = false } in
-    let there : Serves (allowed begin) end before after answers answered (not_given begin left) sent sent_last = subst (λ (r : Reading). Serves (allowed r) end before after answers answered (not_given r left) sent sent_last) is serves in
-    let all : length {A = ℕ} [] + most ≡ most = omega arith in (
-      there.asked,
-      there.answered,
-      subst (λ (l : Option (List ℕ)). IsServed most end (record { before = before; after = after; asked = there.asked }) l sent sent_last) (none_held left most)
-          (subst (λ (n : ℕ). IsServed n end (record { before = before; after = after; asked = there.asked }) (not_given begin left) sent sent_last) all there.served),
-    )
+  -- what ends a session was answered
+  ends_by :
+      (most n : ℕ) (end : SessionEnd) (around : Dealing) (left rest : Option (List ℕ)) (text : List ℕ) (last : List Event) (before after : List ℕ) (told : Result Next Failed) → Answers texts told around text last (Some end) → IfOk told (λ next. TellsFront left most next text rest n) → after ≡ before ++ taken last
+      → IsServed texts most end around left before after
+  ends_by most n end around left rest text last before after (Ok next.Line) answers first sent = line_ends most n end around left rest text last before after answers first sent
+  ends_by most n LongLine around left rest text last before after (Ok next.TooLong) answers first sent =
+      none_handled most LongLine around left before after answers.0 (told_of (AreHandled most LongLine []) most n next.TooLong left rest text (λ bytes behind is. (most, bytes, none, refl, is)) first)
+      (sent ∙ ap (λ (es : List Event). before ++ taken es) answers.1 ∙ ap (λ (bs : List ℕ). before ++ bs) (append-nil too_long_reply))
+  ends_by most n SendFault around left rest text last before after (Ok next.TooLong) answers first sent =
+      none_handled most SendFault around left before after answers.0 (told_of (AreHandled most SendFault []) most n next.TooLong left rest text (λ bytes behind is. (most, bytes, none, inl refl)) first)
+      (inr (told_of (AreHandled most LongLine []) most n next.TooLong left rest text (λ bytes behind is. (most, bytes, none, refl, is)) first, sent_front before after last too_long_reply sent answers.1))
+  ends_by most n EndOfInput around left rest text last before after (Ok next.End) answers first sent =
+      none_handled most EndOfInput around left before after answers.0 (told_of (AreHandled most EndOfInput []) most n next.End left rest text (λ bytes behind is. (most, bytes, none, refl, is)) first) (nothing_sent before after last sent answers.1)
+  ends_by most n Budget around left rest text last before after (Ok next.Spent) answers first sent =
+      none_handled most Budget around left before after answers.0 (told_of (AreHandled most Budget []) most n next.Spent left rest text (λ bytes behind is. (most, bytes, none, refl, is)) first) (nothing_sent before after last sent answers.1)
+  ends_by most n ReceiveFault around left rest text last before after (Err e) answers first sent =
+      none_handled most ReceiveFault around left before after answers.0 (all_of left) (nothing_sent before after last sent answers.1)
+    where
+      all_of : (left : Option (List ℕ)) → IfSome left (AreHandled most ReceiveFault [])
+      all_of None = tt
+      all_of (Some bytes) = (most, bytes, none, refl)
+  ends_by most n _ around left rest text last before after _ answers first sent = absurd answers
+
+  -- what is told of the bytes that are left, where the end has not come before
+  first_told : (reading then : Reading) (left rest : Option (List ℕ)) (told : Result Next Failed) → IsAtEnd reading.ended left → IfOk told (λ next. IsAtEnd reading.ended left → TellsFront (not_given reading left) (allowed reading) next then.line (not_given then rest) (allowed then))
+      → IfOk told (λ next. TellsFront (not_given reading left) (allowed reading) next then.line (not_given then rest) (allowed then))
+  first_told reading then left rest (Ok next) at_end first = first at_end
+  first_told reading then left rest (Err e) at_end first = tt
+
+  -- a turn that ends the session
+  pub turn_ends_served :
+      (reading then : Reading) (before after : DeskOf) (a b : List Event) (answers answered : List Fetched) (files : Option (List (List ℕ × List ℕ))) (left rest : Option (List ℕ)) (end : SessionEnd) → IsAtEnd reading.ended left
+      → (events : List Event) × (asked : List Fetched) × HasPassed a b answers answered files events asked × Turn texts reading then (record { before = before; after = after; asked = asked }) events left rest (Some end)
+      → Serves texts (allowed reading) end before after answers answered (not_given reading left) (taken a) (taken b)
+  turn_ends_served reading then before after a b answers answered files left rest end at_end (events, asked, passed, one) = record {
+    asked = asked;
+    answered = passed.answered;
+    served =
+        ends_by (allowed reading) (allowed then) end (record { before = before; after = after; asked = asked }) (not_given reading left) (not_given then rest) then.line one.last (taken a) (taken b) one.told one.answers (first_told reading then left rest one.told at_end one.first)
+        (taken_behind a b reading then one.told one.heard one.last one.tells (passed.passed ∙ ap (λ (es : List Event). a ++ es) one.events_are));
+  }
+
+  -- a turn that goes on, and then a session
+  goes_on_by :
+      (most n : ℕ) (end : SessionEnd) (around : Dealing) (after : DeskOf) (later : List Fetched) (left rest : Option (List ℕ)) (text : List ℕ) (last : List Event) (before middle final : List ℕ) (told : Result Next Failed) → end ≢ Memory → Answers texts told around text last None → IfOk told (λ next. TellsFront left most next text rest n)
+      → middle ≡ before ++ taken last → IsServed texts n end (record { before = around.after; after = after; asked = later }) rest middle final
+      → IsServed texts most end (record { before = around.before; after = after; asked = around.asked ++ later }) left before final
+  goes_on_by most n end around after later left rest text last before middle final (Ok next.Line) other answers first sent served = line_then most n end around after later left rest text last before middle final other answers first sent served
+  goes_on_by most n end around after later left rest text last before middle final _ other answers first sent served = absurd answers
+
+  pub turn_goes_on_served :
+      (reading then : Reading) (before middle after : DeskOf) (a b : List Event) (c : List ℕ) (answers answered told : List Fetched) (files : Option (List (List ℕ × List ℕ))) (left rest : Option (List ℕ)) (end : SessionEnd) → end ≢ Memory → IsAtEnd reading.ended left
+      → (events : List Event) × (asked : List Fetched) × HasPassed a b answers answered files events asked × Turn texts reading then (record { before = before; after = middle; asked = asked }) events left rest None
+      → Serves texts (allowed then) end middle after answered told (not_given then rest) (taken b) c → Serves texts (allowed reading) end before after answers told (not_given reading left) (taken a) c
+  turn_goes_on_served reading then before middle after a b c answers answered told files left rest end other at_end (events, asked, passed, one) later = record {
+    asked = asked ++ later.asked;
+    answered = later.answered ∙ ap (λ (es : List Fetched). es ++ later.asked) passed.answered ∙ append_assoc answers asked later.asked;
+    served =
+        goes_on_by (allowed reading) (allowed then) end (record { before = before; after = middle; asked = asked }) after later.asked (not_given reading left) (not_given then rest) then.line one.last (taken a) (taken b) c one.told other one.answers (first_told reading then left rest one.told at_end one.first)
+        (taken_behind a b reading then one.told one.heard one.last one.tells (passed.passed ∙ ap (λ (es : List Event). a ++ es) one.events_are)) later.served;
+  }
+
+  -- at the begin a reader holds nothing
+  none_held : (left : Option (List ℕ)) (most : ℕ) → not_given (record { line = []; held = []; room = most; beyond = []; ended = false }) left ≡ left
+  none_held None most = refl
+  none_held (Some bytes) most = refl
+
+  -- what is served of a reader that holds nothing is served of the link
+  pub from_begin :
+      (most : ℕ) (end : SessionEnd) (before after : DeskOf) (answers answered : List Fetched) (left : Option (List ℕ)) (sent sent_last : List ℕ) (reading : Reading) → reading ≡ record { line = []; held = []; room = most; beyond = []; ended = false }
+      → Serves texts (allowed reading) end before after answers answered (not_given reading left) sent sent_last
+      → (asked : List Fetched) × (answered ≡ answers ++ asked) × IsServed texts most end (record { before = before; after = after; asked = asked }) left sent sent_last
+  from_begin most end before after answers answered left sent sent_last reading is serves =
+      let begin : Reading = record { line = []; held = []; room = most; beyond = []; ended = false } in
+      let there : Serves texts (allowed begin) end before after answers answered (not_given begin left) sent sent_last = subst (λ (r : Reading). Serves texts (allowed r) end before after answers answered (not_given r left) sent sent_last) is serves in
+      let all : length {A = ℕ} [] + most ≡ most = omega arith in (
+        there.asked,
+        there.answered,
+        subst (λ (l : Option (List ℕ)). IsServed texts most end (record { before = before; after = after; asked = there.asked }) l sent sent_last) (none_held left most)
+            (subst (λ (n : ℕ). IsServed texts n end (record { before = before; after = after; asked = there.asked }) (not_given begin left) sent sent_last) all there.served),
+      )

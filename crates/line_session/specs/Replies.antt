@@ -2,15 +2,19 @@
 use Rattle.std.specs.Prelude.{ℕ, ◌≡◌, ◌⊎◌, List, [], ◌∷◌, Option, Some, None, Result, Ok, Err, nat_le, if◌then◌else◌}
 use Rattle.olap_meaning.specs.declared.tables.Catalog.{Catalog}
 use Rattle.olap_meaning.specs.Catalog.{find_cube}
-use Rattle.query_meaning.specs.CellQueries.{Meant, NoCube, NoMatch, meaning_of}
-use Rattle.query_meaning.specs.Grids.{member_grid}
-use Rattle.query_meaning.specs.Replies.{no_command_reply, no_file_reply, no_match_reply, no_memory_reply, not_text_reply, not_yet_reply, quit_reply, refused_batch_reply, seen_reply, source_reply, syntax_reply, unbuilt_reply, version_reply}
+use Rattle.olap_meaning.specs.declared.CellValue.{CellValue}
+use Rattle.query_meaning.specs.declared.axes.Axes.{Axes}
+use Rattle.query_meaning.specs.AxisCells.{cells_of}
+use Rattle.query_meaning.specs.GridForm.{IsGridText, IsOfGrid}
+use Rattle.query_meaning.specs.Grids.{grid_of}
+use Rattle.query_meaning.specs.Replies.{no_command_reply, no_cube_reply, no_file_reply, no_memory_reply, not_text_reply, not_yet_reply, quit_reply, refusal_reply, refused_batch_reply, seen_reply, source_reply, syntax_reply, unbuilt_reply, version_reply}
+use Rattle.query_meaning.specs.Resolution.{Refusal, axes_meant}
 use Rattle.query_meaning.specs.Requests.{MayFindNoMemory}
 use Rattle.outside.specs.Fetched.{Fetched}
 use Rattle.outside.specs.declared.depot.DepotRefusal.{DepotRefusal}
 use Rattle.outside.specs.declared.depot.DepotRefusal.TheVariants as depot
 use Rattle.command_arguments.specs.declared.append.AppendArgument.{AppendArgument}
-use Rattle.input_lines.specs.Requests.{Request, NotText, Blank, NoCommand, Stops, Quit, After, Append, OneCell, Unbuilt, IsRequest}
+use Rattle.input_lines.specs.Requests.{Request, NotText, Blank, NoCommand, Stops, Quit, After, Append, Ask, Unbuilt, IsRequest}
 use Rattle.fact_rows.specs.BatchFiles.{batch_of}
 use Rattle.fact_rows.specs.declared.fault.BatchFault.{BatchFault}
 use Rattle.fact_versions.specs.FactRows.{FactRows}
@@ -19,9 +23,13 @@ use Rattle.fact_versions.specs.declared.faults.AppendFault.{AppendFault}
 use Rattle.fault_texts.specs.FaultTexts.{refused_append_text, refused_batch_text}
 use Rattle.history_core.specs.Arrivals.{arrival_in}
 use Rattle.history_core.specs.declared.answers.Answer.{Answer}
-use Rattle.history_core.specs.declared.answers.Answered.{Answered}
 use Rattle.history_core.specs.declared.answers.Appended.{Appended}
+use Rattle.result_layout.specs.Axes.{values_of}
 use Rattle.line_session.specs.Desks.{AddsNone, DeskOf, HasAppended, HasAsked, HasReadFront, HasNotAsked}
+
+-- which texts may be given for a value
+abbrev pub Texts : Type 1
+Texts = CellValue → List ℕ → Type 0
 
 -- a line that was handled: the line, the position of its entry, where it has one, and its reply
 pub record Handled : Type 0 where
@@ -45,36 +53,41 @@ pub record StandsStill (dealing : Dealing) (position : Option ℕ) : Type 0 wher
   pub unasked : dealing.asked ≡ []
   pub none : position ≡ None
 
--- a text is the grid of an answer to the one cell that a query means
-pub record IsGridOf (catalog : Catalog) (meant : Meant) (answer : Answer)
+-- a text is the grid of an answer over the axes of a query: it shows each value by a text that may be given for it; and
+-- whatever shows the values, it has the form of this grid
+pub record IsGridOf (texts : Texts) (catalog : Catalog) (axes : Axes) (answer : Answer)
     (text : List ℕ) : Type 0 where
-  pub answered : Answered
-  pub only : answer.cells ≡ answered ∷ []
-  pub grid : text ≡ member_grid catalog meant.cube answer.position meant.member answered.value
+  pub written : IsGridText texts
+      (grid_of catalog axes answer.position (values_of answer.cells)) text
+  pub form : IsOfGrid text (grid_of catalog axes answer.position (values_of answer.cells))
 
--- a cell was answered, and the reply is the grid of the answer; or, since there was no memory for the grid, that
-pub record GivesGrid (dealing : Dealing) (meant : Meant) (position : Option ℕ)
+-- the cells of axes were answered in one answer, in their order, and the reply is the grid of the answer; or, since there
+-- was no memory for the grid, that
+pub record GivesGrid (texts : Texts) (dealing : Dealing) (axes : Axes) (position : Option ℕ)
     (reply : List ℕ) : Type 0 where
   pub answer : Answer
-  pub asks : HasAsked dealing.before dealing.after (meant.cell ∷ []) answer
+  pub asks : HasAsked dealing.before dealing.after
+      (cells_of (catalog_of dealing.before) axes) answer
   pub position_is : position ≡ Some answer.position
-  pub grid : IsGridOf (catalog_of dealing.before) meant answer reply ⊎ (reply ≡ no_memory_reply)
+  pub grid : IsGridOf texts (catalog_of dealing.before) axes answer reply
+      ⊎ (reply ≡ no_memory_reply)
 
--- there was no memory for the query, or for the loads or the answer of its cell
-pub record GivesNoGrid (dealing : Dealing) (meant : Meant) (position : Option ℕ)
+-- there was no memory for the query or its cells, or for their loads or their answer
+pub record GivesNoGrid (dealing : Dealing) (axes : Axes) (position : Option ℕ)
     (reply : List ℕ) : Type 0 where
   pub asks : (dealing.after ≡ dealing.before)
-      ⊎ HasNotAsked dealing.before dealing.after (meant.cell ∷ [])
+      ⊎ HasNotAsked dealing.before dealing.after (cells_of (catalog_of dealing.before) axes)
   pub none : position ≡ None
   pub no_memory : reply ≡ no_memory_reply
 
--- the reply to a query that means this: the grid of its answer; or to one without a match, the name; and there may be no
+-- the reply to a query by what it means: the grid of the answer to its cells; or its first refusal; and there may be no
 -- memory
-abbrev pub AnswersMeaning : Dealing → Result Meant NoMatch → Option ℕ → List ℕ → Type 0
-AnswersMeaning dealing (Ok meant) position reply =
-    GivesGrid dealing meant position reply ⊎ GivesNoGrid dealing meant position reply
-AnswersMeaning dealing (Err none) position reply =
-    StandsStill dealing position × ((reply ≡ no_match_reply none) ⊎ (reply ≡ no_memory_reply))
+abbrev pub AnswersMeaning : Texts → Dealing → Result Axes Refusal → Option ℕ → List ℕ → Type 0
+AnswersMeaning texts dealing (Ok axes) position reply =
+    GivesGrid texts dealing axes position reply ⊎ GivesNoGrid dealing axes position reply
+AnswersMeaning texts dealing (Err refused) position reply =
+    StandsStill dealing position
+    × ((reply ≡ refusal_reply refused) ⊎ (reply ≡ no_memory_reply))
 
 -- the fact rows of a file were appended to a cube, and the reply is the version that they make
 pub record GivesVersion (dealing : Dealing) (cube : ℕ) (rows : FactRows) (position : Option ℕ)
@@ -135,7 +148,7 @@ AnswersAppend dealing argument (Some cube) position reply =
     AppendsTo dealing cube argument.file position reply
 AnswersAppend dealing argument None position reply =
     StandsStill dealing position
-    × ((reply ≡ no_match_reply (NoCube argument.cube)) ⊎ (reply ≡ no_memory_reply))
+    × ((reply ≡ no_cube_reply argument.cube) ⊎ (reply ≡ no_memory_reply))
 
 -- the reply where so many entries were asked for and a cache has those of this front
 abbrev pub front_reply : ℕ → ℕ → List ℕ
@@ -152,30 +165,31 @@ pub record TellsWhatIsSeen (dealing : Dealing) (asked : ℕ) (position : Option 
   pub text : reply ≡ front_reply asked front
 
 -- the reply to a line that asks for this, the position of its entry, and what it adds
-abbrev pub AnswersRequest : Dealing → Request → Option ℕ → List ℕ → Type 0
-AnswersRequest dealing NotText position reply =
+abbrev pub AnswersRequest : Texts → Dealing → Request → Option ℕ → List ℕ → Type 0
+AnswersRequest texts dealing NotText position reply =
     StandsStill dealing position × (reply ≡ not_text_reply)
-AnswersRequest dealing Blank position reply = StandsStill dealing position × (reply ≡ [])
-AnswersRequest dealing NoCommand position reply =
+AnswersRequest texts dealing Blank position reply = StandsStill dealing position × (reply ≡ [])
+AnswersRequest texts dealing NoCommand position reply =
     StandsStill dealing position × (reply ≡ no_command_reply)
-AnswersRequest dealing (Stops byte) position reply =
+AnswersRequest texts dealing (Stops byte) position reply =
     StandsStill dealing position × (reply ≡ syntax_reply byte)
-AnswersRequest dealing Quit position reply = StandsStill dealing position × (reply ≡ quit_reply)
-AnswersRequest dealing (After asked) position reply = TellsWhatIsSeen dealing asked position reply
-AnswersRequest dealing (Append argument) position reply =
+AnswersRequest texts dealing Quit position reply = StandsStill dealing position × (reply ≡ quit_reply)
+AnswersRequest texts dealing (After asked) position reply = TellsWhatIsSeen dealing asked position reply
+AnswersRequest texts dealing (Append argument) position reply =
     AnswersAppend dealing argument
     (find_cube (catalog_of dealing.before) argument.cube) position reply
-AnswersRequest dealing (OneCell query) position reply =
+AnswersRequest texts dealing (Ask query) position reply =
     (dealing.asked ≡ [])
-    × AnswersMeaning dealing (meaning_of (catalog_of dealing.before) query) position reply
-AnswersRequest dealing Unbuilt position reply =
+    × AnswersMeaning texts dealing
+    (axes_meant (catalog_of dealing.before) query) position reply
+AnswersRequest texts dealing Unbuilt position reply =
     StandsStill dealing position × (reply ≡ unbuilt_reply)
 
 -- a line was read, and answered
-pub record AnswersLine (dealing : Dealing) (handled : Handled) : Type 0 where
+pub record AnswersLine (texts : Texts) (dealing : Dealing) (handled : Handled) : Type 0 where
   pub request : Request
   pub asks : IsRequest handled.line request
-  pub answers : AnswersRequest dealing request handled.position handled.reply
+  pub answers : AnswersRequest texts dealing request handled.position handled.reply
 
 -- there was no memory to read a line, which added nothing
 pub record LeavesUnread (dealing : Dealing) (handled : Handled) : Type 0 where
@@ -183,6 +197,6 @@ pub record LeavesUnread (dealing : Dealing) (handled : Handled) : Type 0 where
   pub no_memory : handled.reply ≡ no_memory_reply
 
 -- a line was handled. That there was no memory is replied to two commands alone
-pub record Handles (dealing : Dealing) (handled : Handled) : Type 0 where
-  pub answers : AnswersLine dealing handled ⊎ LeavesUnread dealing handled
+pub record Handles (texts : Texts) (dealing : Dealing) (handled : Handled) : Type 0 where
+  pub answers : AnswersLine texts dealing handled ⊎ LeavesUnread dealing handled
   pub lack : handled.reply ≡ no_memory_reply → MayFindNoMemory handled.line

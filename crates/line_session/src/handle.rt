@@ -1,9 +1,10 @@
 //! What is replied to a line.
-ghost use Rattle.std.specs.Prelude.{◌≡◌, ◌≤◌, ◌+◌, ◌++◌, [], List, Option, ℕ};
+ghost use Rattle.std.specs.Prelude.{◌≡◌, ◌<◌, ◌≤◌, ◌^◌, ◌+◌, ◌++◌, [], List, Option, ℕ, length};
 ghost use Rattle.input_lines.specs.Asked.{asked};
 ghost use Rattle.input_lines.specs.Requests.{IsRequest};
 ghost use Rattle.outside.specs.Fetched.{Fetched};
 ghost use Rattle.outside.specs.Told.{AreTheirs};
+ghost use Rattle.shown_values.specs.Given.{Given};
 ghost use Rattle.line_session.specs.Desks.{GoesOn, rows_between};
 ghost use Rattle.line_session.specs.Replies.{AnswersRequest, Handles, TellsWhatIsSeen};
 ghost use Rattle.line_session.specs.Sessions.{ends_session};
@@ -12,11 +13,13 @@ use crate::append::reply_to_append;
 use crate::desk::Desk;
 use crate::query::reply_to_query;
 use crate::reply::Reply;
+use crate::tools::Tools;
 use fact_versions::Steps;
 use input_lines::{Request, read_request};
 use olap_catalog::Catalog;
 use olap_meaning::OutOfMemory;
 use outside::Depot;
+use shown_values::{Formatter, GivesTexts};
 use std::alloc::Global;
 use std::sync::ledger::Ledger;
 
@@ -38,6 +41,7 @@ fn reply_to_request<P: Desk, D: Depot, L: Ledger>(
     desk: &mut P,
     depot: &mut D,
     catalog: &Catalog,
+    tools: &Tools,
     request: &Request,
     steps: &mut Steps<L>,
 ) -> Reply
@@ -46,7 +50,7 @@ fn reply_to_request<P: Desk, D: Depot, L: Ledger>(
     ensures answered { (position : Option ℕ) × (fetched : List Fetched)
         × (D.answers depot.new ≡ D.answers depot.old ++ fetched)
         × AreTheirs (D.files depot.old) fetched
-        × AnswersRequest
+        × AnswersRequest (Given (⟦<Formatter as GivesTexts>⟧.answers tools.now.formatter))
         (record { before = P.seen desk.old; after = P.seen desk.new; asked = fetched })
         (asked request.now) position result }
     ensures files { D.files depot.new ≡ D.files depot.old }
@@ -61,7 +65,7 @@ fn reply_to_request<P: Desk, D: Depot, L: Ledger>(
         Request::Quit => Reply::fixed("BYE\n"),
         Request::After(count) => reply_to_after(desk, *count),
         Request::Append(argument) => reply_to_append(alloc, desk, depot, catalog, argument),
-        Request::OneCell(query) => reply_to_query(alloc, desk, catalog, query, steps),
+        Request::Ask(query) => reply_to_query(alloc, desk, catalog, tools, query, steps),
         Request::Unbuilt => Reply::fixed("ERR 17 UNBUILT\n"),
     }
 }
@@ -79,14 +83,16 @@ pub(crate) fn reply_to_line<P: Desk, D: Depot, L: Ledger>(
     desk: &mut P,
     depot: &mut D,
     catalog: &Catalog,
+    tools: &Tools,
     line: &[u8],
     steps: &mut Steps<L>,
 ) -> (Reply, bool)
     requires catalog { catalog.now ≡ (P.seen desk.old).cache.setting.catalog }
+    requires line { length line.now < 2 ^ 32 }
     ensures handled { (position : Option ℕ) × (asked : List Fetched)
         × (D.answers depot.new ≡ D.answers depot.old ++ asked)
         × AreTheirs (D.files depot.old) asked
-        × Handles
+        × Handles (Given (⟦<Formatter as GivesTexts>⟧.answers tools.now.formatter))
         (record { before = P.seen desk.old; after = P.seen desk.new; asked = asked })
         (record { line = line.now; position = position; reply = result.0 }) }
     ensures files { D.files depot.new ≡ D.files depot.old }
@@ -97,7 +103,7 @@ pub(crate) fn reply_to_line<P: Desk, D: Depot, L: Ledger>(
 {
     match read_request(alloc, line) {
         Ok(request) => {
-            let reply = reply_to_request(alloc, desk, depot, catalog, &request, steps);
+            let reply = reply_to_request(alloc, desk, depot, catalog, tools, &request, steps);
             (reply, is_end(&request))
         }
         Err(OutOfMemory) => (Reply::no_memory(), false),

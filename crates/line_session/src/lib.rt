@@ -11,7 +11,9 @@ mod handle;
 mod query;
 mod reply;
 mod session;
+mod tools;
 
 pub use desk::Desk;
 pub use end::{BYTE_LIMIT, SessionEnd};
 pub use session::serve;
+pub use tools::Tools;

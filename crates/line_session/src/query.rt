@@ -1,108 +1,125 @@
-//! What is replied to a query of one cell.
-ghost use Rattle.std.specs.Prelude.{◌≡◌, ◌≤◌, ◌<◌, ◌+◌, ◌⊎◌, ℕ, [], IfOk, IsSomeAnd, IsTrue, length, Option};
-ghost use Rattle.cell_meaning.specs.Meanings.{meant, no_match};
-ghost use Rattle.olap_meaning.specs.MemberOf.{IsMemberOf};
+//! What is replied to a query.
+ghost use Rattle.std.specs.Prelude.{◌≡◌, ◌≤◌, ◌+◌, ◌*◌, ◌⊎◌, ℕ, [], Ok, IsSomeAnd, IsTrue, length, Option};
+ghost use Rattle.std.specs.List.{list_all};
+ghost use Rattle.cell_request.specs.Faults.{refusal_of};
 ghost use Rattle.olap_meaning.specs.Legal.{is_cell};
-ghost use Rattle.query_meaning.specs.CellQueries.{meaning_of};
-ghost use Rattle.query_meaning.specs.Replies.{no_match_reply, no_memory_reply};
+ghost use Rattle.query_meaning.specs.AxisCells.{cells_of};
+ghost use Rattle.query_meaning.specs.Grids.{row_tuples};
+ghost use Rattle.query_meaning.specs.OwnAxes.{AreAxesOf};
+ghost use Rattle.query_meaning.specs.Replies.{no_memory_reply, refusal_reply};
+ghost use Rattle.query_meaning.specs.Resolution.{axes_meant};
+ghost use Rattle.shown_values.specs.Given.{Given};
 ghost use Rattle.line_session.specs.Desks.{rows_between};
-ghost use Rattle.line_session.specs.Replies.{AnswersMeaning, GivesGrid, GivesNoGrid, IsGridOf};
+ghost use Rattle.line_session.specs.Replies.{AnswersMeaning};
 
 use crate::desk::Desk;
 use crate::reply::Reply;
-use cell_meaning::{QueryFault, Resolved, resolve};
+use crate::tools::Tools;
+use cell_request::{ResolveFault, cells, resolve};
 use fact_versions::Steps;
-use history_core::Answer;
 use olap_catalog::Catalog;
-use olap_meaning::{OutOfMemory, Text, named_line};
-use query_meaning::CellQuery;
-use result_layout::member_grid;
+use olap_meaning::{Cell, OutOfMemory, named_line};
+use query_meaning::{Axes, Query};
+use result_layout::grid;
+use shown_values::{Formatter, GivesTexts};
 use std::alloc::Global;
-use std::slice;
 use std::sync::ledger::Ledger;
 
-// The reply to a query that means no cell.
-fn reply_to_fault(alloc: Global, fault: &QueryFault) -> Reply
+// The reply to a query that means no axes.
+fn reply_to_fault(alloc: Global, fault: &ResolveFault) -> Reply
     ensures { (result ≡ no_memory_reply)
-        ⊎ IsSomeAnd (no_match fault.now) (λ none. result ≡ no_match_reply none) }
+        ⊎ IsSomeAnd (refusal_of fault.now) (λ refused. result ≡ refusal_reply refused) }
 {
     match fault {
-        QueryFault::NoCube { name } => Reply::made(named_line(alloc, "ERR 5 CUBE", name.as_str())),
-        QueryFault::NoMember { name } => {
+        ResolveFault::UnknownCube { name } => {
+            Reply::made(named_line(alloc, "ERR 5 CUBE", name.as_str()))
+        }
+        ResolveFault::UnknownMember { name } => {
             Reply::made(named_line(alloc, "ERR 6 MEMBER", name.as_str()))
         }
-        QueryFault::OutOfMemory => Reply::no_memory(),
+        ResolveFault::AxisTwice { hierarchy } => {
+            Reply::made(named_line(alloc, "ERR 7 AXIS TWICE", hierarchy.as_str()))
+        }
+        ResolveFault::MixedSet { at } => Reply::number("ERR 8 MIXED ", u64::from(*at)),
+        ResolveFault::TooManyCells { count, limit } => {
+            Reply::two_numbers("ERR 9 CELLS ", *count, u64::from(*limit))
+        }
+        ResolveFault::OutOfMemory => Reply::no_memory(),
     }
 }
 
-// The grid of an answer to one cell.
-fn grid_of(
-    alloc: Global,
-    catalog: &Catalog,
-    found: &Resolved,
-    answer: &Answer,
-) -> Result<Text, OutOfMemory>
-    requires own { IsMemberOf catalog.now found.now.cube found.now.member }
-    requires one { length answer.now.cells ≡ 1 }
-    ensures { IfOk result (λ text. IsGridOf catalog.now (meant found.now) answer.now text) }
-{
-    let answered = &answer.cells.as_slice()[0];
-    member_grid(
-        alloc,
-        catalog,
-        found.cube,
-        answer.position,
-        &found.member,
-        &answered.value,
-    )
-}
-
-// The reply to a query that means a cell.
-fn reply_to_cell<P: Desk, L: Ledger>(
+// The reply to the axes of a query, whose cells are asked of a desk.
+fn reply_to_cells<P: Desk, L: Ledger>(
     alloc: Global,
     desk: &mut P,
     catalog: &Catalog,
-    found: &Resolved,
+    tools: &Tools,
+    axes: &Axes,
+    cells: &[Cell],
     steps: &mut Steps<L>,
 ) -> Reply
     requires catalog { catalog.now ≡ (P.seen desk.old).cache.setting.catalog }
-    requires known { IsTrue (is_cell catalog.now found.now.cell) }
-    requires own { IsMemberOf catalog.now found.now.cube found.now.member }
+    requires own { AreAxesOf catalog.now axes.now }
+    requires cells { cells.now ≡ cells_of catalog.now axes.now }
+    requires count { length cells.now
+        ≡ length (row_tuples axes.now) * length axes.now.columns.tuples }
+    requires known { IsTrue (list_all (is_cell catalog.now) cells.now) }
     ensures reply { (position : Option ℕ)
-        × (GivesGrid
+        × AnswersMeaning (Given (⟦<Formatter as GivesTexts>⟧.answers tools.now.formatter))
         (record { before = P.seen desk.old; after = P.seen desk.new; asked = [] })
-        (meant found.now) position result
-        ⊎ GivesNoGrid
-        (record { before = P.seen desk.old; after = P.seen desk.new; asked = [] })
-        (meant found.now) position result) }
+        (Ok axes.now) position result }
     ensures at_least { steps.old ≤ steps.new }
     ensures at_most { steps.new ≤ steps.old + rows_between (P.seen desk.old) (P.seen desk.new) }
 {
-    match desk.ask(alloc, slice::from_ref(&found.cell), steps) {
-        Ok(answer) => Reply::made(grid_of(alloc, catalog, found, &answer)),
+    match desk.ask(alloc, cells, steps) {
+        Ok(answer) => Reply::made(grid(alloc, catalog, axes, &answer, &tools.formatter)),
         Err(OutOfMemory) => Reply::no_memory(),
     }
 }
 
-/// The reply to a query of one cell, which is asked of a desk.
+// The reply to the axes of a query.
+fn reply_to_axes<P: Desk, L: Ledger>(
+    alloc: Global,
+    desk: &mut P,
+    catalog: &Catalog,
+    tools: &Tools,
+    axes: &Axes,
+    steps: &mut Steps<L>,
+) -> Reply
+    requires catalog { catalog.now ≡ (P.seen desk.old).cache.setting.catalog }
+    requires own { AreAxesOf catalog.now axes.now }
+    ensures reply { (position : Option ℕ)
+        × AnswersMeaning (Given (⟦<Formatter as GivesTexts>⟧.answers tools.now.formatter))
+        (record { before = P.seen desk.old; after = P.seen desk.new; asked = [] })
+        (Ok axes.now) position result }
+    ensures at_least { steps.old ≤ steps.new }
+    ensures at_most { steps.new ≤ steps.old + rows_between (P.seen desk.old) (P.seen desk.new) }
+{
+    match cells(alloc, catalog, axes) {
+        Ok(cells) => reply_to_cells(alloc, desk, catalog, tools, axes, cells.as_slice(), steps),
+        Err(OutOfMemory) => Reply::no_memory(),
+    }
+}
+
+/// The reply to a query: its cells are asked of a desk in one call, and laid out as a grid.
 pub(crate) fn reply_to_query<P: Desk, L: Ledger>(
     alloc: Global,
     desk: &mut P,
     catalog: &Catalog,
-    query: &CellQuery,
+    tools: &Tools,
+    query: &Query,
     steps: &mut Steps<L>,
 ) -> Reply
     requires catalog { catalog.now ≡ (P.seen desk.old).cache.setting.catalog }
-    requires named { 0 < length query.now.path }
     ensures reply { (position : Option ℕ)
-        × AnswersMeaning
+        × AnswersMeaning (Given (⟦<Formatter as GivesTexts>⟧.answers tools.now.formatter))
         (record { before = P.seen desk.old; after = P.seen desk.new; asked = [] })
-        (meaning_of catalog.now query.now) position result }
+        (axes_meant catalog.now query.now) position result }
     ensures at_least { steps.old ≤ steps.new }
     ensures at_most { steps.new ≤ steps.old + rows_between (P.seen desk.old) (P.seen desk.new) }
 {
     match resolve(alloc, catalog, query) {
-        Ok(found) => reply_to_cell(alloc, desk, catalog, &found, steps),
+        Ok(axes) => reply_to_axes(alloc, desk, catalog, tools, &axes, steps),
         Err(fault) => reply_to_fault(alloc, &fault),
     }
 }

@@ -1,10 +1,11 @@
 //! A session: the lines of an input, one after another, each with its reply.
-ghost use Rattle.std.specs.Prelude.{◌≡◌, ◌≢◌, ◌≤◌, ◌+◌, ◌++◌, ◌∷◌, ◌⊎◌, [], List, OnErr, OnOk};
+ghost use Rattle.std.specs.Prelude.{◌≡◌, ◌≢◌, ◌<◌, ◌≤◌, ◌+◌, ◌^◌, ◌++◌, ◌∷◌, ◌⊎◌, [], List, OnErr, OnOk, length};
 ghost use Rattle.query_meaning.specs.Replies.{too_long_reply};
 ghost use Rattle.outside.specs.Event.{Event, took};
 ghost use Rattle.outside.specs.Fetched.{Fetched};
 ghost use Rattle.outside.specs.Talks.{taken};
 ghost use Rattle.input_lines.specs.Reader.{IsAtEnd};
+ghost use Rattle.shown_values.specs.Given.{Given};
 ghost use Rattle.line_session.specs.Desks.{GoesOn, IsIdle, rows_between};
 ghost use Rattle.line_session.specs.Conversations.{HasConversed, IsCutOff, fresh, sent};
 ghost use Rattle.line_session.specs.Sessions.{IsServed, byte_limit};
@@ -13,10 +14,12 @@ ghost use Rattle.line_session.specs.Turns.{HasPassed, Replies, Turn};
 use crate::desk::Desk;
 use crate::end::SessionEnd;
 use crate::handle::reply_to_line;
+use crate::tools::Tools;
 use fact_versions::Steps;
 use input_lines::{LineReader, Next};
 use olap_catalog::Catalog;
 use outside::{CutOff, Depot, Failed, Link};
+use shown_values::{Formatter, GivesTexts};
 use std::alloc::Global;
 use std::sync::ledger::Ledger;
 
@@ -40,14 +43,16 @@ fn answer_line<P: Desk, K: Link, D: Depot, L: Ledger>(
     link: &mut K,
     depot: &mut D,
     catalog: &Catalog,
+    tools: &Tools,
     line: &[u8],
     steps: &mut Steps<L>,
 ) -> Option<SessionEnd>
     requires catalog { catalog.now ≡ (P.seen desk.old).cache.setting.catalog }
+    requires line { length line.now < 2 ^ 32 }
     ensures answered { (events : List Event) × (asked : List Fetched)
         × HasPassed (K.talk link.old) (K.talk link.new) (D.answers depot.old) (D.answers depot.new)
         (D.files depot.old) events asked
-        × Replies
+        × Replies (Given (⟦<Formatter as GivesTexts>⟧.answers tools.now.formatter))
         (record { before = P.seen desk.old; after = P.seen desk.new; asked = asked })
         line.now events result }
     ensures unread { K.left link.new ≡ K.left link.old }
@@ -56,7 +61,7 @@ fn answer_line<P: Desk, K: Link, D: Depot, L: Ledger>(
     ensures at_least { steps.old ≤ steps.new }
     ensures at_most { steps.new ≤ steps.old + rows_between (P.seen desk.old) (P.seen desk.new) }
 {
-    let (reply, ends) = reply_to_line(alloc, desk, depot, catalog, line, steps);
+    let (reply, ends) = reply_to_line(alloc, desk, depot, catalog, tools, line, steps);
     match send(link, reply.as_str()) {
         Err(_) => Some(SessionEnd::SendFault),
         Ok(()) if ends => Some(SessionEnd::Quit),
@@ -87,13 +92,14 @@ fn take_turn<P: Desk, K: Link, D: Depot, L: Ledger>(
     link: &mut K,
     depot: &mut D,
     catalog: &Catalog,
+    tools: &Tools,
     steps: &mut Steps<L>,
 ) -> Option<SessionEnd>
     requires catalog { catalog.now ≡ (P.seen desk.old).cache.setting.catalog }
     ensures turn { (events : List Event) × (asked : List Fetched)
         × HasPassed (K.talk link.old) (K.talk link.new) (D.answers depot.old) (D.answers depot.new)
         (D.files depot.old) events asked
-        × Turn reader.old reader.new
+        × Turn (Given (⟦<Formatter as GivesTexts>⟧.answers tools.now.formatter)) reader.old reader.new
         (record { before = P.seen desk.old; after = P.seen desk.new; asked = asked })
         events (K.left link.old) (K.left link.new) result }
     ensures end { IsAtEnd reader.old.ended (K.left link.old)
@@ -104,7 +110,16 @@ fn take_turn<P: Desk, K: Link, D: Depot, L: Ledger>(
     ensures at_most { steps.new ≤ steps.old + rows_between (P.seen desk.old) (P.seen desk.new) }
 {
     match reader.next(link) {
-        Ok(Next::Line) => answer_line(alloc, desk, link, depot, catalog, reader.line(), steps),
+        Ok(Next::Line) => answer_line(
+            alloc,
+            desk,
+            link,
+            depot,
+            catalog,
+            tools,
+            reader.line(),
+            steps,
+        ),
         Ok(Next::TooLong) => Some(refuse_long_line(link)),
         Ok(Next::End) => Some(SessionEnd::EndOfInput),
         Ok(Next::Spent) => Some(SessionEnd::Budget),
@@ -114,7 +129,8 @@ fn take_turn<P: Desk, K: Link, D: Depot, L: Ledger>(
 
 /// Serves a session over a desk: answers the lines that come over a link, one after another, until one ends the session,
 /// the end comes, a line is too long, or more than `most` bytes come. Each reply is sent before the next line is waited
-/// for. `catalog` is the desk's; the files of appends are fetched from the depot.
+/// for. `catalog` is the desk's; the values of grids are shown by the tools' formatter; the files of appends are fetched from
+/// the depot.
 ///
 /// It ends for want of memory only before anything is received. The lines are those of the bytes that come, however they
 /// come in pieces. As many steps are added at most as the loads that the desk's seat has started have rows.
@@ -124,20 +140,23 @@ pub fn serve<P: Desk, K: Link, D: Depot, L: Ledger>(
     link: &mut K,
     depot: &mut D,
     catalog: &Catalog,
+    tools: &Tools,
     most: u64,
     steps: &mut Steps<L>,
 ) -> SessionEnd
     requires catalog { catalog.now ≡ (P.seen desk.old).cache.setting.catalog }
     requires most { most ≤ byte_limit }
     // What has passed is a conversation, of every link and every depot.
-    ensures conversed { result ≢ SessionEnd.Memory → HasConversed (K.talk link.old) (K.talk link.new)
+    ensures conversed { result ≢ SessionEnd.Memory → HasConversed
+        (Given (⟦<Formatter as GivesTexts>⟧.answers tools.now.formatter))
+        (K.talk link.old) (K.talk link.new)
         (D.answers depot.old) (D.answers depot.new) (D.files depot.old) (fresh most)
         (P.seen desk.old) (P.seen desk.new) result }
 
     // Where the link tells what is left, the lines that were handled are those of it.
     ensures served { result ≢ SessionEnd.Memory → (asked : List Fetched)
         × (D.answers depot.new ≡ D.answers depot.old ++ asked)
-        × IsServed most result
+        × IsServed (Given (⟦<Formatter as GivesTexts>⟧.answers tools.now.formatter)) most result
         (record { before = P.seen desk.old; after = P.seen desk.new; asked = asked })
         (K.left link.old) (taken (K.talk link.old)) (taken (K.talk link.new)) }
 
@@ -155,7 +174,7 @@ pub fn serve<P: Desk, K: Link, D: Depot, L: Ledger>(
         return SessionEnd::Memory;
     };
     loop {
-        let turn = take_turn(alloc, desk, &mut reader, link, depot, catalog, steps);
+        let turn = take_turn(alloc, desk, &mut reader, link, depot, catalog, tools, steps);
         desk.seen_is_legal();
         if let Some(end) = turn {
             return end;

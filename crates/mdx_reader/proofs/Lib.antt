@@ -1,11 +1,4 @@
-pub mod Starts
-pub mod Within
 pub mod Characters
-pub mod Turns
-pub mod Arms
-pub mod Loop
-pub mod Once
-pub mod Paths
 pub mod Answering
 pub mod Wants
 pub mod Finishes

@@ -1,5 +1,3 @@
-pub mod Lexer
-pub mod Parser
 pub mod Words
 pub mod Places
 pub mod Tellings

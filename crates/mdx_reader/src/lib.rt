@@ -13,29 +13,18 @@
 //! White, which is spaces and tabs, may stand before each token and at the end, and must stand between two keywords.
 //! Keywords ignore ASCII case. White inside a name belongs to the name. The outermost set has depth 1, a set in braces or
 //! in a Crossjoin is one deeper, and none has a depth above 16.
-//!
-//! The query of one cell, `SELECT "{" path "}" ON COLUMNS FROM name`, has a reader of its own.
 #![tactic(auto)]
 
-mod cell_query;
 mod in_axes;
 mod in_paths;
 mod in_sets;
 mod kept;
 mod keyword;
-pub mod laws;
-mod lexer;
-mod mode;
-mod parser;
 mod path;
 mod place;
 mod query_reader;
 mod stack;
 
-pub use cell_query::read_cell_query;
 pub use path::{PathFault, read_path};
-pub use query_meaning::{
-    AxisText, CellKeyword, CellQuery, CellSign, CellToken, Picks, Query, SetShape, SetText,
-    SetTexts,
-};
+pub use query_meaning::{AxisText, Picks, Query, SetShape, SetText, SetTexts};
 pub use query_reader::{QueryFault, read_query};

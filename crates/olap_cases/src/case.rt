@@ -4,7 +4,8 @@
 //! a content; `cuts`, each the most bytes that a read gives, 0 for no limit: the case is carried out once for each; the
 //! `room` of the output in bytes; and the numbers, from 0, of a `fetch`, a `read` and a `write` that fails. It wants a
 //! `status`, 0 where none is named; what is `written`, a content; and where a history is there, how many `entries` it has
-//! and how many `rows` its Starts cost, 0 where they are not named. Words are a text that is parted at white space.
+//! and how many `rows` its Starts cost, 0 where they are not named. Words are a text that is parted at white space, or a
+//! list of texts, one for each word.
 use crate::content::bytes_of;
 use crate::fields::{field, items, number, number_at, text};
 use crate::outcome::Outcome;
@@ -44,12 +45,29 @@ pub(crate) fn files_of(rt: &(impl Files + AllocGlobal), object: &Value) -> Resul
     Ok(files)
 }
 
-fn words_of(alloc: Global, line: &str) -> Result<Vec<String>> {
+// The words of a text, parted at white space.
+fn parted(alloc: Global, line: &str) -> Result<Vec<String>> {
     let mut words = Vec::new(alloc);
     for word in line.split_whitespace() {
         words.push(String::from_str(alloc, word)?)?;
     }
     Ok(words)
+}
+
+// The words of a list of texts, of which each may be empty or hold white.
+fn listed(alloc: Global, list: &[Value]) -> Result<Vec<String>> {
+    let mut words = Vec::new(alloc);
+    for word in list {
+        words.push(String::from_str(alloc, text(word)?)?)?;
+    }
+    Ok(words)
+}
+
+fn words_of(alloc: Global, words: &Value) -> Result<Vec<String>> {
+    match words {
+        Value::Array(list) => listed(alloc, list.as_slice()),
+        line => parted(alloc, text(line)?),
+    }
 }
 
 // The bytes of a content, where there is one.
@@ -89,7 +107,7 @@ pub(crate) fn read_case(
     words: Option<&Value>,
 ) -> Result<Case> {
     let words = match object.get("words").or(words) {
-        Some(words) => Words::Read(words_of(rt.alloc(), text(words)?)?),
+        Some(words) => Words::Read(words_of(rt.alloc(), words)?),
         None => bail!("words are wanted"),
     };
     let files = match object.get("files") {

@@ -2,15 +2,20 @@
 //!
 //! A case file is a list of groups. A group has `files`, an object of contents by the names of the files in the depot, a
 //! list of `cases`, and the `words` of those cases that name none.
+ghost use Rattle.std.specs.Prelude.{◌≡◌, IfOk};
+ghost use Rattle.olap_meaning.specs.Texts.{CanBeShown, plain_text};
+ghost use Rattle.query_meaning.specs.Shown.{Shows};
+
 use crate::around::{depot, link};
 use crate::case::{Case, Stored, files_of, read_case};
 use crate::difference::difference;
 use crate::fields::{field, items, text};
 use crate::outcome::outcome_of;
 use anyhow::{Result, anyhow};
-use olap_meaning::OutOfMemory;
-use olap_server::carry_out;
+use olap_meaning::{CellValue, OutOfMemory, Text};
+use olap_server::{Tools, carry_out};
 use serde_json::Value;
+use shown_values::{Showing, plain_formatter, shown_plainly};
 use std::marker::Brand;
 use std::rt::Files;
 use std::sync::ledger::Blank;
@@ -31,12 +36,24 @@ fn difference_at(
     let most = if most == 0 { None } else { Some(most as usize) };
     let mut depot = depot(alloc, files, case.fetch).map_err(no_memory)?;
     let mut link = link(alloc, case, most).map_err(no_memory)?;
+    let show: Showing = Box::new(
+        alloc,
+        move |value: &CellValue| -> std::result::Result<Text, OutOfMemory>
+            requires { CanBeShown value.now }
+            ensures plain { IfOk result (λ text. text ≡ plain_text value.now) }
+            ensures shows { IfOk result (Shows value.now) }
+        { shown_plainly(alloc, value) },
+    )?;
+    let tools = Tools {
+        formatter: plain_formatter(show),
+    };
     let ended = carry_out::<_, _, Brand>(
         rt,
         alloc,
         &case.words,
         &mut depot,
         &mut link,
+        &tools,
         Blank::new(1),
     );
     let found = (outcome_of(&ended), link.output().taken());

@@ -1,5 +1,5 @@
 //! The levels of a cube, their members and the members' children, from the trees of members.
-ghost use Rattle.std.specs.Prelude.{◌≡◌, ◌<◌, ◌⊎◌, ◌++◌, ℕ, Ok, Err, All, length, drop, map, option_map, slice_get, IfOk, IfErr, IfSome, option_copied};
+ghost use Rattle.std.specs.Prelude.{◌≡◌, ◌<◌, ◌⊎◌, ◌++◌, ℕ, Ok, Err, All, length, drop, map, option_map, slice_get, IfOk, IfErr, IfSome, IsErrAnd, option_copied};
 ghost use Rattle.olap_meaning.specs.Catalog as meaning;
 ghost use Rattle.olap_meaning.specs.MemberOf.{IsLevelIn, IsMemberOf};
 ghost use Rattle.olap_catalog.specs.Members.{or_fault};
@@ -28,8 +28,8 @@ impl Catalog {
             (λ level. meaning.level_of self.now cube path.now ≡ Ok level) }
         ensures own { IfOk result (λ level. IsLevelIn self.now level) }
         ensures err { IfErr result
-            (λ e. (e ≡ NameFault.OutOfMemory)
-            ⊎ (or_fault (meaning.level_of self.now cube path.now) ≡ Err e)) }
+            (λ e. IsErrAnd (meaning.level_of self.now cube path.now)
+            (λ name. (e ≡ NameFault.OutOfMemory) ⊎ (e ≡ NameFault.UnknownMember name))) }
     {
         let _ = &self.hierarchies;
         let root = match self.find_root(cube, path[0].as_str()) {
@@ -54,9 +54,8 @@ impl Catalog {
             ≡ Ok level) }
         ensures own { IfOk result (λ level. IsLevelIn self.now level) }
         ensures err { IfErr result
-            (λ e. (e ≡ NameFault.OutOfMemory)
-            ⊎ (or_fault (meaning.level_from self.now (LevelRef.Whole h) (drop 1 path.now))
-            ≡ Err e)) }
+            (λ e. IsErrAnd (meaning.level_from self.now (LevelRef.Whole h) (drop 1 path.now))
+            (λ name. (e ≡ NameFault.OutOfMemory) ⊎ (e ≡ NameFault.UnknownMember name))) }
     {
         match self.level_place(h, path[1].as_str()) {
             None => Err(unknown(&path[1])),

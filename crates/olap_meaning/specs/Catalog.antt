@@ -1,6 +1,6 @@
 -- Schemas over dimension tables: columns, their values, members, names. (Schema Guide)
-use Rattle.std.specs.Prelude.{Result, Ok, Err, ok_or, ℕ, zero, suc, List, [], ◌∷◌, ◌++◌, not, ◌==◌, Option, Some, None, length, take, map, flat_map, filter, filter_map, position, option_and_then, slice_get, nat_eq, bytes_eq, unwrap_or, codes}
-use Rattle.std.specs.List.{starts_with, enumerate_from, zip}
+use Rattle.std.specs.Prelude.{Result, Ok, Err, ok_or, ℕ, zero, suc, false, List, [], ◌∷◌, ◌++◌, not, ◌==◌, Option, Some, None, length, take, map, flat_map, filter, filter_map, position, option_and_then, slice_get, nat_eq, bytes_eq, unwrap_or, codes}
+use Rattle.std.specs.List.{starts_with, enumerate_from, list_any, zip}
 use Rattle.std.specs.Str.{str_to_ascii_lowercase}
 use Rattle.std.specs.Option.{option_or, option_map_or}
 use Rattle.olap_meaning.specs.FullNames.{joined_name}
@@ -211,6 +211,16 @@ abbrev pub hierarchies_of : Catalog → ℕ → List ℕ
 hierarchies_of catalog cube =
     option_map_or
     (λ c. flat_map (hierarchies_in catalog) c.dimensions) (slice_get catalog.cubes cube) []
+
+-- the same hierarchies, all in the schema's order
+abbrev pub hierarchies_within : Catalog → ℕ → List ℕ
+hierarchies_within catalog cube =
+    map
+    (λ h. h.0)
+    (filter
+    (λ h. option_map_or
+    (λ c. list_any (λ d. d == h.1.dimension) c.dimensions) (slice_get catalog.cubes cube) false)
+    (enumerate_from 0 catalog.hierarchies))
 
 -- what the first name of a path may mean: the measures, or a hierarchy of the cube
 abbrev pub roots : Catalog → ℕ → List LevelRef

@@ -1,10 +1,10 @@
 -- What the words of the command line ask for.
-use Rattle.std.specs.Prelude.{ℕ, Bool, false, ◌==◌, List, [], ◌∷◌, Option, Some, None, bytes_eq, codes, option_map, drop, not, ◌&&◌, nat_eq, if◌then◌else◌}
-use Rattle.std.specs.List.{starts_with}
+use Rattle.std.specs.Prelude.{ℕ, List, [], ◌∷◌, Option, Some, None, bytes_eq, codes, option_map, if◌then◌else◌}
 use Rattle.std.specs.Option.{option_and_then}
 use Rattle.olap_meaning.specs.declared.Aggregator.{Aggregator}
 use Rattle.olap_meaning.specs.declared.Aggregator.TheVariants.{Sum, Count, Min, Max, Avg, DistinctCount}
 use Rattle.olap_meaning.specs.FileQuery.{FileQuery}
+use Rattle.olap_meaning.specs.Options.{run_file}
 
 -- the command `cell`: a query of one file
 pub record CellCommand : Type 0 where
@@ -44,35 +44,15 @@ cell_command (file ∷ []) = None
 cell_command (file ∷ column ∷ []) = None
 cell_command (file ∷ column ∷ name ∷ words) = behind_cell file column name words
 
--- a word can stand as the file of an option: it is not empty, and does not begin with a hyphen
-abbrev pub is_file_word : List ℕ → Bool
-is_file_word [] = false
-is_file_word (c ∷ text) = not (c == 45)
-
--- the file of the option `--schema` in one word, with = between name and file, which is not empty
-abbrev pub joined_file : List ℕ → Option (List ℕ)
-joined_file option =
-    if starts_with nat_eq option (codes "--schema=") && not (bytes_eq option (codes "--schema="))
-    then Some (drop 9 option)
-    else None
-
--- the file of the option `--schema`, in one word or in two; None where the words are no such option
-abbrev pub schema_file : List (List ℕ) → Option (List ℕ)
-schema_file [] = None
-schema_file (option ∷ []) = joined_file option
-schema_file (option ∷ file ∷ []) =
-    if bytes_eq option (codes "--schema") && is_file_word file then Some file else None
-schema_file (option ∷ file ∷ others) = None
-
 -- what a command line asks for: a cell of a file; or a session over the cache that the schema of a file opens
 pub data Command : Type 0 where
   Cell : CellCommand → Command
   Run : List ℕ → Command
 
--- the command of the words, cell .. or run --schema FILE; None where they are no command line
+-- the command of the words, cell FILE .. or run --schema FILE; None where they are no command line
 abbrev pub command_of : List (List ℕ) → Option Command
 command_of [] = None
 command_of (first ∷ words) =
     if bytes_eq first (codes "cell") then option_map Cell (cell_command words)
-    else if bytes_eq first (codes "run") then option_map Run (schema_file words)
+    else if bytes_eq first (codes "run") then option_map Run (run_file words)
     else None

@@ -5,6 +5,7 @@ pub mod FullNames
 pub mod Limits
 pub mod Records
 pub mod FileQuery
+pub mod Options
 pub mod Commands
 pub mod Catalog
 pub mod MemberOf

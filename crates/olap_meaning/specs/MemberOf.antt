@@ -24,8 +24,8 @@ is_path catalog [] (value ∷ path) = false
 is_path catalog (column ∷ columns) (value ∷ path) =
     nat_lt value (length (values catalog column)) && is_path catalog columns path
 
--- a member is a catalog's: a measure of the cube, the all member of a hierarchy that has one, or a member of a
--- hierarchy by a path
+-- a member is one that a catalog knows: a measure of the cube; or of any of its hierarchies the all member, where there is
+-- one, or what a path leads to, each of whose values its level has, though no record need have them together
 abbrev pub IsMemberOf : Catalog → ℕ → Member → Type 0
 IsMemberOf catalog cube (member.Measure m) =
     (cube < length catalog.cubes) × (m < measure_count catalog cube)
@@ -34,7 +34,7 @@ IsMemberOf catalog cube (member.All h) =
 IsMemberOf catalog cube (member.At h path) =
     (h < length catalog.hierarchies) × (is_path catalog (level_columns catalog h) path ≡ true)
 
--- some levels are a catalog's: the measures, all levels of a hierarchy, or one of them
+-- some levels are ones that a catalog knows: the measures, all levels of a hierarchy, or one of them
 abbrev pub IsLevelIn : Catalog → LevelRef → Type 0
 IsLevelIn catalog Measures = Unit {0}
 IsLevelIn catalog (Whole h) = h < length catalog.hierarchies

@@ -97,7 +97,8 @@ pub record IsWithinCube (cube : SchemaCube) : Type 0 where
   pub dimensions : length cube.dimensions ≤ USE_LIMIT
   pub measures : length cube.measures ≤ MEASURE_LIMIT
 
--- a schema is within the limits: of dimensions, of cubes, and of levels over all hierarchies, of which each has one
+-- a schema is within the limits: of dimensions, of hierarchies, of levels over all hierarchies, and of cubes, each within
+-- its own
 pub record IsWithinLimits (schema : Schema) : Type 0 where
   pub dimensions : length schema.dimensions ≤ DIMENSION_LIMIT
   pub hierarchies : length (hierarchies_in schema) ≤ LEVEL_LIMIT

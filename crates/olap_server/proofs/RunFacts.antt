@@ -14,6 +14,7 @@ use Rattle.cache_opening.specs.declared.fault.OpenFault.{OpenFault}
 use Rattle.cache_opening.specs.declared.fault.OpenFault.TheVariants as fault
 use Rattle.history_core.specs.History.{HistoryOf}
 use Rattle.history_core.specs.Cache.{CacheOf}
+use Rattle.line_session.specs.Replies.{Texts}
 use Rattle.olap_server.specs.Asked.{IsAsked, MayLackMemory}
 use Rattle.olap_server.specs.Run.{Around, AskedTells, EndsRun, IsCutOff, IsLastLine, IsTold, OpeningTells, SayTells, ServesDesk, Tells, cache_of}
 use Rattle.olap_server.specs.Said.{Said, no_memory, told_opening}
@@ -29,21 +30,26 @@ cache_is history after same entries =
     ap with_entries entries ∙ ap with_setting same
 
 -- a session over a cache is one over the cache of its history
-pub ends_run : (files : Option Files) (opened after : CacheOf) (history : HistoryOf) (start finish : Around) (status : Status) → history.setting ≡ after.setting → history.entries ≡ after.entries
-    → ServesDesk files opened after start finish status → EndsRun files opened history start finish status
-ends_run files opened after history start finish status same entries serves = subst (λ (k : CacheOf). ServesDesk files opened k start finish status) (sym (cache_is history after same entries)) serves
+pub ends_run : (texts : Texts) (files : Option Files) (opened after : CacheOf) (history : HistoryOf) (start finish : Around) (status : Status) → history.setting ≡ after.setting → history.entries ≡ after.entries
+    → ServesDesk texts files opened after start finish status → EndsRun texts files opened history start finish status
+ends_run texts files opened after history start finish status same entries serves = subst (λ (k : CacheOf). ServesDesk texts files opened k start finish status) (sym (cache_is history after same entries)) serves
 
 -- there was no memory to begin
 pub has_not_begun :
-    (files : Option Files) (opened after : CacheOf) (start finish : Around) (status : Status) (said : Said) → after ≡ opened → said ≡ no_memory → IsLastLine said.status said.text start.talk finish.talk status → finish.answers ≡ start.answers → finish.left ≡ start.left
-    → ServesDesk files opened after start finish status
-has_not_begun files opened after start finish status said unserved is last unasked unread =
+    (texts : Texts) (files : Option Files) (opened after : CacheOf) (start finish : Around) (status : Status) (said : Said) → after ≡ opened → said ≡ no_memory → IsLastLine said.status said.text start.talk finish.talk status → finish.answers ≡ start.answers → finish.left ≡ start.left
+    → ServesDesk texts files opened after start finish status
+has_not_begun texts files opened after start finish status said unserved is last unasked unread =
     inr (record {
       same = unserved;
       last = subst (λ (s : Said). IsLastLine s.status s.text start.talk finish.talk status) is last;
       unasked = unasked;
       unread = unread;
     })
+
+-- what holds of a history by two things that do
+pub of_history : (o : Option HistoryOf) (P Q R : HistoryOf → Type 0) → ((history : HistoryOf) → P history → Q history → R history) → IfSome o P → IfSome o Q → IfSome o R
+of_history None P Q R both first second = tt
+of_history (Some history) P Q R both first second = both history first second
 
 none_asked : (files : Option Files) → IfSome files (λ all. All (IsOf all) [])
 none_asked None = tt
@@ -77,24 +83,26 @@ asked_never (Some (Run file)) files before after text h = h
 
 -- what is told of words has a cause by what they ask for
 pub by_asked : (words : Words) (command : Option Command) (files : Option Files) (before after : List Fetched) (status : Status) (text : List ℕ) → IsAsked words command → AskedTells command files before after status text → Tells words files before after status text
-by_asked (Read given) command files before after status text asked tells = subst (λ (o : Option Command). AskedTells o files before after status text) asked tells
+by_asked (Read given) command files before after status text asked tells = inl (subst (λ (o : Option Command). AskedTells o files before after status text) asked tells)
 by_asked NotText command files before after status text asked tells = subst (λ (o : Option Command). AskedTells o files before after status text) asked tells
 by_asked OutOfMemory command files before after status text asked tells = absurd asked
 
 -- that there was no memory may be told of words that are a command line, or for which there was none
 pub by_memory : (words : Words) (files : Option Files) (answers : List Fetched) → MayLackMemory words → Tells words files answers answers no_memory.status no_memory.text
-by_memory (Read given) files answers may = of _ may
+by_memory (Read given) files answers (inl some) = inl (of _ some)
   where
     of : (command : Option Command) → IsSome command → AskedTells command files answers answers no_memory.status no_memory.text
     of None some = absurd (cc some)
     of (Some (Cell command)) some = record { asked = inl refl; line_is = refl }
     of (Some (Run file)) some = (fault.OutOfMemory, (λ e. absurd (cc e)), leads_nowhere files answers (opening_from file), refl)
+by_memory (Read given) files answers (inr may) = inr (may, (refl, refl, refl))
 by_memory NotText files answers may = absurd may
 by_memory OutOfMemory files answers may = (refl, refl, refl)
 
 -- whatever has a cause, it is not the status of a failed send
 never_sink : (words : Words) (files : Option Files) (before after : List Fetched) (text : List ℕ) → Tells words files before after Sink text → ⊥
-never_sink (Read given) files before after text tells = asked_never _ files before after text tells
+never_sink (Read given) files before after text (inl tells) = asked_never _ files before after text tells
+never_sink (Read given) files before after text (inr (may, tells)) = absurd (cc (tells.1))
 never_sink NotText files before after text tells = asked_never None files before after text tells
 never_sink OutOfMemory files before after text tells = absurd (cc (tells.1))
 

@@ -11,6 +11,7 @@ use Rattle.line_session.specs.declared.end.SessionEnd.{SessionEnd}
 use Rattle.line_session.specs.declared.end.SessionEnd.TheVariants as end
 use Rattle.line_session.specs.Desks.{DeskOf, rows_started}
 use Rattle.line_session.specs.Conversations.{HasConversed, fresh}
+use Rattle.line_session.specs.Replies.{Texts}
 use Rattle.line_session.specs.Sessions.{IsServed, byte_limit}
 use Rattle.fault_texts.specs.FaultTexts.{fact_line}
 use Rattle.olap_meaning.specs.Commands.{CellCommand, Command, Cell, Run, command_of}
@@ -23,7 +24,7 @@ use Rattle.outside.specs.Talks.{cut, taken}
 use Rattle.outside.specs.Told.{Files, file_named}
 use Rattle.outside.specs.declared.depot.DepotRefusal.{DepotRefusal}
 use Rattle.outside.specs.declared.depot.DepotRefusal.TheVariants.{Missing, Failed}
-use Rattle.olap_server.specs.Asked.{IsAsked}
+use Rattle.olap_server.specs.Asked.{IsAsked, may_be_run}
 use Rattle.olap_server.specs.Faults.{refusal_text, told_fault}
 use Rattle.olap_server.specs.Said.{Said, budget_line, memory_line, no_file_line, no_memory, source_line, told_opening, usage_line}
 use Rattle.olap_server.specs.declared.status.Status.{Status}
@@ -146,15 +147,21 @@ AskedTells (Some (Cell command)) files before after status text =
 AskedTells (Some (Run file)) files before after status text =
     OpeningTells file files before after status text
 
--- a run over these words that opens no cache tells this status and this text: by what they ask for, or that there was
--- no memory for the words
+-- nothing was asked for, and it is told that there was no memory
+abbrev pub TellsNoMemory : List Fetched → List Fetched → Status → List ℕ → Type 0
+TellsNoMemory before after status text =
+    (after ≡ before) × (status ≡ Memory) × (text ≡ memory_line)
+
+-- a run over these words that opens no cache tells this status and this text: by what they ask for; or that there was
+-- no memory for the words, or to read what may be the options of `run`
 abbrev pub Tells : Words → Option Files → List Fetched → List Fetched → Status → List ℕ → Type 0
 Tells (words.Read given) files before after status text =
     AskedTells (command_of (map string_bytes given.items)) files before after status text
+    ⊎ ((may_be_run (map string_bytes given.items) ≡ true)
+    × TellsNoMemory before after status text)
 Tells words.NotText files before after status text =
     AskedTells None files before after status text
-Tells words.OutOfMemory files before after status text =
-    (after ≡ before) × (status ≡ Memory) × (text ≡ memory_line)
+Tells words.OutOfMemory files before after status text = TellsNoMemory before after status text
 
 -- the status has its cause, and just its text was sent
 pub record IsTold (words : Words) (files : Option Files) (start finish : Around)
@@ -206,15 +213,15 @@ desk_over cache = record { cache = cache; seat = 1; alone = true; fronts = None 
 
 -- a session was served over a cache, which was a conversation, and then the last was said; where the link tells what
 -- is left, the lines that were handled are those of it
-pub record HasServed (files : Option Files) (opened cache : CacheOf) (start finish : Around)
+pub record HasServed (texts : Texts) (files : Option Files) (opened cache : CacheOf) (start finish : Around)
     (status : Status) : Type 0 where
   pub end : SessionEnd
   pub talk : List Event
   pub asked : List Fetched
-  pub conversed : HasConversed start.talk talk start.answers finish.answers files
+  pub conversed : HasConversed texts start.talk talk start.answers finish.answers files
       (fresh byte_limit) (desk_over opened) (desk_over cache) end
   pub answered : finish.answers ≡ start.answers ++ asked
-  pub served : IsServed byte_limit end
+  pub served : IsServed texts byte_limit end
       (record { before = desk_over opened; after = desk_over cache; asked = asked }) start.left
       (taken start.talk) (taken talk)
   pub last : IsLast end talk finish.talk status
@@ -232,15 +239,15 @@ abbrev pub cache_of : HistoryOf → CacheOf
 cache_of history = record { setting = history.setting; entries = history.entries }
 
 -- a session over a cache was served, or could not begin
-abbrev pub ServesDesk : Option Files → CacheOf → CacheOf → Around → Around → Status → Type 0
-ServesDesk files opened cache start finish status =
-    HasServed files opened cache start finish status
+abbrev pub ServesDesk : Texts → Option Files → CacheOf → CacheOf → Around → Around → Status → Type 0
+ServesDesk texts files opened cache start finish status =
+    HasServed texts files opened cache start finish status
     ⊎ HasNotBegun opened cache start finish status
 
 -- a run ends over a cache that was opened: its session was served, or could not begin
-abbrev pub EndsRun : Option Files → CacheOf → HistoryOf → Around → Around → Status → Type 0
-EndsRun files opened history start finish status =
-    ServesDesk files opened (cache_of history) start finish status
+abbrev pub EndsRun : Texts → Option Files → CacheOf → HistoryOf → Around → Around → Status → Type 0
+EndsRun texts files opened history start finish status =
+    ServesDesk texts files opened (cache_of history) start finish status
 
 -- as many steps were added at most as the loads have rows that were started in a cache
 abbrev pub IsWithin : CacheOf → HistoryOf → ℕ → ℕ → Type 0
@@ -252,12 +259,12 @@ abbrev pub with_answers : Around → List Fetched → Around
 with_answers around answers = record around { answers = answers }
 
 -- a run of the words opened a cache from their schema's file, and then served a session over it
-pub record RunsSession (words : Words) (files : Option Files) (start finish : Around)
+pub record RunsSession (texts : Texts) (words : Words) (files : Option Files) (start finish : Around)
     (steps_before steps_after : ℕ) (history : HistoryOf) (status : Status) : Type 0 where
   pub file : List ℕ
   pub command : IsAsked words (Some (Run file))
   pub cache : CacheOf
   pub answers : List Fetched
   pub opened : IsOpened files start.answers answers file cache
-  pub ends : EndsRun files cache history (with_answers start answers) finish status
+  pub ends : EndsRun texts files cache history (with_answers start answers) finish status
   pub steps : IsWithin cache history steps_before steps_after

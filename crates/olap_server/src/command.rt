@@ -1,11 +1,11 @@
 //! What the words of a command line ask for.
-ghost use Rattle.std.specs.Prelude.{◌≡◌, IfOk, IsSome, OnErr, map, option_map, string_bytes};
+ghost use Rattle.std.specs.Prelude.{◌≡◌, IfOk, OnErr, map, option_map, string_bytes};
 ghost use Rattle.olap_meaning.specs.Commands.{command_of};
-ghost use Rattle.olap_server.specs.Asked.{IsAsked, MayLackMemory, asked};
+ghost use Rattle.olap_server.specs.Asked.{IsAsked, MayLackMemory, MayWant, asked};
 
 use crate::cell_command::{CellCommand, read_cell};
-use crate::run_words::schema_file;
 use crate::words::Words;
+use command_words::{CommandFault, read_run};
 use olap_meaning::OutOfMemory;
 use std::alloc::Global;
 
@@ -22,16 +22,17 @@ pub(crate) enum Command<'a> {
 fn read_command<'a>(alloc: Global, words: &'a [String]) -> Result<Option<Command<'a>>, OutOfMemory>
     ensures command { IfOk result
         (λ command. option_map asked command ≡ command_of (map string_bytes words.now)) }
-    ensures err { OnErr result (IsSome (command_of (map string_bytes words.now))) }
+    ensures err { OnErr result (MayWant (map string_bytes words.now)) }
 {
     match words {
         [first, rest @ ..] if first.as_str() == "cell" => match read_cell(alloc, rest)? {
             Some(command) => Ok(Some(Command::Cell(command))),
             None => Ok(None),
         },
-        [first, rest @ ..] if first.as_str() == "run" => match schema_file(rest) {
-            Some(file) => Ok(Some(Command::Run(file))),
-            None => Ok(None),
+        [first, rest @ ..] if first.as_str() == "run" => match read_run(alloc, rest) {
+            Ok(options) => Ok(Some(Command::Run(options.schema))),
+            Err(CommandFault::Usage) => Ok(None),
+            Err(CommandFault::OutOfMemory) => Err(OutOfMemory),
         },
         _ => Ok(None),
     }

@@ -1,6 +1,7 @@
 //! The top call with a counter of its own.
 ghost use Rattle.std.specs.Prelude.{◌≡◌, ◌≢◌, ℕ, IfSome, None};
 ghost use Rattle.olap_meaning.specs.Legal.{Legal};
+ghost use Rattle.shown_values.specs.Given.{Given};
 ghost use Rattle.olap_server.specs.Run.{IsCutOff, IsTold, RunsSession, around_of};
 
 use crate::sessions::Ended;
@@ -8,7 +9,9 @@ use crate::status::Status;
 use crate::top_call::run;
 use crate::words::Words;
 use fact_versions::Steps;
+use line_session::Tools;
 use outside::{Depot, Link};
+use shown_values::{Formatter, GivesTexts};
 use std::alloc::Global;
 use std::sync::ledger::{Blank, Ledger};
 use std::thread::Threads;
@@ -20,13 +23,16 @@ pub fn carry_out<D: Depot, K: Link, L: Ledger>(
     words: &Words,
     depot: &mut D,
     link: &mut K,
+    tools: &Tools,
     blank: Blank,
 ) -> Ended
     requires name { blank.name ≡ L.name }
     requires parts { blank.parts ≡ L.parts }
     requires one { blank.parts ≡ 1 }
     ensures session { IfSome result.history
-        (λ history. (steps : ℕ) × RunsSession words.now (D.files depot.old)
+        (λ history. (steps : ℕ) × RunsSession
+        (Given (⟦<Formatter as GivesTexts>⟧.answers tools.now.formatter))
+        words.now (D.files depot.old)
         (around_of D.answers K.talk K.left depot.old link.old)
         (around_of D.answers K.talk K.left depot.new link.new) 0 steps history result.status) }
     ensures legal { IfSome result.history (λ history. Legal history.setting history.entries) }
@@ -40,5 +46,5 @@ pub fn carry_out<D: Depot, K: Link, L: Ledger>(
         (around_of D.answers K.talk K.left depot.new link.new) }
 {
     let mut steps: Steps<L> = Steps::new(blank);
-    run(rt, alloc, words, depot, link, &mut steps)
+    run(rt, alloc, words, depot, link, tools, &mut steps)
 }

@@ -3,6 +3,7 @@ ghost use Rattle.std.specs.Prelude.{◌≡◌, ◌≢◌, ◌≤◌, ◌+◌, []
 ghost use Rattle.history_core.specs.Seats.{NoneFlies, entries_of};
 ghost use Rattle.line_session.specs.Desks.{rows_started};
 ghost use Rattle.olap_meaning.specs.Legal.{Legal};
+ghost use Rattle.shown_values.specs.Given.{Given};
 ghost use Rattle.olap_server.specs.Run.{EndsRun, IsLast, IsWithin, SayTells, ServesDesk, around_of};
 ghost use Rattle.olap_server.specs.Said.{budget_line, no_memory};
 
@@ -13,11 +14,12 @@ use cache_opening::OpenFault;
 use fact_versions::Steps;
 use fault_texts::{batch_line, rows_line, schema_line, table_line};
 use history_core::History;
-use line_session::{BYTE_LIMIT, SessionEnd, serve};
+use line_session::{BYTE_LIMIT, SessionEnd, Tools, serve};
 use manager_desk::ManagerDesk;
 use olap_catalog::Catalog;
 use olap_meaning::{OutOfMemory, Text, named_line};
 use outside::{Depot, Link};
+use shown_values::{Formatter, GivesTexts};
 use std::alloc::Global;
 use std::sync::Arc;
 use std::sync::ledger::Ledger;
@@ -87,17 +89,19 @@ fn serve_with<D: Depot, K: Link, L: Ledger>(
     catalog: &Catalog,
     depot: &mut D,
     link: &mut K,
+    tools: &Tools,
     steps: &mut Steps<L>,
 ) -> Status
     requires catalog { catalog.now ≡ desk.old.setting.catalog }
-    ensures served { ServesDesk (D.files depot.old) desk.old desk.new
+    ensures served { ServesDesk (Given (⟦<Formatter as GivesTexts>⟧.answers tools.now.formatter))
+        (D.files depot.old) desk.old desk.new
         (around_of D.answers K.talk K.left depot.old link.old)
         (around_of D.answers K.talk K.left depot.new link.new) result }
     ensures at_least { steps.old ≤ steps.new }
     ensures at_most { steps.new
         ≤ steps.old + rows_started 1 desk.old.entries desk.new.entries }
 {
-    match serve(alloc, desk, link, depot, catalog, BYTE_LIMIT, steps) {
+    match serve(alloc, desk, link, depot, catalog, tools, BYTE_LIMIT, steps) {
         SessionEnd::Memory => Reply::no_memory().say(link),
         end => last_word(link, end),
     }
@@ -109,9 +113,11 @@ fn serve_desk<D: Depot, K: Link, L: Ledger>(
     desk: &mut ManagerDesk,
     depot: &mut D,
     link: &mut K,
+    tools: &Tools,
     steps: &mut Steps<L>,
 ) -> Status
-    ensures served { ServesDesk (D.files depot.old) desk.old desk.new
+    ensures served { ServesDesk (Given (⟦<Formatter as GivesTexts>⟧.answers tools.now.formatter))
+        (D.files depot.old) desk.old desk.new
         (around_of D.answers K.talk K.left depot.old link.old)
         (around_of D.answers K.talk K.left depot.new link.new) result }
     ensures at_least { steps.old ≤ steps.new }
@@ -119,7 +125,7 @@ fn serve_desk<D: Depot, K: Link, L: Ledger>(
         ≤ steps.old + rows_started 1 desk.old.entries desk.new.entries }
 {
     match Arc::try_clone(desk.catalog()) {
-        Ok(catalog) => serve_with(alloc, desk, &catalog, depot, link, steps),
+        Ok(catalog) => serve_with(alloc, desk, &catalog, depot, link, tools, steps),
         Err(_) => Reply::no_memory().say(link),
     }
 }
@@ -130,11 +136,14 @@ pub(crate) fn serve_opened<D: Depot, K: Link, L: Ledger>(
     opened: Manager,
     depot: &mut D,
     link: &mut K,
+    tools: &Tools,
     steps: &mut Steps<L>,
 ) -> Ended
     requires unused { entries_of opened.entries 1 ≡ [] }
     requires idle { NoneFlies opened.entries }
-    ensures served { IfSome result.history (λ history. EndsRun (D.files depot.old) opened history
+    ensures served { IfSome result.history (λ history. EndsRun
+        (Given (⟦<Formatter as GivesTexts>⟧.answers tools.now.formatter))
+        (D.files depot.old) opened history
         (around_of D.answers K.talk K.left depot.old link.old)
         (around_of D.answers K.talk K.left depot.new link.new) result.status) }
     ensures there { result.history ≢ None }
@@ -142,7 +151,7 @@ pub(crate) fn serve_opened<D: Depot, K: Link, L: Ledger>(
     ensures cost { IfSome result.history (λ history. IsWithin opened history steps.old steps.new) }
 {
     let mut desk = ManagerDesk::new(opened);
-    let status = serve_desk(alloc, &mut desk, depot, link, steps);
+    let status = serve_desk(alloc, &mut desk, depot, link, tools, steps);
     let manager = desk.into_manager();
     manager.steps_are_legal();
     Ended {

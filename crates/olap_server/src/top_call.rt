@@ -8,8 +8,9 @@ ghost use Rattle.fault_texts.specs.FaultTexts.{fact_line};
 ghost use Rattle.olap_meaning.specs.Texts.{line, plain_text};
 ghost use Rattle.olap_meaning.specs.FileQuery.{answer_of};
 ghost use Rattle.olap_meaning.specs.Legal.{Legal};
+ghost use Rattle.shown_values.specs.Given.{Given};
 ghost use Rattle.olap_server.specs.Faults.{refusal_text};
-ghost use Rattle.olap_server.specs.Said.{IsSaid, Said, no_memory};
+ghost use Rattle.olap_server.specs.Said.{IsSaid, Said, memory_line, no_memory};
 ghost use Rattle.olap_server.specs.Run.{AnswerTells, CellTells, EndsRun, IsCutOff, IsLastLine, IsTold, IsWithin, OpeningTells, RunsSession, around_of, with_answers};
 
 use crate::cell::cell_of_csv;
@@ -23,14 +24,16 @@ use crate::words::Words;
 use cache_opening::open_cache;
 use fact_versions::Steps;
 use fault_texts::fact_line;
+use line_session::Tools;
 use olap_meaning::{CellValue, OutOfMemory, Text, named_line, plain_text};
 use outside::{Depot, DepotRefusal, Link};
+use shown_values::{Formatter, GivesTexts};
 use std::alloc::Global;
 use std::sync::ledger::Ledger;
 use std::thread::Threads;
 
 /// Carries out a command line: its words are those behind the program's name. Where it opens a cache, it serves a session
-/// over it on a link, and gives the cache's history.
+/// over it on a link with these tools, and gives the cache's history.
 ///
 /// It takes one link, and no input and output apart, since what is promised of the order of what is received and what is
 /// sent is said of one object. Threads of the runtime read the parts of a large file for `cell`, and end before the call
@@ -41,10 +44,13 @@ pub fn run<D: Depot, K: Link, L: Ledger>(
     words: &Words,
     depot: &mut D,
     link: &mut K,
+    tools: &Tools,
     steps: &mut Steps<L>,
 ) -> Ended
     // Where a cache was opened, a session was served over it.
-    ensures session { IfSome result.history (λ history. RunsSession words.now (D.files depot.old)
+    ensures session { IfSome result.history (λ history. RunsSession
+        (Given (⟦<Formatter as GivesTexts>⟧.answers tools.now.formatter))
+        words.now (D.files depot.old)
         (around_of D.answers K.talk K.left depot.old link.old)
         (around_of D.answers K.talk K.left depot.new link.new)
         steps.old steps.new history result.status) }
@@ -66,7 +72,7 @@ pub fn run<D: Depot, K: Link, L: Ledger>(
     ensures no_step { result.history ≡ None → steps.new ≡ steps.old }
 {
     match read_words(alloc, words) {
-        Ok(Some(Command::Run(file))) => run_session(alloc, file, depot, link, steps),
+        Ok(Some(Command::Run(file))) => run_session(alloc, file, depot, link, tools, steps),
         Ok(Some(Command::Cell(command))) => {
             let reply = reply_to_command(rt, alloc, &command, depot);
             without_cache(link, &reply)
@@ -74,6 +80,13 @@ pub fn run<D: Depot, K: Link, L: Ledger>(
         Ok(None) => without_cache(link, &Reply::fixed(Status::Usage, "USAGE\n")),
         Err(OutOfMemory) => without_cache(link, &Reply::no_memory()),
     }
+}
+
+/// Says that there was no memory to begin.
+pub fn refuse_for_memory<K: Link>(link: &mut K) -> Status
+    ensures { IsLastLine Status.Memory memory_line (K.talk link.old) (K.talk link.new) result }
+{
+    Reply::no_memory().say(link)
 }
 
 // Says how a command ended that opened no cache.
@@ -95,12 +108,14 @@ fn run_session<D: Depot, K: Link, L: Ledger>(
     file: &str,
     depot: &mut D,
     link: &mut K,
+    tools: &Tools,
     steps: &mut Steps<L>,
 ) -> Ended
     ensures session { IfSome result.history (λ history. (opened : CacheOf)
         × (answers : List Fetched)
         × IsOpened (D.files depot.old) (D.answers depot.old) answers file.now opened
-        × EndsRun (D.files depot.old) opened history
+        × EndsRun (Given (⟦<Formatter as GivesTexts>⟧.answers tools.now.formatter))
+        (D.files depot.old) opened history
         (with_answers (around_of D.answers K.talk K.left depot.old link.old) answers)
         (around_of D.answers K.talk K.left depot.new link.new) result.status
         × IsWithin opened history steps.old steps.new) }
@@ -113,7 +128,7 @@ fn run_session<D: Depot, K: Link, L: Ledger>(
     ensures no_step { result.history ≡ None → steps.new ≡ steps.old }
 {
     match open_cache(alloc, depot, file) {
-        Ok(manager) => serve_opened(alloc, manager, depot, link, steps),
+        Ok(manager) => serve_opened(alloc, manager, depot, link, tools, steps),
         Err(fault) => {
             let reply = reply_to_opening(alloc, &fault);
             without_cache(link, &reply)

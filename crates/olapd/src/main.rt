@@ -1,8 +1,14 @@
 //! `olapd`: answers cells over CSV files.
 #![tactic(auto)]
 
-use olap_server::{Words, carry_out};
+ghost use Rattle.std.specs.Prelude.{◌≡◌, IfOk};
+ghost use Rattle.olap_meaning.specs.Texts.{CanBeShown, plain_text};
+ghost use Rattle.query_meaning.specs.Shown.{Shows};
+
+use olap_meaning::{CellValue, OutOfMemory, Text};
+use olap_server::{Tools, Words, carry_out, refuse_for_memory};
 use outside::{FolderDepot, Pair, StdSink, StdSource};
+use shown_values::{Showing, plain_formatter, shown_plainly};
 use std::io::ErrorKind;
 use std::marker::Brand;
 use std::process::ExitCode;
@@ -28,12 +34,29 @@ fn main(rt: HostRuntime) -> ExitCode {
     let mut depot = FolderDepot::new(&rt);
     let mut link = Pair::new(StdSource::new(&rt), StdSink::new(&rt));
     let words = given(words(&rt));
+    let alloc = rt.alloc();
+    let shown = Box::new(
+        alloc,
+        move |value: &CellValue| -> Result<Text, OutOfMemory>
+            requires { CanBeShown value.now }
+            ensures plain { IfOk result (λ text. text ≡ plain_text value.now) }
+            ensures shows { IfOk result (Shows value.now) }
+        { shown_plainly(alloc, value) },
+    );
+    let Ok(show) = shown else {
+        return ExitCode::from(refuse_for_memory(&mut link).number());
+    };
+    let show: Showing = show;
+    let tools = Tools {
+        formatter: plain_formatter(show),
+    };
     let ended = carry_out::<_, _, Brand>(
         &rt,
-        rt.alloc(),
+        alloc,
         &words,
         &mut depot,
         &mut link,
+        &tools,
         Blank::new(1),
     );
     ExitCode::from(ended.status.number())

@@ -7,9 +7,8 @@ use Rattle.olap_meaning.specs.declared.cells.Member.{Member}
 use Rattle.olap_meaning.specs.declared.cells.Member.TheVariants as member
 use Rattle.olap_meaning.specs.declared.cells.LevelRef.{LevelRef}
 use Rattle.olap_meaning.specs.declared.cells.LevelRef.TheVariants.{Measures, Whole}
-use Rattle.olap_meaning.specs.Catalog.{box, default_member}
+use Rattle.olap_meaning.specs.Catalog.{box, default_member, hierarchies_within}
 use Rattle.query_meaning.specs.declared.axes.Axes.{Axes}
-use Rattle.query_meaning.specs.CellQueries.{hierarchies_within}
 use Rattle.query_meaning.specs.Grids.{row_tuples}
 use Rattle.query_meaning.specs.Resolution.{is_root, root_of}
 
@@ -20,7 +19,7 @@ standing_among catalog cube members root =
     option_or
     (find (λ one. is_root (root_of one) root) members) (default_member catalog cube root)
 
--- the number of a measure; another member has none
+-- the number of a measure, and 0 for another member
 abbrev pub measure_number : Member → ℕ
 measure_number (member.Measure m) = m
 measure_number (member.All h) = 0

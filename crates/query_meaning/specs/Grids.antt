@@ -1,17 +1,15 @@
 -- The grids of answers.
-use Rattle.std.specs.Prelude.{ℕ, ◌+◌, ◌*◌, ◌++◌, Bool, true, false, ◌||◌, not, List, [], ◌∷◌, codes, filter, map, length, slice_index_or}
-use Rattle.std.specs.Fmt.{decimal}
+use Rattle.std.specs.Prelude.{ℕ, ◌+◌, ◌*◌, Bool, true, false, ◌||◌, not, List, [], ◌∷◌, filter, map, length, slice_index_or}
 use Rattle.std.specs.List.{list_any, range_with_len}
 use Rattle.std.specs.Option.{option_map_or}
 use Rattle.olap_meaning.specs.declared.CellValue.{CellValue}
 use Rattle.olap_meaning.specs.declared.CellValue.TheVariants.{Empty, Whole, Hundredths}
 use Rattle.olap_meaning.specs.declared.tables.Catalog.{Catalog}
 use Rattle.olap_meaning.specs.declared.cells.Member.{Member}
-use Rattle.olap_meaning.specs.Texts.{plain_text, line}
 use Rattle.query_meaning.specs.declared.axes.Axes.{Axes}
 use Rattle.query_meaning.specs.declared.grids.Grid.{Grid}
 use Rattle.query_meaning.specs.declared.grids.GridRow.{GridRow}
-use Rattle.query_meaning.specs.Titles.{title, tuple_title}
+use Rattle.query_meaning.specs.Titles.{tuple_title}
 
 -- the tuples of the rows; without a rows axis there is one row, of the tuple without members
 abbrev pub row_tuples : Axes → List (List Member)
@@ -80,19 +78,3 @@ grid_of catalog axes position values =
       columns = map (title_at catalog axes.cube axes.columns.tuples) columns;
       rows = map (grid_row catalog axes values columns) (shown_rows axes values);
     }
-
--- a tab, between the parts of a line
-abbrev pub tab : List ℕ
-tab = 9 ∷ []
-
--- the grid of one cell, by the position of its answer, the title of its column and its value: one column, one row
--- without a title, and a dot at the end
-abbrev pub cell_grid : ℕ → List ℕ → CellValue → List ℕ
-cell_grid position title value =
-    line (codes "GRID " ++ decimal position ++ codes " 1 1") ++ line (codes "C" ++ tab ++ title)
-    ++ line (codes "R" ++ tab ++ tab ++ plain_text value) ++ line (codes ".")
-
--- the grid of one cell under a member
-abbrev pub member_grid : Catalog → ℕ → ℕ → Member → CellValue → List ℕ
-member_grid catalog cube position member value =
-    cell_grid position (title catalog cube member) value

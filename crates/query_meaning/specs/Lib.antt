@@ -9,14 +9,11 @@ pub mod Sizes
 pub mod Falls
 pub mod Grammar
 pub mod WholeQueries
-pub mod CellTokens
-pub mod Queries
 pub mod Shown
 pub mod Titles
 pub mod GridForm
 pub mod Grids
 pub mod OwnAxes
-pub mod CellQueries
 pub mod Resolution
 pub mod AxisCells
 pub mod Requests

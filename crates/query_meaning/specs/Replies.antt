@@ -2,7 +2,7 @@
 use Rattle.std.specs.Prelude.{ℕ, ◌++◌, List, codes}
 use Rattle.std.specs.Fmt.{decimal}
 use Rattle.olap_meaning.specs.Texts.{line, named_line}
-use Rattle.query_meaning.specs.CellQueries.{NoMatch, NoCube, NoMember}
+use Rattle.query_meaning.specs.Resolution.{Refusal, NoCube, NoMember, AxisTwice, MixedSet, TooManyCells}
 
 -- the reply to a line that is longer than a line may be
 abbrev pub too_long_reply : List ℕ
@@ -20,10 +20,18 @@ no_command_reply = line (codes "ERR 3 COMMAND")
 abbrev pub syntax_reply : ℕ → List ℕ
 syntax_reply byte = line (codes "ERR 4 SYNTAX " ++ decimal byte)
 
--- the reply to a name without a match
-abbrev pub no_match_reply : NoMatch → List ℕ
-no_match_reply (NoCube name) = named_line (codes "ERR 5 CUBE") name
-no_match_reply (NoMember name) = named_line (codes "ERR 6 MEMBER") name
+-- the reply to a name that no cube has
+abbrev pub no_cube_reply : List ℕ → List ℕ
+no_cube_reply name = named_line (codes "ERR 5 CUBE") name
+
+-- the reply to a query that means no axes, by its first refusal
+abbrev pub refusal_reply : Refusal → List ℕ
+refusal_reply (NoCube name) = no_cube_reply name
+refusal_reply (NoMember name) = named_line (codes "ERR 6 MEMBER") name
+refusal_reply (AxisTwice hierarchy) = named_line (codes "ERR 7 AXIS TWICE") hierarchy
+refusal_reply (MixedSet at) = line (codes "ERR 8 MIXED " ++ decimal at)
+refusal_reply (TooManyCells count limit) =
+    line (codes "ERR 9 CELLS " ++ decimal count ++ codes " " ++ decimal limit)
 
 -- the reply to an append whose file is not there
 abbrev pub no_file_reply : List ℕ → List ℕ

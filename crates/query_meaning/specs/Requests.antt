@@ -1,10 +1,8 @@
--- The commands of a line, and what a line with the command MDX asks for. A line and a text are lists of their bytes.
+-- The commands of a line, and their arguments. A line and a text are lists of their bytes.
 use Rattle.std.specs.Prelude.{ℕ, ◌≡◌, ◌⊎◌, ◌&&◌, ◌||◌, List, [], ◌∷◌, Bool, true, false, not, Option, Some, None, bytes_eq, codes, drop, is_some, take, nat_le, if◌then◌else◌}
 use Rattle.std.specs.List.{list_all, list_any, position_or_len}
 use Rattle.std.specs.Option.{IsSome, option_map_or}
 use Rattle.std.specs.Str.{is_utf8}
-use Rattle.query_meaning.specs.declared.CellQuery.{CellQuery}
-use Rattle.query_meaning.specs.Queries.{IsCellQuery}
 use Rattle.query_meaning.specs.Tokens.{in_capitals, is_white}
 
 -- an ASCII letter
@@ -54,12 +52,6 @@ commands = codes "MDX" ∷ codes "APPEND" ∷ codes "AFTER" ∷ codes "QUIT" ∷
 -- a line ends the session: QUIT, and white
 abbrev pub is_quit : List ℕ → Bool
 is_quit line = option_map_or is_blank (argument_of (codes "QUIT") line) false
-
--- a line asks for one cell: MDX, and a query of one cell
-pub record AsksFor (line : List ℕ) (query : CellQuery) : Type 0 where
-  pub argument : List ℕ
-  pub command : argument_of (codes "MDX") line ≡ Some argument
-  pub writes : IsCellQuery argument query
 
 -- a line of text has one of the commands to which want of memory may be replied
 abbrev pub MayFindNoMemory : List ℕ → Type 0

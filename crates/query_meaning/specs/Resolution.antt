@@ -16,8 +16,9 @@ use Rattle.query_meaning.specs.declared.query.Query.{Query}
 use Rattle.query_meaning.specs.declared.set_text.Picks.TheVariants as picks
 use Rattle.query_meaning.specs.Tree.{Set, Sets, Braces, Cross, Tuple, Picked, none, more}
 
--- why a query means no axes: no cube has its name; a name has no match among the members; a hierarchy stands twice; an
--- item in braces, by the byte at which it begins, is of other hierarchies than those before it; or it has too many cells
+-- why a query means no axes: no cube has its name; a name has no match in the cube, or is one too many; a hierarchy stands
+-- twice; an item in braces, by the byte at which it begins, is of other hierarchies than the first item that is not open;
+-- or it has too many cells
 pub data Refusal : Type 0 where
   NoCube : (name : List ℕ) → Refusal
   NoMember : (name : List ℕ) → Refusal

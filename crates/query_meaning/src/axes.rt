@@ -2,7 +2,7 @@
 
 use olap_meaning::{CubeId, List, Member};
 
-/// An axis: its tuples, in their order. Each tuple is a list of members, of the same hierarchies in the same order.
+/// An axis: its tuples, in their order. Each tuple is a list of members.
 #[derive(Drop)]
 pub struct Axis {
     /// Positions whose cells are all empty are not shown.

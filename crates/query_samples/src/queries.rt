@@ -1,6 +1,5 @@
 //! The axes that the text of a query means.
-ghost use Rattle.std.specs.Prelude.{◌<◌, All, IfOk, length};
-ghost use Rattle.olap_meaning.specs.MemberOf.{IsMemberOf};
+ghost use Rattle.std.specs.Prelude.{IfOk};
 ghost use Rattle.query_meaning.specs.OwnAxes.{AreAxesOf};
 
 use cell_request::{ResolveFault, resolve};
@@ -26,11 +25,7 @@ pub fn asked(
     catalog: &Catalog,
     text: &str,
 ) -> Result<Result<Axes, ResolveFault>, Fail>
-    ensures within { IfOk result
-        (λ meant. IfOk meant (λ axes. axes.cube < length catalog.now.cubes)) }
-    ensures own { IfOk result (λ meant. IfOk meant (AreAxesOf catalog.now)) }
-    ensures slicer { IfOk result
-        (λ meant. IfOk meant (λ axes. All (IsMemberOf catalog.now axes.cube) axes.slicer)) }
+    ensures { IfOk result (λ meant. IfOk meant (AreAxesOf catalog.now)) }
 {
     let query = read(alloc, text)?;
     Ok(resolve(alloc, catalog, &query))

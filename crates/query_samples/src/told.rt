@@ -1,6 +1,4 @@
 //! What queries mean, as text.
-ghost use Rattle.std.specs.Prelude.{◌<◌, All, IsSome, length};
-ghost use Rattle.olap_meaning.specs.MemberOf.{IsMemberOf};
 ghost use Rattle.query_meaning.specs.OwnAxes.{AreAxesOf, AreTuplesOf};
 
 use crate::queries::asked;

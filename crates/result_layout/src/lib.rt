@@ -3,13 +3,11 @@
 //! What shows values and what reads grids back is given on from below.
 #![tactic(auto)]
 
-mod cell;
 mod layout;
 mod places;
 mod rows;
 mod titles;
 
-pub use cell::{cell_grid, member_grid};
 pub use grid_reader::{GridFault, read_grid};
 pub use layout::grid;
 pub use query_meaning::{Grid, GridRow};

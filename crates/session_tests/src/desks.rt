@@ -1,14 +1,18 @@
 //! Sessions over a desk, where the limit of bytes or that of rows is another than that of a run.
-ghost use Rattle.std.specs.Prelude.{◌≡◌, ◌≤◌};
+ghost use Rattle.std.specs.Prelude.{◌≡◌, ◌≤◌, IfOk};
+ghost use Rattle.olap_meaning.specs.Texts.{CanBeShown, plain_text};
+ghost use Rattle.query_meaning.specs.Shown.{Shows};
 ghost use Rattle.line_session.specs.Sessions.{byte_limit};
 
 use crate::links::numbered;
 use cache_manager::Manager;
 use fact_versions::Steps;
-use line_session::{SessionEnd, serve};
+use line_session::{SessionEnd, Tools, serve};
 use manager_desk::ManagerDesk;
-use olap_meaning::{List, OutOfMemory, ROW_LIMIT, Text};
+use olap_meaning::{CellValue, List, OutOfMemory, ROW_LIMIT, Text};
 use outside::{Calls, MemoryDepot, MemoryLink, MemorySink, MemorySource, Pair};
+use query_samples::told_grid;
+use shown_values::{Formatter, Showing, plain_formatter, shown_plainly, shown_with_commas};
 use std::alloc::Global;
 use std::marker::Brand;
 use std::sync::Arc;
@@ -34,7 +38,10 @@ fn copy(alloc: Global, bytes: &[u8]) -> Result<List<u8>, OutOfMemory> {
     Ok(List::from_vec(Vec::from_slice(alloc, bytes)?))
 }
 
-// A depot of the first batch and a later one.
+// A batch of a great number and one below zero.
+const LARGE: &[u8] = b"time_id,store_id,customer,units\n1,1,10,1234567\n2,2,11,-7654321\n";
+
+// A depot of the first batch, a later one, and one of large numbers.
 fn depot(alloc: Global) -> Result<MemoryDepot, OutOfMemory> {
     let mut files = List::new(alloc);
     files.push((Text::from_str(alloc, "sales.csv")?, copy(alloc, sales())?))?;
@@ -42,6 +49,7 @@ fn depot(alloc: Global) -> Result<MemoryDepot, OutOfMemory> {
         Text::from_str(alloc, "b2.csv")?,
         copy(alloc, later_sales())?,
     ))?;
+    files.push((Text::from_str(alloc, "large.csv")?, copy(alloc, LARGE)?))?;
     Ok(MemoryDepot::new(files, Calls::passing(alloc)))
 }
 
@@ -58,6 +66,7 @@ fn served<L: Ledger>(
     row_limit: u32,
     most: u64,
     link: &mut MemoryLink,
+    tools: &Tools,
     blank: Blank,
 ) -> Result<SessionEnd, Fail>
     requires rows { row_limit ≤ ROW_LIMIT }
@@ -71,7 +80,7 @@ fn served<L: Ledger>(
     let mut steps: Steps<L> = Steps::new(blank);
     let catalog = Arc::try_clone(desk.catalog())?;
     Ok(serve(
-        alloc, &mut desk, link, &mut depot, &catalog, most, &mut steps,
+        alloc, &mut desk, link, &mut depot, &catalog, tools, most, &mut steps,
     ))
 }
 
@@ -93,13 +102,63 @@ const SESSIONS: [(u32, u64, &[u8], SessionEnd, &[u8]); 5] = [
 #[test]
 fn a_session_has_the_limits_of_its_desk(rt: HostRuntime) -> Result<(), Fail> {
     let alloc = rt.alloc();
+    let show: Showing = Box::new(
+        alloc,
+        move |value: &CellValue| -> Result<Text, OutOfMemory>
+            requires { CanBeShown value.now }
+            ensures plain { IfOk result (λ text. text ≡ plain_text value.now) }
+            ensures shows { IfOk result (Shows value.now) }
+        { shown_plainly(alloc, value) },
+    )?;
+    let tools = Tools {
+        formatter: plain_formatter(show),
+    };
     for (row_limit, most, bytes, end, sent) in &SESSIONS {
         let mut link = link(alloc, *bytes)?;
         let row_limit = (*row_limit).min(ROW_LIMIT);
         let most = (*most).min(1_000);
-        let ended = served::<Brand>(alloc, row_limit, most, &mut link, Blank::new(1))?;
+        let ended = served::<Brand>(alloc, row_limit, most, &mut link, &tools, Blank::new(1))?;
         assert_eq!(rt; ended, *end);
         assert_eq!(rt; link.output().taken(), *sent);
     }
+    Ok(())
+}
+
+// What is sent before the grid, the grid with commas, and what it is read back as.
+const VERSION: &[u8] = b"VERSION 1 1\n";
+
+const WITH_COMMAS: &[u8] =
+    b"GRID 4 3 1\nC\t[Time].[1997].[Q1]\nC\t[Time].[1997].[Q2]\nC\t[Time].[1998].[Q1]\nR\t[Store].[CA]\t1,234,567\t-7,654,321\t\n.\n";
+
+const READ_BACK: &str =
+    "GRID 4 3 1\nC\t[Time].[1997].[Q1]\nC\t[Time].[1997].[Q2]\nC\t[Time].[1998].[Q1]\nR\t[Store].[CA]\t1234567\t-7654321\t\n.\n";
+
+#[test]
+fn a_grid_with_commas_is_read_back(rt: HostRuntime) -> Result<(), Fail> {
+    let alloc = rt.alloc();
+    let show: Showing = Box::new(
+        alloc,
+        move |value: &CellValue| -> Result<Text, OutOfMemory>
+            requires { CanBeShown value.now }
+            ensures { IfOk result (Shows value.now) }
+        { shown_with_commas(alloc, value) },
+    )?;
+    let tools = Tools {
+        formatter: Formatter::new(show),
+    };
+    let mut link = link(
+        alloc,
+        b"APPEND [Sales] large.csv\nMDX SELECT [Time].[Quarter].Members ON 0, {[Store].[CA]} ON 1 FROM [Sales]\n",
+    )?;
+    let ended = served::<Brand>(alloc, ROW_LIMIT, 1_000, &mut link, &tools, Blank::new(1))?;
+    assert_eq!(rt; ended, SessionEnd::EndOfInput);
+    let Some(grid) = link.output().taken().strip_prefix(VERSION) else {
+        return Err(Fail::from("no version"));
+    };
+    assert_eq!(rt; grid, WITH_COMMAS);
+    let Some(read) = told_grid(alloc, grid)? else {
+        return Err(Fail::from("no grid"));
+    };
+    assert_eq!(rt; read.as_str(), READ_BACK);
     Ok(())
 }

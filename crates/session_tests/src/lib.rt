@@ -1,4 +1,4 @@
-//! Tests of lines, queries and the outside, where types are needed: whatever can be said as files, words and bytes is a
+//! Tests of lines, sessions and the outside, where types are needed: whatever can be said as files, words and bytes is a
 //! case of `olap_cases`. They stand apart, since a crate with tests is proved twice.
 #![tactic(auto)]
 
@@ -10,8 +10,6 @@ mod faults;
 mod links;
 #[cfg(test)]
 mod long_lines;
-#[cfg(test)]
-mod queries;
 #[cfg(test)]
 mod recorded;
 #[cfg(test)]

@@ -1,9 +1,14 @@
 //! What passes of a run at whose link one call fails, held against the plain definition of a conversation.
+ghost use Rattle.std.specs.Prelude.{◌≡◌, IfOk};
+ghost use Rattle.olap_meaning.specs.Texts.{CanBeShown, plain_text};
+ghost use Rattle.query_meaning.specs.Shown.{Shows};
+
 use crate::links::numbered;
 use crate::recorded::{Passed, Recorded};
-use olap_meaning::{List, OutOfMemory, Text};
-use olap_server::{Words, carry_out};
+use olap_meaning::{CellValue, List, OutOfMemory, Text};
+use olap_server::{Tools, Words, carry_out};
 use outside::{Calls, MemoryDepot, MemoryLink, MemorySink, MemorySource, Pair};
+use shown_values::{Showing, plain_formatter, shown_plainly};
 use std::alloc::Global;
 use std::marker::Brand;
 use std::sync::ledger::Blank;
@@ -136,6 +141,17 @@ fn words(alloc: Global) -> Result<Words, Fail> {
 fn whatever_call_fails_a_run_is_a_conversation(rt: HostRuntime) -> Result<(), Fail> {
     let alloc = rt.alloc();
     let words = words(alloc)?;
+    let show: Showing = Box::new(
+        alloc,
+        move |value: &CellValue| -> Result<Text, OutOfMemory>
+            requires { CanBeShown value.now }
+            ensures plain { IfOk result (λ text. text ≡ plain_text value.now) }
+            ensures shows { IfOk result (Shows value.now) }
+        { shown_plainly(alloc, value) },
+    )?;
+    let tools = Tools {
+        formatter: plain_formatter(show),
+    };
     for most in [7, 60] {
         for number in 0..30 {
             for (receive, send) in [(Some(number), None), (None, Some(number))] {
@@ -147,6 +163,7 @@ fn whatever_call_fails_a_run_is_a_conversation(rt: HostRuntime) -> Result<(), Fa
                     &words,
                     &mut depot,
                     &mut link,
+                    &tools,
                     Blank::new(1),
                 );
                 assert!(rt; is_conversation(link.passed()));

@@ -1,8 +1,10 @@
 //! The texts of values.
-ghost use Rattle.std.specs.Prelude.{◌≡◌, IfOk, string_bytes};
+ghost use Rattle.std.specs.Prelude.{ℕ, ◌≡◌, List, IfOk, string_bytes};
 ghost use Rattle.olap_meaning.specs.Texts.{CanBeShown, plain_text};
 ghost use Rattle.query_meaning.specs.Shown.{Shows, bare, breaks};
+ghost use Rattle.shown_values.specs.Given.{Given};
 
+use crate::formatter::{Formatter, GivesTexts, Showing};
 use olap_meaning::{CellValue, OutOfMemory, Text, plain_text};
 use std::alloc::Global;
 
@@ -24,6 +26,20 @@ pub fn shown_with_commas(alloc: Global, value: &CellValue) -> Result<Text, OutOf
     let plain = plain_text(alloc, value)?;
     let text = with_commas(alloc, plain.as_str())?;
     Ok(Text::from_string(text))
+}
+
+/// A formatter by a closure that shows each value by its plain text, as `shown_plainly` does. Each text that it gives for a
+/// value is the value's plain text.
+pub fn plain_formatter(show: Showing) -> Formatter
+    requires callable { (value : _) → CanBeShown value.now → Showing.pre show value }
+    requires plain { (value : _) (text : _) → CanBeShown value.now
+        → Showing.post show value text → IfOk text (λ text. text ≡ plain_text value.now) }
+    requires shows { (value : _) (text : _) → CanBeShown value.now
+        → Showing.post show value text → IfOk text (Shows value.now) }
+    ensures { (value : CellValue) (text : List ℕ) → CanBeShown value
+        → Given (⟦<Formatter as GivesTexts>⟧.answers result) value text → text ≡ plain_text value }
+{
+    Formatter::new(show)
 }
 
 // The number of digits before the dot.

@@ -12,7 +12,6 @@ pub mod lines;
 pub mod loads;
 pub mod members;
 pub mod opened;
-pub mod requests;
 mod samples;
 
 use catalog_tables::Table;

@@ -4,4 +4,4 @@ use Rattle.input_lines.proofs.Arguments.{asked_by}
 use Rattle.input_lines.proofs.request.read_request.Goals as goal
 
 pub returns-in-Some-argument_of-clause-request : goal.returns-in-Some-argument_of-clause-request
-returns-in-Some-argument_of-clause-request c = asked_by (codes "MDX") c.in-Some-argument_of.argument.now c.in-Some.text.now c.args.line.now c.ask_cell.result c.in-Some.ensures.0 c.in-Some.ensures.1 c.in-Some-argument_of.ensures c.ask_cell.ensures
+returns-in-Some-argument_of-clause-request c = asked_by (codes "MDX") c.in-Some-argument_of.argument.now c.in-Some.text.now c.args.line.now c.ask_query.result c.in-Some.ensures.0 c.in-Some.ensures.1 c.in-Some-argument_of.ensures.found c.ask_query.ensures

@@ -1,4 +1,0 @@
-pub mod BoxFacts
-pub mod FaultFacts
-pub mod CellFacts
-pub mod MeasureFacts
