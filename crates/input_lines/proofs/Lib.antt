@@ -7,3 +7,5 @@ pub mod Hearing
 pub mod Falling
 pub mod Words
 pub mod Arguments
+pub mod Commands
+pub mod Only

@@ -23,3 +23,9 @@ abbrev pub Asks : List ℕ → List ℕ → meaning.Request → Type 0
 Asks word argument request =
     (line : List ℕ) → is_utf8 line ≡ true → argument_of word line ≡ Some argument
     → meaning.IsRequest line request
+
+-- each line of text that has this command, by its word, and this argument asks for nothing else
+abbrev pub AsksOnly : List ℕ → List ℕ → meaning.Request → Type 0
+AsksOnly word argument request =
+    (line : List ℕ) → is_utf8 line ≡ true → argument_of word line ≡ Some argument
+    → meaning.IsOnly line request

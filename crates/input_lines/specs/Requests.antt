@@ -62,3 +62,7 @@ IsRequest line (Append argument) =
 IsRequest line (Ask query) =
     (is_utf8 line ≡ true) × HasArgument (codes "MDX") WritesQuery line query
 IsRequest line Unbuilt = (is_utf8 line ≡ true) × (has_one_of unbuilt_commands line ≡ true)
+
+-- a line asks for nothing else
+abbrev pub IsOnly : List ℕ → Request → Type 0
+IsOnly line request = (other : Request) → IsRequest line other → other ≡ request

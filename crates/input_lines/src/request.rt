@@ -2,8 +2,8 @@
 ghost use Rattle.std.specs.Prelude.{◌≡◌, ◌<◌, ◌^◌, IfOk, MatchOption, OnErr, codes, false, is_some, length, true};
 ghost use Rattle.std.specs.Str.{is_utf8};
 ghost use Rattle.query_meaning.specs.Requests.{MayFindNoMemory, argument_of, has_one_of, unbuilt_commands};
-ghost use Rattle.input_lines.specs.Asked.{Asks, asked};
-ghost use Rattle.input_lines.specs.Requests.{IsRequest};
+ghost use Rattle.input_lines.specs.Asked.{Asks, AsksOnly, asked};
+ghost use Rattle.input_lines.specs.Requests.{IsOnly, IsRequest};
 
 use crate::argument::{argument_of, is_blank};
 use command_arguments::{AppendArgument, ReadFault, read_append, read_blank, read_position};
@@ -69,7 +69,8 @@ fn has_unbuilt_command(line: &str) -> bool
 // What the command MDX with this argument asks for.
 fn ask_query(alloc: Global, argument: &str) -> Result<Request, OutOfMemory>
     requires { length argument.now < 2 ^ 32 }
-    ensures { IfOk result (λ request. Asks (codes "MDX") argument.now (asked request)) }
+    ensures request { IfOk result (λ request. Asks (codes "MDX") argument.now (asked request)) }
+    ensures one { IfOk result (λ request. AsksOnly (codes "MDX") argument.now (asked request)) }
 {
     match read_query(alloc, argument) {
         Ok(query) => Ok(Request::Ask(query)),
@@ -80,7 +81,8 @@ fn ask_query(alloc: Global, argument: &str) -> Result<Request, OutOfMemory>
 
 // What the command APPEND with this argument asks for.
 fn ask_append(alloc: Global, argument: &str) -> Result<Request, OutOfMemory>
-    ensures { IfOk result (λ request. Asks (codes "APPEND") argument.now (asked request)) }
+    ensures request { IfOk result (λ request. Asks (codes "APPEND") argument.now (asked request)) }
+    ensures one { IfOk result (λ request. AsksOnly (codes "APPEND") argument.now (asked request)) }
 {
     match read_append(alloc, argument) {
         Ok(append) => Ok(Request::Append(append)),
@@ -92,6 +94,7 @@ fn ask_append(alloc: Global, argument: &str) -> Result<Request, OutOfMemory>
 // What the command AFTER with this argument asks for.
 fn ask_after(alloc: Global, argument: &str) -> Result<Request, OutOfMemory>
     ensures request { IfOk result (λ request. Asks (codes "AFTER") argument.now (asked request)) }
+    ensures one { IfOk result (λ request. AsksOnly (codes "AFTER") argument.now (asked request)) }
     ensures never { OnErr result ⊥ }
 {
     match read_position(alloc, argument) {
@@ -104,6 +107,7 @@ fn ask_after(alloc: Global, argument: &str) -> Result<Request, OutOfMemory>
 // What the command QUIT with this argument asks for.
 fn ask_quit(alloc: Global, argument: &str) -> Result<Request, OutOfMemory>
     ensures request { IfOk result (λ request. Asks (codes "QUIT") argument.now (asked request)) }
+    ensures one { IfOk result (λ request. AsksOnly (codes "QUIT") argument.now (asked request)) }
     ensures never { OnErr result ⊥ }
 {
     match read_blank(alloc, argument) {
@@ -113,10 +117,11 @@ fn ask_quit(alloc: Global, argument: &str) -> Result<Request, OutOfMemory>
     }
 }
 
-/// What a line asks for. Only a line with the command MDX or APPEND takes memory.
+/// The one thing that a line asks for. Only a line with the command MDX or APPEND takes memory.
 pub fn read_request(alloc: Global, line: &[u8]) -> Result<Request, OutOfMemory>
     requires { length line.now < 2 ^ 32 }
     ensures request { IfOk result (λ request. IsRequest line.now (asked request)) }
+    ensures one { IfOk result (λ request. IsOnly line.now (asked request)) }
     ensures err { OnErr result (MayFindNoMemory line.now) }
 {
     let Some(text) = text_of(line) else {

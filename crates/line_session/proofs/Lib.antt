@@ -9,3 +9,4 @@ pub mod Conversing
 pub mod Sending
 pub mod Serving
 pub mod Rows
+pub mod Answered

@@ -4,3 +4,4 @@ pub mod Replies
 pub mod Sessions
 pub mod Conversations
 pub mod Turns
+pub mod Answered

@@ -185,10 +185,11 @@ AnswersRequest texts dealing (Ask query) position reply =
 AnswersRequest texts dealing Unbuilt position reply =
     StandsStill dealing position × (reply ≡ unbuilt_reply)
 
--- a line was read, and answered
+-- a line was read, which asks for this and for nothing else, and answered
 pub record AnswersLine (texts : Texts) (dealing : Dealing) (handled : Handled) : Type 0 where
   pub request : Request
   pub asks : IsRequest handled.line request
+  pub only : (other : Request) → IsRequest handled.line other → other ≡ request
   pub answers : AnswersRequest texts dealing request handled.position handled.reply
 
 -- there was no memory to read a line, which added nothing

@@ -4,6 +4,10 @@
 //! a case file is.
 #![tactic(auto)]
 
+ghost use Rattle.std.specs.Prelude.{◌≡◌, IfOk};
+ghost use Rattle.olap_meaning.specs.Texts.{CanBeShown, plain_text};
+ghost use Rattle.query_meaning.specs.Shown.{Shows};
+
 mod around;
 mod case;
 mod content;
@@ -13,25 +17,52 @@ mod group;
 mod outcome;
 
 use anyhow::{Context, Result};
+use olap_meaning::{CellValue, OutOfMemory, Text};
+use olap_server::Tools;
 use serde_json::Value;
-use std::rt::Files;
+use shown_values::{Showing, plain_formatter, shown_plainly};
+use std::rt::{Env, Files};
 use std::thread::Threads;
 use std::{env, fs};
 
 // The cases of a file, one line each.
-fn tell_file(rt: &(impl Files + AllocGlobal + Print + Threads + Sync), name: &str) -> Result<()> {
+fn tell_file(
+    rt: &(impl Files + AllocGlobal + Print + Threads + Sync),
+    tools: &Tools,
+    name: &str,
+) -> Result<()> {
     let alloc = rt.alloc();
     let text = fs::read_to_string(rt, name)?;
     let groups = Value::from_str(alloc, text.as_str())?;
     for group in fields::items(&groups)? {
-        group::tell(rt, group)?;
+        group::tell(rt, tools, group)?;
+    }
+    Ok(())
+}
+
+// The cases of the files that words name.
+fn tell_files(
+    rt: &(impl Files + Env + AllocGlobal + Print + Threads + Sync),
+    tools: &Tools,
+) -> Result<()> {
+    for name in env::args(rt)?.skip(1) {
+        tell_file(rt, tools, name.as_str()).context(name.as_str())?;
     }
     Ok(())
 }
 
 fn main(rt: HostRuntime) -> Result<()> {
-    for name in env::args(&rt)?.skip(1) {
-        tell_file(&rt, name.as_str()).context(name.as_str())?;
-    }
-    Ok(())
+    let alloc = rt.alloc();
+    let show: Showing = Box::new(
+        alloc,
+        move |value: &CellValue| -> std::result::Result<Text, OutOfMemory>
+            requires { CanBeShown value.now }
+            ensures plain { IfOk result (λ text. text ≡ plain_text value.now) }
+            ensures shows { IfOk result (Shows value.now) }
+        { shown_plainly(alloc, value) },
+    )?;
+    let tools = Tools {
+        formatter: plain_formatter(show),
+    };
+    tell_files(&rt, &tools)
 }

@@ -99,6 +99,20 @@ const SESSIONS: [(u32, u64, &[u8], SessionEnd, &[u8]); 5] = [
     ),
 ];
 
+// Whether each session ends so, and this is sent.
+fn all_end_so(alloc: Global, tools: &Tools) -> Result<bool, Fail> {
+    for (row_limit, most, bytes, end, sent) in &SESSIONS {
+        let mut link = link(alloc, *bytes)?;
+        let row_limit = (*row_limit).min(ROW_LIMIT);
+        let most = (*most).min(1_000);
+        let ended = served::<Brand>(alloc, row_limit, most, &mut link, tools, Blank::new(1))?;
+        if ended != *end || link.output().taken() != *sent {
+            return Ok(false);
+        }
+    }
+    Ok(true)
+}
+
 #[test]
 fn a_session_has_the_limits_of_its_desk(rt: HostRuntime) -> Result<(), Fail> {
     let alloc = rt.alloc();
@@ -113,14 +127,7 @@ fn a_session_has_the_limits_of_its_desk(rt: HostRuntime) -> Result<(), Fail> {
     let tools = Tools {
         formatter: plain_formatter(show),
     };
-    for (row_limit, most, bytes, end, sent) in &SESSIONS {
-        let mut link = link(alloc, *bytes)?;
-        let row_limit = (*row_limit).min(ROW_LIMIT);
-        let most = (*most).min(1_000);
-        let ended = served::<Brand>(alloc, row_limit, most, &mut link, &tools, Blank::new(1))?;
-        assert_eq!(rt; ended, *end);
-        assert_eq!(rt; link.output().taken(), *sent);
-    }
+    assert!(rt; all_end_so(alloc, &tools)?);
     Ok(())
 }
 
@@ -132,6 +139,19 @@ const WITH_COMMAS: &[u8] =
 
 const READ_BACK: &str =
     "GRID 4 3 1\nC\t[Time].[1997].[Q1]\nC\t[Time].[1997].[Q2]\nC\t[Time].[1998].[Q1]\nR\t[Store].[CA]\t1234567\t-7654321\t\n.\n";
+
+// What is sent of a session over the large numbers.
+fn sent(alloc: Global, tools: &Tools) -> Result<List<u8>, Fail> {
+    let mut link = link(
+        alloc,
+        b"APPEND [Sales] large.csv\nMDX SELECT [Time].[Quarter].Members ON 0, {[Store].[CA]} ON 1 FROM [Sales]\n",
+    )?;
+    let ended = served::<Brand>(alloc, ROW_LIMIT, 1_000, &mut link, tools, Blank::new(1))?;
+    if ended != SessionEnd::EndOfInput {
+        return Err(Fail::from("another end"));
+    }
+    Ok(copy(alloc, link.output().taken())?)
+}
 
 #[test]
 fn a_grid_with_commas_is_read_back(rt: HostRuntime) -> Result<(), Fail> {
@@ -146,13 +166,8 @@ fn a_grid_with_commas_is_read_back(rt: HostRuntime) -> Result<(), Fail> {
     let tools = Tools {
         formatter: Formatter::new(show),
     };
-    let mut link = link(
-        alloc,
-        b"APPEND [Sales] large.csv\nMDX SELECT [Time].[Quarter].Members ON 0, {[Store].[CA]} ON 1 FROM [Sales]\n",
-    )?;
-    let ended = served::<Brand>(alloc, ROW_LIMIT, 1_000, &mut link, &tools, Blank::new(1))?;
-    assert_eq!(rt; ended, SessionEnd::EndOfInput);
-    let Some(grid) = link.output().taken().strip_prefix(VERSION) else {
+    let sent = sent(alloc, &tools)?;
+    let Some(grid) = sent.as_slice().strip_prefix(VERSION) else {
         return Err(Fail::from("no version"));
     };
     assert_eq!(rt; grid, WITH_COMMAS);

@@ -13,6 +13,7 @@ use std::alloc::Global;
 use std::marker::Brand;
 use std::sync::ledger::Blank;
 use std::test::Fail;
+use std::thread::Threads;
 use test_samples::files::{sales, schema, stores, times};
 
 // The lines of a session, each with its reply.
@@ -137,6 +138,50 @@ fn words(alloc: Global) -> Result<Words, Fail> {
     Ok(Words::Read(words))
 }
 
+// Whether a run is a conversation whose call of this number fails, of the receives or of the sends.
+fn holds(
+    rt: &(impl Threads + Sync),
+    alloc: Global,
+    words: &Words,
+    tools: &Tools,
+    most: usize,
+    receive: Option<u64>,
+    send: Option<u64>,
+) -> Result<bool, Fail> {
+    let mut depot = depot(alloc)?;
+    let mut link = link(alloc, most, receive, send)?;
+    let _ended = carry_out::<_, _, Brand>(
+        rt,
+        alloc,
+        words,
+        &mut depot,
+        &mut link,
+        tools,
+        Blank::new(1),
+    );
+    Ok(is_conversation(link.passed()) && link.link().output().taken().len() <= 1_000)
+}
+
+// Whether runs are conversations whichever call fails.
+fn all_hold(
+    rt: &(impl Threads + Sync),
+    alloc: Global,
+    words: &Words,
+    tools: &Tools,
+) -> Result<bool, Fail> {
+    for most in [7, 60] {
+        for number in 0..30 {
+            if !holds(rt, alloc, words, tools, most, Some(number), None)? {
+                return Ok(false);
+            }
+            if !holds(rt, alloc, words, tools, most, None, Some(number))? {
+                return Ok(false);
+            }
+        }
+    }
+    Ok(true)
+}
+
 #[test]
 fn whatever_call_fails_a_run_is_a_conversation(rt: HostRuntime) -> Result<(), Fail> {
     let alloc = rt.alloc();
@@ -152,24 +197,6 @@ fn whatever_call_fails_a_run_is_a_conversation(rt: HostRuntime) -> Result<(), Fa
     let tools = Tools {
         formatter: plain_formatter(show),
     };
-    for most in [7, 60] {
-        for number in 0..30 {
-            for (receive, send) in [(Some(number), None), (None, Some(number))] {
-                let mut depot = depot(alloc)?;
-                let mut link = link(alloc, most, receive, send)?;
-                let _ended = carry_out::<_, _, Brand>(
-                    &rt,
-                    alloc,
-                    &words,
-                    &mut depot,
-                    &mut link,
-                    &tools,
-                    Blank::new(1),
-                );
-                assert!(rt; is_conversation(link.passed()));
-                assert!(rt; link.link().output().taken().len() <= 1_000);
-            }
-        }
-    }
+    assert!(rt; all_hold(&rt, alloc, &words, &tools)?);
     Ok(())
 }

@@ -10,7 +10,7 @@ use Rattle.line_session.proofs.handle.reply_to_line.Goals as goal
 pub returns-in-Ok-clause-handled : goal.returns-in-Ok-clause-handled
 returns-in-Ok-clause-handled g c =
     let answers = c.reply_to_request-reply.ensures.answered in
-    (answers.0, answers.1, answers.2, answers.3, handles_request _ (between (g.P.Desk.seen c.args.desk.now) (g.P.Desk.seen c.reply_to_request-reply.new.desk) answers.1) c.args.line.now (asked c.in-Ok.request) answers.0 c.reply_to_request-reply.result c.in-Ok.ensures.request answers.4)
+    (answers.0, answers.1, answers.2, answers.3, handles_request _ (between (g.P.Desk.seen c.args.desk.now) (g.P.Desk.seen c.reply_to_request-reply.new.desk) answers.1) c.args.line.now (asked c.in-Ok.request) answers.0 c.reply_to_request-reply.result c.in-Ok.ensures.request c.in-Ok.ensures.one answers.4)
 
 pub returns-in-Ok-clause-grown : goal.returns-in-Ok-clause-grown
 returns-in-Ok-clause-grown g c =

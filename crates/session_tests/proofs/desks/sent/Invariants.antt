@@ -1,5 +1,5 @@
 -- The counter of the steps is new.
-use Rattle.session_tests.proofs.desks.a_grid_with_commas_is_read_back.Given as goal
+use Rattle.session_tests.proofs.desks.sent.Given as goal
 
 abbrev pub ghosts-served : goal.ghosts-served
 ghosts-served g a = record { name = a.blank.name; parts = a.blank.parts }

@@ -1,0 +1,26 @@
+-- What follows for a query from what a session replies to a line.
+use Rattle.std.specs.Prelude.{ℕ, ◌≡◌, ◌≢◌, List, true, Some, Ok, codes}
+use Rattle.std.specs.Str.{is_utf8}
+use Rattle.query_meaning.specs.declared.axes.Axes.{Axes}
+use Rattle.query_meaning.specs.declared.query.Query.{Query}
+use Rattle.query_meaning.specs.AxisCells.{cells_of}
+use Rattle.query_meaning.specs.Replies.{no_memory_reply}
+use Rattle.query_meaning.specs.Requests.{argument_of}
+use Rattle.query_meaning.specs.Resolution.{axes_meant}
+use Rattle.query_meaning.specs.WholeQueries.{WritesQuery}
+use Rattle.history_core.specs.declared.answers.Answer.{Answer}
+use Rattle.line_session.specs.Desks.{HasAsked}
+use Rattle.line_session.specs.Replies.{Dealing, Handled, Handles, IsGridOf, Texts, catalog_of}
+
+-- where a line of text is a query that means axes, and no want of memory is replied, the reply is the grid of an answer to
+-- their cells
+abbrev pub QueriesAreAnswered : Texts → Type 0
+QueriesAreAnswered texts =
+    (dealing : Dealing) (handled : Handled) (argument : List ℕ) (query : Query) (axes : Axes)
+    → Handles texts dealing handled
+    → is_utf8 handled.line ≡ true → argument_of (codes "MDX") handled.line ≡ Some argument
+    → WritesQuery argument query → axes_meant (catalog_of dealing.before) query ≡ Ok axes
+    → handled.reply ≢ no_memory_reply
+    → (answer : Answer)
+    × HasAsked dealing.before dealing.after (cells_of (catalog_of dealing.before) axes) answer
+    × IsGridOf texts (catalog_of dealing.before) axes answer handled.reply
