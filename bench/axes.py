@@ -31,8 +31,6 @@ def measure(query, wanted):
     return min(taken), size
 
 
-kept, _ = measure("trees", "1010010")
-print(f"The members of the catalog's hierarchy are kept in {kept / 10:.0f} ms.\n")
 print("| query | run ms | of it a meaning, ms | greatest set so far, MB |\n|---|---|---|---|")
 alone = None
 for name, (query, wanted) in queries.items():

@@ -11,15 +11,20 @@ import sys
 SEED = 1
 
 
-def rows(count):
+def drawn(count, limits):
+    """So many lists of draws, one below each of the limits."""
     x = SEED
-    yield "time_id,store_id,customer,units\n"
     for _ in range(count):
-        drawn = []
-        for k in (48, 50, 1000, 101):
+        draws = []
+        for k in limits:
             x = (x * 6364136223846793005 + 1442695040888963407) % 2**64
-            drawn.append((x >> 33) % k)
-        time, store, customer, units = drawn
+            draws.append((x >> 33) % k)
+        yield draws
+
+
+def rows(count):
+    yield "time_id,store_id,customer,units\n"
+    for time, store, customer, units in drawn(count, (48, 50, 1000, 101)):
         yield f"{time + 1},{store + 1},{customer},{'' if units == 100 else units}\n"
 
 

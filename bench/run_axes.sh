@@ -6,22 +6,18 @@ set -euo pipefail
 here=$(cd "$(dirname "${BASH_SOURCE[0]}")" && pwd)
 folder=$(mktemp -d)
 trap 'rm -rf "$folder"' EXIT
-mkdir -p "$folder/crates/axes/src" "$folder/crates/axes/proofs/main/member_count"
+mkdir -p "$folder/crates/axes/src"
 cp "$here/../HANDLES" "$here/../LICENSE" "$here/../crates.txt" "$folder"
 cp -r "$here/../crates/." "$folder/crates"
-echo "axes: olap_meaning olap_catalog member_trees mdx_reader cell_request test_samples" >> "$folder/crates.txt"
+echo "axes: olap_catalog mdx_reader cell_request test_samples" >> "$folder/crates.txt"
 cat > "$folder/crates/axes/src/main.rt" <<'END'
 //! Opens a catalog over a table: its input behind the first line. Where that line is not empty, it is a query that is
-//! resolved, a hundred times; or `trees`, and then the members of such a table are kept ten times, and no catalog is opened.
+//! resolved, a hundred times.
 #![tactic(auto)]
-
-ghost use Rattle.std.specs.Prelude.{◌≤◌};
 
 use cell_request::{ResolveFault, resolve};
 use mdx_reader::read_query;
-use member_trees::TreeBuilder;
 use olap_catalog::Catalog;
-use olap_meaning::{OutOfMemory, ValueId};
 use std::alloc::Global;
 use std::io::Read;
 use test_samples::open_catalog;
@@ -45,33 +41,7 @@ fn columns(alloc: Global, catalog: &Catalog, query: &str) -> u64 {
     }
 }
 
-// How many members a table of so many records has, whose levels are ten, ten thousand and all records.
-fn member_count(alloc: Global, records: u32) -> Result<u64, OutOfMemory>
-    requires { records ≤ 1_000_000 }
-{
-    let mut builder = TreeBuilder::new(alloc, 3)?;
-    for i in 0..records {
-        builder = builder.push(&[ValueId(i / 100_000), ValueId(i / 100), ValueId(i)])?;
-    }
-    Ok(builder.finish()?.count_under())
-}
-
-// The same, ten times.
-fn kept(alloc: Global) -> u64 {
-    let mut found = 0;
-    for _ in 0..10 {
-        found = match member_count(alloc, 1_000_000) {
-            Ok(count) => count,
-            Err(OutOfMemory) => 0,
-        };
-    }
-    found
-}
-
 fn answered(alloc: Global, query: &str, table: &str) -> u64 {
-    if query == "trees" {
-        return kept(alloc);
-    }
     let Some(catalog) = open_catalog(alloc, schema(), &[table.as_bytes()]) else {
         return 0;
     };
@@ -95,14 +65,6 @@ fn main(rt: HostRuntime) {
     };
     let _ = println!(rt; "{}", found);
 }
-END
-cat > "$folder/crates/axes/proofs/main/member_count/Invariants.antt" <<'END'
--- The leaves that were added are whole, and so many.
-use Rattle.std.proofs.Common.{◌≡◌, length}
-use Rattle.axes.proofs.main.member_count.Given as goal
-
-abbrev pub invariant-loop-i : goal.invariant-loop-i
-invariant-loop-i l = (l.builder.levels ≡ 3) × (length l.builder.leaves ≡ l.i)
 END
 cd "$folder/crates/axes"
 rt run < /dev/null > "$folder/log" 2>&1 || { cat "$folder/log"; exit 1; }

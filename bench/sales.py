@@ -45,9 +45,10 @@ def schema(fact):
     }
 
 
-count, name = int(sys.argv[1]), sys.argv[2]
-for file, lines in ((f"{name}.csv", rows(count)), ("time.csv", times()), ("store.csv", stores())):
-    with open(file, "w", newline="") as out:
-        out.writelines(lines)
-with open(f"{name}.json", "w") as out:
-    json.dump(schema(f"{name}.csv"), out)
+if __name__ == "__main__":
+    count, name = int(sys.argv[1]), sys.argv[2]
+    for file, lines in ((f"{name}.csv", rows(count)), ("time.csv", times()), ("store.csv", stores())):
+        with open(file, "w", newline="") as out:
+            out.writelines(lines)
+    with open(f"{name}.json", "w") as out:
+        json.dump(schema(f"{name}.csv"), out)

@@ -1,0 +1,159 @@
+"""Lets each allocation of a session of `olapd run` fail, one at a time. usage: failures.py OLAPD LIBRARY, in a folder with the files
+of examples/sales. LIBRARY is what failing.c becomes.
+
+A run in which an allocation fails has to end in one of three ways: before the session, by status 6 and the line MEMORY alone; or
+with each reply right but one, which is ERR 15 MEMORY; or with each reply right. A position may be any that is greater than those
+before it. Each other run is told, with the number of its allocation, and the program then ends with an error.
+"""
+import collections
+import os
+import re
+import subprocess
+import sys
+
+# What is in the files: in 1997 CA sold 5 (customer 10) and 7 (11) in Q1, and 3 (10) in Q2; in 1998 WA has a row without units.
+# b2.csv adds 100 (customer 13) to LA in Q1 of 1997. Kept loads do not change by that, and loads that come later do.
+REPORT = "MDX SELECT {[Measures].[Units], [Measures].[Count]} ON COLUMNS, Crossjoin([Time].[Quarter].Members, [Store].Children) ON ROWS FROM [Sales]"
+BY_QUARTER = """GRID # 2 6
+C	[Measures].[Units]
+C	[Measures].[Count]
+R	[Time].[1997].[Q1], [Store].[CA]	12	2
+R	[Time].[1997].[Q1], [Store].[WA]		
+R	[Time].[1997].[Q2], [Store].[CA]	3	1
+R	[Time].[1997].[Q2], [Store].[WA]		
+R	[Time].[1998].[Q1], [Store].[CA]		
+R	[Time].[1998].[Q1], [Store].[WA]		0
+."""
+CITIES = "MDX SELECT [Measures].Members ON COLUMNS, [Store].[City].Members ON ROWS FROM [Sales]"
+BY_CITY = """GRID # 6 3
+C	[Measures].[Units]
+C	[Measures].[Count]
+C	[Measures].[Average]
+C	[Measures].[Customers]
+C	[Measures].[Least]
+C	[Measures].[Greatest]
+R	[Store].[CA].[LA]	LA
+R	[Store].[CA].[SF]	7	1	7.00	1	7	7
+R	[Store].[WA].[Seattle]						
+."""
+SLICED = "MDX SELECT NON EMPTY [Time].[Year].Members ON COLUMNS FROM [Sales] WHERE ([Measures].[Average], [Store].[CA])"
+BY_YEAR = "GRID # 1 1\nC\t[Time].[1997]\nR\t\tCA\n."
+OLD = {"LA": "8\t2\t4.00\t1\t3\t5", "CA": "5.00"}
+NEW = {"LA": "108\t3\t36.00\t2\t3\t100", "CA": "28.75"}
+SESSION = [
+    (REPORT, BY_QUARTER),
+    (REPORT, BY_QUARTER),
+    ("AFTER 1", "SEEN #"),
+    ("APPEND [Sales] b2.csv", "VERSION # 2"),
+    ("AFTER 1", "SEEN #"),
+    (REPORT, BY_QUARTER),
+    (CITIES, BY_CITY),
+    (CITIES, BY_CITY),
+    ("MDX SELECT {[Measures].[Profit]} ON COLUMNS FROM [Sales]", "ERR 6 MEMBER [Profit]"),
+    ("MDX SELECT x", "ERR 4 SYNTAX 7"),
+    ("APPEND [Sales] none.csv", "ERR 10 FILE [none.csv]"),
+    ("HELLO", "ERR 3 COMMAND"),
+    (SLICED, BY_YEAR),
+    (SLICED, BY_YEAR),
+    ("QUIT", "BYE"),
+]
+APPENDED = 3
+NO_MEMORY, LIMIT, SECONDS = "ERR 15 MEMORY", 1_000_000, 60
+
+olapd, library = sys.argv[1:3]
+
+
+def run(at):
+    """The status, output and errors of a run whose allocation of this number fails, and how many it made."""
+    with open("count", "wb") as it:
+        it.write(bytes(8))
+    env = {**os.environ, "LD_PRELOAD": library, "FAIL_AT": str(at), "FAIL_COUNT": "count"}
+    given = "".join(line + "\n" for line, _ in SESSION)
+    try:
+        ran = subprocess.run([olapd, "run", "--schema", "sales.json"], input=given, capture_output=True, text=True, env=env, timeout=SECONDS)
+        ended = ran.returncode, ran.stdout, ran.stderr
+    except subprocess.TimeoutExpired:
+        ended = None, "", f"no end within {SECONDS} seconds"
+    with open("count", "rb") as it:
+        return *ended, int.from_bytes(it.read(), sys.byteorder)
+
+
+def replies(text):
+    """The replies that were written: a grid goes up to its dot."""
+    found = []
+    for line in text.split("\n")[:-1]:
+        if found and found[-1].startswith("GRID ") and not found[-1].endswith("\n."):
+            found[-1] += "\n" + line
+        else:
+            found.append(line)
+    return found
+
+
+def without_position(reply):
+    """A reply with # for its position, and the position, or None where it has none."""
+    found = re.match(r"(GRID|VERSION|SEEN) ([1-9][0-9]*)(?![0-9])", reply)
+    return (f"{found[1]} #{reply[found.end():]}", int(found[2])) if found else (reply, None)
+
+
+def judge(status, text, errors):
+    """What became of a run: `ended`, `right`, or the place of the line that was answered ERR 15; and what is wrong, or None."""
+    if errors:
+        return None, f"errors were written: {errors[:300]}"
+    if status == 6 and text == "MEMORY\n":
+        return "ended", None
+    if status != 0 or not text.endswith("\n"):
+        return None, f"status {status}, and the end of the output is {text[-100:]!r}"
+    told = replies(text)
+    if len(told) != len(SESSION):
+        return None, f"{len(told)} replies to {len(SESSION)} lines"
+    lacking = [place for place, reply in enumerate(told) if reply == NO_MEMORY]
+    if len(lacking) > 1 or any(not SESSION[it][0].startswith(("MDX ", "APPEND ")) for it in lacking):
+        return None, f"ERR 15 to the lines {[it + 1 for it in lacking]}"
+    fields, last, seen = OLD if lacking == [APPENDED] else NEW, 0, []
+    for place, (reply, (line, wanted)) in enumerate(zip(told, SESSION)):
+        if place in lacking:
+            continue
+        for name, values in fields.items():
+            wanted = wanted.replace(f"\t{name}\n", f"\t{values}\n")
+        reply, position = without_position(reply)
+        if reply != wanted:
+            return None, f"{line}\nwas answered\n{told[place]}"
+        if reply.startswith("SEEN "):
+            seen.append(position)
+        if position is not None and position < last + (not reply.startswith("SEEN ")):
+            return None, f"{told[place].splitlines()[0]} comes behind the position {last}"
+        last = position or last
+    if seen[1] - seen[0] != (lacking != [APPENDED]):
+        return None, f"the append has made {seen[1] - seen[0]} entries"
+    return (lacking[0] if lacking else "right"), None
+
+
+status, text, errors, count = run(0)
+if count == 0:
+    sys.exit("no allocation was counted: the program does not take its memory from the C library's malloc, or not by its name")
+became, wrong = judge(status, text, errors)
+if became != "right":
+    sys.exit(f"where no allocation fails: {wrong or became}")
+outcomes, faults = collections.defaultdict(list), 0
+for at in range(1, LIMIT):
+    status, text, errors, count = run(at)
+    became, wrong = judge(status, text, errors)
+    if count < at and became == "right":
+        break
+    if count < at and wrong is None:
+        wrong = f"{became}, though no allocation failed"
+    if wrong is None:
+        outcomes[became].append(at)
+        continue
+    faults += 1
+    print(f"allocation {at}: {wrong}", flush=True)
+    if count < at:
+        break
+for place, (line, _) in enumerate(SESSION):
+    if place in outcomes:
+        print(f"line {place + 1} was answered {NO_MEMORY} {len(outcomes[place])} times: {line}")
+if outcomes["right"]:
+    print(f"not needed: {', '.join(map(str, outcomes['right']))}")
+lacking = sum(len(outcomes[it]) for it in range(len(SESSION)))
+print(f"{at - 1} allocations failed, one at a time: {len(outcomes['ended'])} ended with status 6 before the session, {lacking} were answered {NO_MEMORY}, {len(outcomes['right'])} were not needed, {faults} went wrong")
+sys.exit(1 if faults else 0)
