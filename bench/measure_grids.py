@@ -1,7 +1,7 @@
 """Measures the grids of `olapd run` in a folder of its own. usage: measure_grids.py OLAPD PLAIN ROUNDS
 
 In each round each program runs once on each case, one after the other, so that what else the machine does falls on all
-alike; a case that takes long runs in the first round alone. The time of a program is its best round, from its start to its end,
+alike; a case that takes long runs once. The time of a program is its best round, from its start to its end,
 with files as its input and output. Busy is the time of the processors, the best round too. Its memory is its greatest resident
 set, in a further run.
 """
@@ -16,8 +16,9 @@ CITIES, SMALL, LARGE = 100, 100_000, 1_000_000
 BY_CELLS = {CITIES: 100, 1_000: 20, 10_000: 2}
 BY_ROWS = [SMALL, 250_000, 500_000, LARGE]
 AGAIN_SQLITE = 3
-# A run of more seconds is long.
+# A run in which the processors are busy for more seconds is long.
 LONG = 5
+PROGRAMS = ("olapd", "plain", "sqlite3")
 LINE = "MDX SELECT [Measures].Members ON COLUMNS, [Store].[City].Members ON ROWS FROM [Sales]\n"
 TABLES = """CREATE TABLE time (time_id INTEGER PRIMARY KEY, year TEXT, quarter TEXT, month TEXT);
 CREATE TABLE store (store_id INTEGER PRIMARY KEY, state TEXT, city TEXT);
@@ -113,14 +114,16 @@ def compare_table(size, mine, table, times):
         sys.exit(f"{size}: sqlite3 has rows that olapd has not: {list(told)[:3]}")
 
 
-sizes = list(dict.fromkeys([(SMALL, cities) for cities in BY_CELLS] + [(rows, CITIES) for rows in BY_ROWS]))
+main = [(SMALL, CITIES), (LARGE, CITIES)]
+by_cells, by_rows = [(SMALL, cities) for cities in BY_CELLS], [(rows, CITIES) for rows in BY_ROWS]
+sizes = list(dict.fromkeys(main + by_cells + by_rows))
 best, told, cases = {}, {}, {}
 for size in sizes:
     make(*size, name_of(*size))
     two, third = cases_of(*size)
     for case, it in two.items():
         cases[size, case] = it
-    if size in ((SMALL, CITIES), (LARGE, CITIES)):
+    if size in main:
         for case, it in third.items():
             cases[size, case] = it
     else:
@@ -129,7 +132,7 @@ for size in sizes:
 for _ in range(rounds):
     for key, (words, given) in cases.items():
         before = best.get(key)
-        if before and before[0] > LONG:
+        if before and before[1] > LONG:
             continue
         *taken, text = run_on_files(words, given)
         if told.setdefault(key, text) != text:
@@ -172,13 +175,9 @@ def table(heads, lines):
         print(f"| {' | '.join(line)} |")
 
 
-def of_both(write, *arguments):
-    """What a function tells of olapd and of the plain program."""
-    return [write(*arguments, it) for it in ("olapd", "plain")]
-
-
-def told_ms(measured, size, busy, program):
-    return f"{measured(size, program, busy):.3f}"
+def of_each(measured, size, busy, programs=PROGRAMS[:2]):
+    """What a cold grid takes, or a warm one, of each program."""
+    return [f"{measured(size, it, busy):.3f}" for it in programs]
 
 
 def of_run(size, case):
@@ -193,32 +192,36 @@ def of_run(size, case):
 def of_cells(size, busy):
     """The line of a grid by its cells."""
     cells = len(MEASURES) * size[1]
-    each = [f"{warm(size, it, busy) * 1e6 / cells:.0f}" for it in ("olapd", "plain")]
-    return [f"{len(MEASURES)} x {size[1]:,}", *of_both(told_ms, cold, size, busy), *of_both(told_ms, warm, size, busy), *each]
+    one = [f"{warm(size, it, busy) * 1e6 / cells:.0f}" for it in PROGRAMS[:2]]
+    return [f"{len(MEASURES)} x {size[1]:,}", *of_each(cold, size, busy), *of_each(warm, size, busy), *one]
+
+
+def of_size(size):
+    """The line of a grid by its cells, with what it takes of memory."""
+    cases = ("olapd open", "olapd cold", "olapd warm", "plain warm")
+    return [f"{len(MEASURES)} x {size[1]:,}", f"{len(told[size, 'olapd cold']):,}", *(size_of(size, it) for it in cases)]
 
 
 def of_rows(size, busy):
     """The line of a grid by the rows under it."""
-    each = [f"{cold(size, it, busy) * 1e6 / size[0]:.0f}" for it in ("olapd", "plain")]
-    return [f"{size[0]:,}", *of_both(told_ms, cold, size, busy), *each]
+    one = [f"{cold(size, it, busy) * 1e6 / size[0]:.0f}" for it in PROGRAMS[:2]]
+    return [f"{size[0]:,}", *of_each(cold, size, busy), *one]
 
 
-PROGRAMS = ("olapd", "plain", "sqlite3")
-main = [(SMALL, CITIES), (LARGE, CITIES)]
 rustc, version = (run([it, "--version"], "")[1].split() for it in ("rustc", "sqlite3"))
 print(f"{len(os.sched_getaffinity(0))} cores, rustc {rustc[1]}, sqlite3 {version[0]}, best of {rounds} rounds")
 print(f"\n{len(MEASURES)} measures by {CITIES} cities; a warm run has {1 + BY_CELLS[CITIES]} queries, and {1 + AGAIN_SQLITE} of sqlite3")
-table("rows|case|olapd ms|plain ms|sqlite3 ms|olapd busy ms|plain busy ms|sqlite3 busy ms|olapd MB|plain MB|sqlite3 MB", [of_run(size, case) for size in main for case in ("open", "cold", "warm")])
+heads = "rows|case|olapd ms|plain ms|sqlite3 ms|olapd busy ms|plain busy ms|sqlite3 busy ms|olapd MB|plain MB|sqlite3 MB"
+table(heads, [of_run(size, case) for size in main for case in ("open", "cold", "warm")])
 for busy, name in ((False, ""), (True, " busy")):
     heads = f"rows|cold grid{name} ms: olapd|plain|sqlite3|warm grid{name} ms: olapd|plain|sqlite3"
-    table(heads, [[f"{size[0]:,}", *(told_ms(it, size, busy, program) for it in (cold, warm) for program in PROGRAMS)] for size in main])
+    table(heads, [[f"{size[0]:,}", *of_each(cold, size, busy, PROGRAMS), *of_each(warm, size, busy, PROGRAMS)] for size in main])
 print(f"\nBy cells, over {SMALL:,} rows; the warm runs have {', '.join(str(1 + it) for it in BY_CELLS.values())} queries")
 for busy, name in ((False, ""), (True, " busy")):
     heads = f"cells|cold grid{name} ms: olapd|plain|warm grid{name} ms: olapd|plain|ns a cell of a warm grid: olapd|plain"
-    table(heads, [of_cells((SMALL, it), busy) for it in BY_CELLS])
-heads = "cells|bytes of the grid|olapd MB: open|cold|warm|plain MB: warm"
-table(heads, [[f"{len(MEASURES)} x {it:,}", f"{len(told[(SMALL, it), 'olapd cold']):,}", *(size_of((SMALL, it), case) for case in ("olapd open", "olapd cold", "olapd warm", "plain warm"))] for it in BY_CELLS])
+    table(heads, [of_cells(size, busy) for size in by_cells])
+table("cells|bytes of the grid|olapd MB: open|cold|warm|plain MB: warm", [of_size(size) for size in by_cells])
 print(f"\nBy rows, {len(MEASURES)} x {CITIES} cells")
 for busy, name in ((False, ""), (True, " busy")):
     heads = f"rows|cold grid{name} ms: olapd|plain|ns a row of a cold grid: olapd|plain"
-    table(heads, [of_rows((it, CITIES), busy) for it in BY_ROWS])
+    table(heads, [of_rows(size, busy) for size in by_rows])
