@@ -59,10 +59,6 @@ pub flat_map_same : {X A : Type 0} (f g : X → List A) (xs : List X) → Each (
 flat_map_same f g [] e = refl
 flat_map_same f g (x ∷ xs) e = ap (λ y. y ++ flat_map f xs) e.0 ∙ ap (λ ys. g x ++ ys) (flat_map_same f g xs e.1)
 
-pub filter_same : {X : Type 0} (p q : X → Bool) (xs : List X) → Each (λ x. p x ≡ q x) xs → filter p xs ≡ filter q xs
-filter_same p q [] e = refl
-filter_same p q (x ∷ xs) e = ap (λ b. cond b (x ∷ filter p xs) (filter p xs)) e.0 ∙ ap (λ ys. cond (q x) (x ∷ ys) ys) (filter_same p q xs e.1)
-
 pub filter_all : {X : Type 0} (p : X → Bool) (xs : List X) → Each (λ x. p x ≡ true) xs → filter p xs ≡ xs
 filter_all p [] e = refl
 filter_all p (x ∷ xs) e = ap (λ b. cond b (x ∷ filter p xs) (filter p xs)) e.0 ∙ ap (λ ys. x ∷ ys) (filter_all p xs e.1)

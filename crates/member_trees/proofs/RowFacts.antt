@@ -92,9 +92,6 @@ pub record AreNext (n d : ℕ) (leaves : List (List ℕ)) (members : List (ℕ �
   pub inner : suc d ≤ n → members ≡ members_below leaves d
   pub last : n ≤ d → members ≡ []
 
-none_of : (k : ℕ) → children_of [] k ≡ []
-none_of k = refl
-
 -- the lists have as many children as there are paths below
 list_sizes : (n d : ℕ) (leaves : List (List ℕ)) (members : List (ℕ × ℕ)) → AreWhole n leaves → d ≤ n → AreNext n d leaves members
     → Each (λ p. length (slice_index_or (lists_of leaves members d) (number_in (fronts leaves d) p) []) ≡ length (below leaves p)) (at_depth leaves d)

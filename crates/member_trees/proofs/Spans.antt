@@ -39,15 +39,6 @@ piece {A} {B} f xs i d h =
     from : ℕ
     from = length (flat_map f (take i xs))
 
--- the paths of the first level are those below the top
-pub span-top : (leaves : List (List ℕ)) (end : ℕ) → end ≡ length (at_depth leaves 1) → IsSpan leaves 0 [] 0 end
-span-top leaves end e = record {
-  long = refl;
-  ordered = omega arith;
-  within = omega arith;
-  are = take_all (end - 0) (at_depth leaves 1) (omega arith) ∙ append-nil (below leaves []);
-}
-
 -- the paths below the one at a place
 pub span-at : (leaves : List (List ℕ)) (depth place : ℕ) → place < length (at_depth leaves depth) → IsSpan leaves depth (get_or (at_depth leaves depth) place []) (first_below leaves depth place) (first_below leaves depth (suc place))
 span-at leaves depth place h =
@@ -61,10 +52,6 @@ span-at leaves depth place h =
   where
     path : List ℕ
     path = get_or (at_depth leaves depth) place []
-
--- past the last place of a depth nothing is left below
-pub first-past : (leaves : List (List ℕ)) (depth place : ℕ) → length (at_depth leaves depth) ≤ place → first_below leaves depth place ≡ length (at_depth leaves (suc depth))
-first-past leaves depth place h = ap (λ ys. length (flat_map (below leaves) ys)) (take_all place (at_depth leaves depth) h)
 
 -- how many paths a span has
 pub span-length : {leaves : List (List ℕ)} {depth : ℕ} {path : List ℕ} {start end : ℕ} → IsSpan leaves depth path start end → length (below leaves path) ≡ end - start

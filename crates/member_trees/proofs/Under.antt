@@ -34,11 +34,6 @@ left-none leaves levels depth h =
     none [] = refl
     none (path ∷ paths) = none paths
 
--- all are left below the top
-pub left-all : (leaves : List (List ℕ)) (levels : ℕ) → length (flat_map (under leaves (levels - 0)) (at_depth leaves 0)) ≡ length (under leaves levels [])
-left-all leaves levels =
-    ap (λ n. length (flat_map (under leaves n) (at_depth leaves 0))) (let e : levels - 0 ≡ levels = omega arith in e) ∙ ap length (append-nil (under leaves levels []))
-
 -- the paths below one, by those one level below it
 pub under-step : (leaves : List (List ℕ)) (levels depth : ℕ) (path : List ℕ) → depth < levels → under leaves (levels - depth) path ≡ flat_map (λ next. next ∷ under leaves (levels - suc depth) next) (below leaves path)
 under-step leaves levels depth path h = ap (λ n. under leaves n path) (let e : levels - depth ≡ suc (levels - suc depth) = omega arith in e)

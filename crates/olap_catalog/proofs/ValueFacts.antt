@@ -138,16 +138,6 @@ leaves_are schema tables columns hierarchies cubes column known paired =
     ∙ ap length (sym (records_here schema tables columns hierarchies cubes known.own.dimension known.table paired known.there))
     ∙ sym (ap (λ o. option_map_or (λ (c : Column). length (records catalog c.dimension)) o 0) known.at)
 
--- there are as many dimensions as tables
-pub dimensions_length : (schema : Schema) (tables : List TableOf) → length tables ≡ length schema.dimensions → length (map dimension_with (zip schema.dimensions (records_in tables))) ≡ length tables
-dimensions_length schema tables paired = length-map (zip schema.dimensions (records_in tables)) dimension_with ∙ by schema.dimensions tables paired
-  where
-    by : (ds : List SchemaDimension) (ts : List TableOf) → length ts ≡ length ds → length (zip ds (records_in ts)) ≡ length ts
-    by [] [] e = refl
-    by [] (t ∷ ts) e = absurd (omega arith)
-    by (d ∷ ds) [] e = absurd (omega arith)
-    by (d ∷ ds) (t ∷ ts) e = let rest = by ds ts (omega arith) in omega arith
-
 own_is : (tables : List TableOf) (columns : List Column) (column : ℕ) (at : Column) (known : ColumnKnown tables columns column) → slice_get columns column ≡ Some at → known.own ≡ at
 own_is tables columns column at known found = let e : Some known.own ≡ Some at = sym known.at ∙ found in cc e
 

@@ -4,7 +4,7 @@ ghost use Rattle.std.specs.Prelude.{◌≡◌};
 use std::marker::Model;
 
 /// A cube, by its place in the schema.
-#[derive(Clone, Copy, Debug, PartialEq, Eq, PartialOrd, Ord)]
+#[derive(Clone, Copy, Debug, PartialEq, Eq, PartialOrd, Ord, Hash)]
 pub struct CubeId(pub u16);
 
 impl Model for CubeId {
@@ -18,7 +18,7 @@ impl Model for CubeId {
 }
 
 /// A measure, by its place in its cube.
-#[derive(Clone, Copy, Debug, PartialEq, Eq, PartialOrd, Ord)]
+#[derive(Clone, Copy, Debug, PartialEq, Eq, PartialOrd, Ord, Hash)]
 pub struct MeasureId(pub u16);
 
 impl Model for MeasureId {
@@ -32,7 +32,7 @@ impl Model for MeasureId {
 }
 
 /// A column: one level of the schema. Columns are numbered in the schema's order.
-#[derive(Clone, Copy, Debug, PartialEq, Eq, PartialOrd, Ord)]
+#[derive(Clone, Copy, Debug, PartialEq, Eq, PartialOrd, Ord, Hash)]
 pub struct ColumnId(pub u16);
 
 impl Model for ColumnId {
@@ -46,7 +46,7 @@ impl Model for ColumnId {
 }
 
 /// A value of a column, by its number: values are numbered from 0 by first appearance.
-#[derive(Clone, Copy, Debug, PartialEq, Eq, PartialOrd, Ord)]
+#[derive(Clone, Copy, Debug, PartialEq, Eq, PartialOrd, Ord, Hash)]
 pub struct ValueId(pub u32);
 
 impl Model for ValueId {
@@ -60,7 +60,7 @@ impl Model for ValueId {
 }
 
 /// A leaf: one record of a dimension's table, by its place.
-#[derive(Clone, Copy, Debug, PartialEq, Eq, PartialOrd, Ord)]
+#[derive(Clone, Copy, Debug, PartialEq, Eq, PartialOrd, Ord, Hash)]
 pub struct LeafId(pub u32);
 
 impl Model for LeafId {
@@ -74,7 +74,7 @@ impl Model for LeafId {
 }
 
 /// A hierarchy, by its place in the schema.
-#[derive(Clone, Copy, Debug, PartialEq, Eq, PartialOrd, Ord)]
+#[derive(Clone, Copy, Debug, PartialEq, Eq, PartialOrd, Ord, Hash)]
 pub struct HierarchyId(pub u16);
 
 impl Model for HierarchyId {
@@ -88,7 +88,7 @@ impl Model for HierarchyId {
 }
 
 /// A version of a cube: how many batches it has had.
-#[derive(Clone, Copy, Debug, PartialEq, Eq, PartialOrd, Ord)]
+#[derive(Clone, Copy, Debug, PartialEq, Eq, PartialOrd, Ord, Hash)]
 pub struct Version(pub u32);
 
 impl Model for Version {
