@@ -21,10 +21,10 @@ use Rattle.mdx_reader.specs.declared.place.Place.TheVariants as place
 use Rattle.query_meaning.specs.Keywords.{keyword_text}
 use Rattle.query_meaning.specs.Tree.{Set, Braces, none, more}
 use Rattle.mdx_reader.specs.Places.{rest_of}
-use Rattle.mdx_reader.specs.Tellings.{same_word, sign_no_word, sign_no_name, word_no_name}
+use Rattle.tokens.specs.Kinds.{same_word, sign_no_word, sign_no_name, word_no_name}
 use Rattle.std.proofs.Common.{MatchBool, ◌≤◌}
 use Rattle.tokens.specs.Grammars.{Completes, WantsWord, WantsName}
-use Rattle.mdx_reader.specs.Words.{Begins}
+use Rattle.tokens.specs.Words.{Begins}
 use Rattle.mdx_reader.specs.Begins.{Follows, no_set, no_set_word}
 use Rattle.mdx_reader.specs.SetMoves as sets
 use Rattle.mdx_reader.specs.PathMoves as paths

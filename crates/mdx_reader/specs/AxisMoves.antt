@@ -20,7 +20,8 @@ use Rattle.query_meaning.specs.Keywords.{keyword_text}
 use Rattle.query_meaning.specs.Tree.{Set}
 use Rattle.query_meaning.specs.Grammar.{Key, IsSet, IsAxis, NonEmpty, Either, IsSlicer, IsFrom, AreRows, IsQuery}
 use Rattle.mdx_reader.specs.Places.{Tail, query_of, BehindOn, axis_of, AnAxis, Emptied, ASet, sliced, Names, PathNext, DotsNext, FromNext, SlicerNext, Slicing, rest_of}
-use Rattle.mdx_reader.specs.Tellings.{same_keyword, sign_no_word, sign_no_name, same_name, took_alike}
+use Rattle.tokens.specs.Kinds.{same_keyword, sign_no_word, sign_no_name, same_name}
+use Rattle.mdx_reader.specs.Tellings.{took_alike}
 use Rattle.mdx_reader.specs.Begins.{BeginsSet, set_begins, no_set_word}
 
 abbrev pub head_of : Which → Bool → Head

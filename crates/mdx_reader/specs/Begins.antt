@@ -12,7 +12,7 @@ use Rattle.query_meaning.specs.Keywords.{keyword_text}
 use Rattle.query_meaning.specs.Tree.{Set, Braces, Cross, Tuple, Picked, none, more}
 use Rattle.query_meaning.specs.Grammar.{IsSet}
 use Rattle.mdx_reader.specs.Places.{Fill, After}
-use Rattle.mdx_reader.specs.Tellings.{same_word, same_sign, sign_no_word, sign_no_name, word_no_name}
+use Rattle.tokens.specs.Kinds.{same_word, same_sign, sign_no_word, sign_no_name, word_no_name}
 
 pub data BeginsSet (left : ℕ) (k : Token) : Type 0 where
   brace : k ≡ Sign 123 → BeginsSet left k

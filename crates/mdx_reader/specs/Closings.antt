@@ -23,42 +23,13 @@ use Rattle.mdx_reader.specs.declared.place.Place.TheVariants as place
 use Rattle.query_meaning.specs.Keywords.{keyword_text}
 use Rattle.query_meaning.specs.Tree.{Set, Braces, Cross, Tuple, Picked, none, pushed}
 use Rattle.mdx_reader.specs.Places.{axis_of, whole, sliced, rest_of}
-use Rattle.std.proofs.lemmas.Str.Ascii.{IsAscii-nil, IsAscii-cons}
-use Rattle.query_meaning.specs.declared.token.Class.TheVariants as class_is
-use Rattle.query_meaning.specs.Tokens.{class}
 use Rattle.tokens.specs.Grammars.{kinds, IsKind, Completes, IsViable}
+use Rattle.tokens.specs.Kinds.{signs, keyword_letters, x, x_kind}
 use Rattle.mdx_reader.specs.Places.{stands}
 use Rattle.mdx_reader.specs.SetMoves as sets
 use Rattle.mdx_reader.specs.PathMoves as paths
 use Rattle.mdx_reader.specs.AxisMoves as axes
 use Rattle.mdx_reader.specs.AxisMoves.{head_of, is_first, is_second, after_on, base_of}
-
-signs : (class 40 ≡ class_is.Sign) × (class 41 ≡ class_is.Sign) × (class 44 ≡ class_is.Sign) × (class 46 ≡ class_is.Sign) × (class 123 ≡ class_is.Sign) × (class 125 ≡ class_is.Sign)
-unfolding class
-signs = (refl, refl, refl, refl, refl, refl)
-
-pub keyword_letters : (k : Keyword) → IsKind (Word (keyword_text k))
-unfolding class
-keyword_letters keyword.Select = ((λ e. cc), (refl, (refl, (refl, (refl, (refl, (refl, tt)))))), refl)
-keyword_letters keyword.On = ((λ e. cc), (refl, (refl, tt)), refl)
-keyword_letters keyword.Columns = ((λ e. cc), (refl, (refl, (refl, (refl, (refl, (refl, (refl, tt))))))), refl)
-keyword_letters keyword.Zero = ((λ e. cc), (refl, tt), refl)
-keyword_letters keyword.Rows = ((λ e. cc), (refl, (refl, (refl, (refl, tt)))), refl)
-keyword_letters keyword.One = ((λ e. cc), (refl, tt), refl)
-keyword_letters keyword.From = ((λ e. cc), (refl, (refl, (refl, (refl, tt)))), refl)
-keyword_letters keyword.Where = ((λ e. cc), (refl, (refl, (refl, (refl, (refl, tt))))), refl)
-keyword_letters keyword.Non = ((λ e. cc), (refl, (refl, (refl, tt))), refl)
-keyword_letters keyword.Empty = ((λ e. cc), (refl, (refl, (refl, (refl, (refl, tt))))), refl)
-keyword_letters keyword.Crossjoin = ((λ e. cc), (refl, (refl, (refl, (refl, (refl, (refl, (refl, (refl, (refl, tt))))))))), refl)
-keyword_letters keyword.Members = ((λ e. cc), (refl, (refl, (refl, (refl, (refl, (refl, (refl, tt))))))), refl)
-keyword_letters keyword.Children = ((λ e. cc), (refl, (refl, (refl, (refl, (refl, (refl, (refl, (refl, tt)))))))), refl)
-
--- a name of one character
-abbrev pub x : List ℕ
-x = 120 ∷ []
-
-x_kind : IsKind (Name x)
-x_kind = ((λ e. cc), IsAscii-cons 120 [] (omega arith) IsAscii-nil)
 
 first : (j k : Token) (js ks : List Token) → j ∷ js ≡ k ∷ ks → (j ≡ k) × (js ≡ ks)
 first j k js ks e = (cc, cc)

@@ -22,7 +22,8 @@ use Rattle.query_meaning.specs.Keywords.{keyword_text}
 use Rattle.query_meaning.specs.Tree.{Tuple, Picked}
 use Rattle.query_meaning.specs.Grammar.{Dots, Path, MorePaths, Suffix}
 use Rattle.mdx_reader.specs.Places.{Fill, whole, After, Done, Other, sliced, query_by, BehindPath, BehindDot, Names, DotsNext, NameNext, rest_of}
-use Rattle.mdx_reader.specs.Tellings.{keywords, same_sign, word_no_name, same_name, took_alike}
+use Rattle.tokens.specs.Kinds.{keywords, same_sign, word_no_name, same_name}
+use Rattle.mdx_reader.specs.Tellings.{took_alike}
 use Rattle.mdx_reader.specs.Begins.{Follows, after_begins, no_dot}
 
 -- a name

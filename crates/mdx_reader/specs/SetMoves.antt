@@ -18,7 +18,8 @@ use Rattle.query_meaning.specs.Tree.{Set, Sets, Braces, Cross, Tuple, Picked, no
 use Rattle.query_meaning.specs.Codes.{before_assoc}
 use Rattle.query_meaning.specs.Grammar.{IsSet, MoreSets}
 use Rattle.mdx_reader.specs.Places.{Fill, axis_of, whole, After, ASet, Opened, Crossed, Done, Names, PathNext, DotsNext, rest_of}
-use Rattle.mdx_reader.specs.Tellings.{same_sign, sign_no_word, sign_no_name, word_no_name, same_name, took_alike}
+use Rattle.tokens.specs.Kinds.{same_sign, sign_no_word, sign_no_name, word_no_name, same_name}
+use Rattle.mdx_reader.specs.Tellings.{took_alike}
 use Rattle.mdx_reader.specs.Begins.{BeginsSet, set_begins, no_set_sign, Follows, after_begins}
 
 module _ (head : Head) (around : List Frame) (at : ℕ) (q : Query) (fill : Fill head.which around) (ts : List Placed) where

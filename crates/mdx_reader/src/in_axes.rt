@@ -7,12 +7,11 @@ ghost use Rattle.mdx_reader.specs.declared.place.Place.TheVariants.{Start, AnAxi
 
 use crate::in_sets::{begin_set, one_name};
 use crate::kept::Kept;
-use crate::keyword::{is_sign, is_word, name_of};
 use crate::place::{Base, Head, PathOf, Place, Which};
-use crate::stack::Stack;
 use olap_meaning::{List, OutOfMemory};
 use query_meaning::{AxisText, Keyword, Token};
 use std::alloc::Global;
+use tokens::{Stack, is_sign, is_word, name_of};
 
 // SELECT.
 pub(crate) fn begin(token: Token) -> Option<Place>

@@ -10,11 +10,11 @@ ghost use Rattle.mdx_reader.specs.declared.place.Place.TheVariants.{AfterName, A
 
 use crate::in_sets::end_set;
 use crate::kept::Kept;
-use crate::keyword::{is_sign, is_word, name_of};
 use crate::place::{Base, PathOf, Place};
 use olap_meaning::{List, OutOfMemory, Text};
 use query_meaning::{Keyword, Picks, Query, SetText, Token};
 use std::alloc::Global;
+use tokens::{is_sign, is_word, name_of};
 
 // A token behind a name of a path.
 pub(crate) fn end_name(

@@ -6,12 +6,11 @@ ghost use Rattle.mdx_reader.specs.Places.{rest_of, stands};
 ghost use Rattle.mdx_reader.specs.declared.place.Place.TheVariants.{ASet, AnItem, Crossing, AfterSet};
 
 use crate::kept::Kept;
-use crate::keyword::{is_sign, is_word, name_of};
 use crate::place::{Frame, Head, PathOf, Place};
-use crate::stack::Stack;
 use olap_meaning::{List, OutOfMemory, Text};
 use query_meaning::{AxisText, Keyword, SetText, SetTexts, Token};
 use std::alloc::Global;
+use tokens::{Stack, is_sign, is_word, name_of};
 
 // A path of one name.
 pub(crate) fn one_name(alloc: Global, name: Text) -> Result<List<Text>, OutOfMemory>

@@ -19,11 +19,9 @@ mod in_axes;
 mod in_paths;
 mod in_sets;
 mod kept;
-mod keyword;
 mod path;
 mod place;
 mod query_reader;
-mod stack;
 
 pub use path::{PathFault, read_path};
 pub use query_meaning::{AxisText, Picks, Query, SetShape, SetText, SetTexts};

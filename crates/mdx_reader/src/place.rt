@@ -1,9 +1,9 @@
 //! Where a reader of queries stands.
 
 use crate::kept::Kept;
-use crate::stack::Stack;
 use olap_meaning::{List, Text};
 use query_meaning::{AxisText, Query, SetText, SetTexts};
+use tokens::Stack;
 
 /// Which axis it is, and the columns where it is the rows.
 #[derive(Drop)]

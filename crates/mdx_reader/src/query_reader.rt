@@ -13,13 +13,12 @@ use crate::in_axes::{
 };
 use crate::in_paths::{end_dot, end_name, query_by};
 use crate::in_sets::{begin_cross, begin_item, begin_set, end_set};
-use crate::keyword::{begins_either, begins_keyword};
 use crate::place::{PathOf, Place, Which};
 use olap_meaning::{List, OutOfMemory, Text};
 use query_meaning::{Keyword, Query, Token};
 use std::alloc::Global;
 use text_forms::ReadFault;
-use tokens::{Grammar, read_tokens};
+use tokens::{Grammar, begins_either, begins_keyword, read_tokens};
 
 // A slicer of one path.
 fn one_path(alloc: Global, path: List<Text>) -> Result<List<List<Text>>, OutOfMemory>

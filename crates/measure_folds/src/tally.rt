@@ -50,6 +50,13 @@ impl Tally {
         self.rows
     }
 
+    /// The values of its rows, in their order. Contracts alone see them.
+    pub fn numbers(&self) -> Trace<Option<i64>>
+        ensures { result.items ≡ self.now.values }
+    {
+        Trace::new().joined(&self.of)
+    }
+
     /// Adds one row, by its value: NULL is None. Memory is taken only for a distinct count of a value that is not NULL.
     pub fn step(&mut self, value: Option<i64>) -> Result<(), OutOfMemory>
         requires { length self.old.values < ROW_LIMIT }

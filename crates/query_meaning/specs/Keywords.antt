@@ -1,4 +1,4 @@
--- The keywords of queries.
+-- The keywords of queries and of flushes.
 use Rattle.std.specs.Prelude.{ℕ, List, codes}
 use Rattle.query_meaning.specs.declared.keyword.Keyword.{Keyword}
 use Rattle.query_meaning.specs.declared.keyword.Keyword.TheVariants as keyword
@@ -18,3 +18,7 @@ keyword_text keyword.Empty = codes "EMPTY"
 keyword_text keyword.Crossjoin = codes "CROSSJOIN"
 keyword_text keyword.Members = codes "MEMBERS"
 keyword_text keyword.Children = codes "CHILDREN"
+keyword_text keyword.Member = codes "MEMBER"
+keyword_text keyword.Range = codes "RANGE"
+keyword_text keyword.Measures = codes "MEASURES"
+keyword_text keyword.Union = codes "UNION"

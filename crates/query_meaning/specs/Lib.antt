@@ -7,8 +7,16 @@ pub mod Codes
 pub mod View
 pub mod Sizes
 pub mod Falls
+pub mod RegionTree
+pub mod RegionCodes
+pub mod RegionView
+pub mod RegionSizes
+pub mod RegionFalls
+pub mod RegionMeaning
 pub mod Grammar
 pub mod WholeQueries
+pub mod FlushGrammar
+pub mod WholeFlushes
 pub mod Shown
 pub mod Titles
 pub mod GridForm

@@ -1,7 +1,7 @@
-//! Keywords of queries.
+//! Keywords of queries and of flushes.
 
-/// A keyword of a query (MDX, "SELECT Statement"). Its letters may be of either case. The numbers of the two axes are
-/// words too.
+/// A keyword of a query (MDX, "SELECT Statement") or of a flush. Its letters may be of either case. The numbers of the
+/// two axes are words too.
 #[derive(Clone, Copy, Debug, PartialEq, Eq)]
 pub enum Keyword {
     Select,
@@ -17,4 +17,8 @@ pub enum Keyword {
     Crossjoin,
     Members,
     Children,
+    Member,
+    Range,
+    Measures,
+    Union,
 }

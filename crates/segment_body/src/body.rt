@@ -1,17 +1,22 @@
 //! The cells of a segment.
-ghost use Rattle.std.specs.Prelude.{◌≡◌, ◌<◌, ◌≤◌, ◌++◌, ◌∷◌, [], IfOk, OnOk, OnErr, IfSome, IfNone, IsTrue, length, map, filter, is_some};
+ghost use Rattle.std.specs.Prelude.{◌≡◌, ◌≢◌, ◌<◌, ◌≤◌, ◌+◌, ◌++◌, ◌∷◌, [], IfOk, OnOk, OnErr, IfSome, IfNone, IsTrue, length, map, filter, is_some};
 ghost use Rattle.std.specs.List.{list_all};
+ghost use Rattle.std.specs.List.Sorted.{IsPermutation};
 ghost use Rattle.olap_meaning.specs.Covering.{just_covers};
 ghost use Rattle.olap_meaning.specs.Legal.{rise};
 ghost use Rattle.olap_meaning.specs.Texts.{CanBeShown};
 ghost use Rattle.olap_meaning.specs.Values.{aggregate};
 ghost use Rattle.segment_header.specs.Headers.{are_allowed, is_header};
 ghost use Rattle.segment_body.specs.BodyOf.{body_row_in, different_values, has_row, numbers_at};
+ghost use Rattle.segment_body.specs.Folds.{body_row_at, numbers_where};
 
-use crate::group::{Group, add_row};
-use crate::search::{place_in, place_of};
+use crate::folds::{fold_in, fold_valued};
+use crate::group::{Block, GroupTable};
+use crate::search::place_in;
 use measure_folds::Tally;
-use olap_meaning::{Aggregator, Cell, CellValue, Header, OutOfMemory, ROW_LIMIT, ValueId};
+use olap_meaning::{
+    Aggregator, Cell, CellValue, ColumnId, Header, OutOfMemory, ROW_LIMIT, ValueId,
+};
 use std::alloc::Global;
 use std::marker::Model;
 use traces::Trace;
@@ -22,8 +27,8 @@ pub struct Body {
     alloc: Global,
     header: Header,
     aggregator: Aggregator,
-    groups: Vec<Group>,
-    places: Trace<(usize, Option<i64>)>,
+    groups: GroupTable,
+    parts: Trace<Block>,
 }
 
 impl Model for Body {
@@ -31,11 +36,11 @@ impl Model for Body {
 
     ghost Value = { BodyOf };
 
-    ghost use Rattle.segment_body.specs.Groups.{AreHeld, rows_of};
+    ghost use Rattle.segment_body.specs.Groups.{AreHeld, placed_in, rows_of};
 
-    ghost view = { λ a. record { header = a.header; aggregator = a.aggregator; rows = rows_of a.groups.items a.places.items } };
+    ghost view = { λ a. record { header = a.header; aggregator = a.aggregator; rows = rows_of a.groups (placed_in a.parts.items) } };
 
-    ghost invariant = { λ a. AreHeld a.header a.aggregator a.groups.items a.places.items (rows_of a.groups.items a.places.items) };
+    ghost invariant = { λ a. AreHeld a.header a.aggregator a.groups (placed_in a.parts.items) (rows_of a.groups (placed_in a.parts.items)) };
 }
 
 impl Body {
@@ -49,8 +54,8 @@ impl Body {
             alloc,
             header,
             aggregator,
-            groups: Vec::new(alloc),
-            places: Trace::new(),
+            groups: GroupTable::new(alloc),
+            parts: Trace::new(),
         })
     }
 
@@ -62,8 +67,32 @@ impl Body {
             (self.new ≡ record self.old { rows = self.old.rows ++ (values.now, value) ∷ [] }) }
         ensures err { OnErr result (self.new ≡ self.old) }
     {
-        let place = add_row(self.alloc, &mut self.groups, self.aggregator, values, value)?;
-        self.places = self.places.and(&(place, value));
+        let place = self.groups.add_row(self.alloc, self.aggregator, values, value)?;
+        let numbers = Trace::new().and(&value);
+        self.parts = self.parts.and(&Block { place, numbers });
+        Ok(())
+    }
+
+    /// Adds the rows of a tally, which all have the same values on the header's columns. It takes memory where no row has
+    /// these values yet.
+    pub fn add_group(&mut self, values: &[ValueId], tally: &Tally) -> Result<(), OutOfMemory>
+        requires adds_up { self.old.aggregator ≢ Aggregator.DistinctCount }
+        requires same { tally.now.aggregator ≡ self.old.aggregator }
+        requires allowed { IsTrue (are_allowed self.old.header values.now) }
+        requires room { length self.old.rows + length tally.now.values ≤ ROW_LIMIT }
+        ensures ok { OnOk result
+            (self.new
+            ≡ record self.old {
+              rows = self.old.rows ++ map (λ number. (values.now, number)) tally.now.values;
+            }) }
+        ensures err { OnErr result (self.new ≡ self.old) }
+    {
+        if tally.rows() == 0 {
+            return Ok(());
+        }
+        let place = self.groups.add_tally(self.alloc, self.aggregator, values, tally)?;
+        let numbers = tally.numbers();
+        self.parts = self.parts.and(&Block { place, numbers });
         Ok(())
     }
 
@@ -78,9 +107,9 @@ impl Body {
               values = numbers_at self.now.rows values.now;
             }) }
     {
-        match place_of(self.groups.as_slice(), values) {
+        match self.groups.place_of(values) {
             None => None,
-            Some(place) => Some(&self.groups[place].tally),
+            Some(place) => Some(self.groups.at(place).1),
         }
     }
 
@@ -93,10 +122,51 @@ impl Body {
             (map (λ row. row.1) (filter (body_row_in self.now.header cell.now) self.now.rows)) }
         ensures shown { CanBeShown result }
     {
-        match place_in(self.groups.as_slice(), cell.at.as_slice()) {
+        match place_in(&self.groups, cell.at.as_slice()) {
             None => CellValue::Empty,
-            Some(place) => self.groups[place].tally.finish(),
+            Some(place) => self.groups.at(place).1.finish(),
         }
+    }
+
+    /// The tally of the rows that are in a cell, in some order. It takes no memory.
+    pub fn fold_where(&self, cell: &Cell) -> Tally
+        requires { self.now.aggregator ≢ Aggregator.DistinctCount }
+        ensures aggregator { result.aggregator ≡ self.now.aggregator }
+        ensures rows { IsPermutation
+            (numbers_where (body_row_in self.now.header cell.now) self.now.rows) result.values }
+        ensures worth { aggregate result.aggregator result.values
+            ≡ aggregate self.now.aggregator
+            (numbers_where (body_row_in self.now.header cell.now) self.now.rows) }
+    {
+        fold_in(
+            self.alloc,
+            self.aggregator,
+            self.header.columns.as_slice(),
+            &self.groups,
+            cell.at.as_slice(),
+        )
+    }
+
+    /// The tally of the rows that are in a cell and have a value in one column, in some order. It takes no memory.
+    pub fn fold_at(&self, cell: &Cell, column: ColumnId, value: ValueId) -> Tally
+        requires { self.now.aggregator ≢ Aggregator.DistinctCount }
+        ensures aggregator { result.aggregator ≡ self.now.aggregator }
+        ensures rows { IsPermutation
+            (numbers_where (body_row_at self.now.header cell.now column value) self.now.rows)
+            result.values }
+        ensures worth { aggregate result.aggregator result.values
+            ≡ aggregate self.now.aggregator
+            (numbers_where (body_row_at self.now.header cell.now column value) self.now.rows) }
+    {
+        fold_valued(
+            self.alloc,
+            self.aggregator,
+            self.header.columns.as_slice(),
+            &self.groups,
+            cell.at.as_slice(),
+            column,
+            value,
+        )
     }
 
     /// How many different lists of values the rows have. It takes no memory.

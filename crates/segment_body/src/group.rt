@@ -1,66 +1,165 @@
 //! Groups: the rows that have the same values on the header's columns.
-ghost use Rattle.std.specs.Prelude.{◌≡◌, ◌<◌, ◌∷◌, [], All, IfOk, OnErr, length};
-ghost use Rattle.segment_body.specs.Groups.{IsAdded};
+ghost use Rattle.std.specs.Prelude.{◌≡◌, ◌≢◌, ◌+◌, ◌≤◌, ◌<◌, ◌∷◌, [], All, IfOk, OnErr, bytes_eq, length, position, slice_index_or, slice_set};
+ghost use Rattle.segment_body.specs.Groups.{Group, IsAdded, IsMerged, group, with_numbers};
 
-use crate::search::place_of;
+use indexmap::IndexMap;
 use measure_folds::Tally;
-use olap_meaning::{Aggregator, List, OutOfMemory, ROW_LIMIT, ValueId};
+use olap_meaning::{Aggregator, OutOfMemory, ROW_LIMIT, ValueId};
 use std::alloc::Global;
+use std::marker::Model;
+use traces::Trace;
 
-/// The tally of the rows that have some values, one value for each column.
+/// Rows that were added at once, for contracts alone: the place of their group, and their numbers.
 #[derive(Drop)]
-pub(crate) struct Group {
-    pub(crate) values: List<ValueId>,
-    pub(crate) tally: Tally,
+pub(crate) struct Block {
+    pub(crate) place: usize,
+    pub(crate) numbers: Trace<Option<i64>>,
 }
 
-impl Group {
-    /// The group of one row.
-    pub(crate) fn new(
+/// Groups in the order in which they came: the tally of the rows that have some values, one value for each column. A group
+/// is found by the hash of its values.
+#[derive(Drop)]
+pub(crate) struct GroupTable {
+    tallies: IndexMap<Vec<ValueId>, Tally>,
+}
+
+impl Model for GroupTable {
+    ghost use Rattle.std.specs.Prelude.{List};
+    ghost use Rattle.segment_body.specs.Groups.{Group, groups_by};
+
+    ghost Value = { List Group };
+
+    ghost view = { λ g. groups_by (λ key. key.items) g.tallies.entries };
+}
+
+impl GroupTable {
+    /// No group. It takes no memory.
+    pub(crate) fn new(alloc: Global) -> GroupTable
+        ensures { result ≡ [] }
+    {
+        GroupTable {
+            tallies: IndexMap::new(alloc),
+        }
+    }
+
+    /// How many groups there are.
+    pub(crate) fn len(&self) -> usize
+        ensures { result ≡ length self.now }
+    {
+        self.tallies.len()
+    }
+
+    /// The place of the group that has some values.
+    pub(crate) fn place_of(&self, values: &[ValueId]) -> Option<usize>
+        ensures { result ≡ position (λ group. bytes_eq values.now group.values) self.now }
+    {
+        self.tallies.get_index_of(values)
+    }
+
+    /// The values of the group at a place, and its tally.
+    pub(crate) fn at(&self, place: usize) -> (&[ValueId], &Tally)
+        requires { place < length self.now }
+        ensures { group result.0.now result.1.now
+            ≡ slice_index_or self.now place (group result.0.now result.1.now) }
+    {
+        match self.tallies.get_index(place) {
+            Some((values, tally)) => (values.as_slice(), tally),
+            None => unreachable!(),
+        }
+    }
+
+    /// Adds a row to the group that has its values, or a new group at the end. It answers the place of the group.
+    pub(crate) fn add_row(
+        &mut self,
         alloc: Global,
         aggregator: Aggregator,
         values: &[ValueId],
-        value: Option<i64>,
-    ) -> Result<Group, OutOfMemory>
-        ensures { IfOk result
-            (λ g. g
-            ≡ record {
-              values = values.now;
-              tally = record { aggregator = aggregator; values = value ∷ [] };
-            }) }
+        number: Option<i64>,
+    ) -> Result<usize, OutOfMemory>
+        requires { All (λ group. length group.tally.values < ROW_LIMIT) self.old }
+        ensures ok { IfOk result
+            (λ place. IsAdded aggregator values.now number self.old self.new place) }
+        ensures err { OnErr result (self.new ≡ self.old) }
     {
-        let mut tally = Tally::new(alloc, aggregator);
-        tally.step(value)?;
-        Ok(Group {
-            values: List::from_vec(Vec::from_slice(alloc, values)?),
-            tally,
-        })
+        match self.tallies.get_index_of(values) {
+            Some(place) => {
+                let tally = &mut self.tallies[place];
+                tally.step(number)?;
+                Ok(place)
+            }
+            None => {
+                let place = self.tallies.len();
+                let tally = first_tally(alloc, aggregator, number)?;
+                let key = Vec::from_slice(alloc, values)?;
+                self.tallies.insert(key, tally)?;
+                Ok(place)
+            }
+        }
+    }
+
+    /// Merges a tally into that of the group at a place. It takes no memory.
+    pub(crate) fn merge_at(&mut self, place: usize, tally: &Tally)
+        requires inside { place < length self.old }
+        requires adds_up { tally.now.aggregator ≢ Aggregator.DistinctCount }
+        requires alike { All
+            (λ group. group.tally.aggregator ≡ tally.now.aggregator) self.old }
+        requires room { All
+            (λ group. length group.tally.values + length tally.now.values ≤ ROW_LIMIT) self.old }
+        ensures { (d : Group) → self.new
+            ≡ slice_set self.old place
+            (with_numbers (slice_index_or self.old place d) tally.now.values) }
+    {
+        let group = &mut self.tallies[place];
+        group.merge(tally);
+    }
+
+    /// Merges a tally into that of the group that has some values, or makes a new group of it at the end. It answers the
+    /// place of the group.
+    pub(crate) fn add_tally(
+        &mut self,
+        alloc: Global,
+        aggregator: Aggregator,
+        values: &[ValueId],
+        tally: &Tally,
+    ) -> Result<usize, OutOfMemory>
+        requires adds_up { aggregator ≢ Aggregator.DistinctCount }
+        requires same { tally.now.aggregator ≡ aggregator }
+        requires alike { All (λ group. group.tally.aggregator ≡ aggregator) self.old }
+        requires few { length tally.now.values ≤ ROW_LIMIT }
+        requires room { All
+            (λ group. length group.tally.values + length tally.now.values ≤ ROW_LIMIT) self.old }
+        ensures ok { IfOk result
+            (λ place. IsMerged aggregator values.now tally.now.values self.old self.new place) }
+        ensures err { OnErr result (self.new ≡ self.old) }
+    {
+        match self.tallies.get_index_of(values) {
+            Some(place) => {
+                let group = &mut self.tallies[place];
+                group.merge(tally);
+                Ok(place)
+            }
+            None => {
+                let place = self.tallies.len();
+                let mut first = Tally::new(alloc, aggregator);
+                first.merge(tally);
+                let key = Vec::from_slice(alloc, values)?;
+                self.tallies.insert(key, first)?;
+                Ok(place)
+            }
+        }
     }
 }
 
-/// Adds a row to the group that has its values, or a new group at the end. It answers the place of the group.
-pub(crate) fn add_row(
+/// The tally of one row.
+fn first_tally(
     alloc: Global,
-    groups: &mut Vec<Group>,
     aggregator: Aggregator,
-    values: &[ValueId],
     number: Option<i64>,
-) -> Result<usize, OutOfMemory>
-    requires { All (λ group. length group.tally.values < ROW_LIMIT) groups.old.items }
-    ensures ok { IfOk result
-        (λ place. IsAdded aggregator values.now number groups.old.items groups.new.items place) }
-    ensures err { OnErr result (groups.new.items ≡ groups.old.items) }
+) -> Result<Tally, OutOfMemory>
+    ensures { IfOk result
+        (λ tally. tally ≡ record { aggregator = aggregator; values = number ∷ [] }) }
 {
-    match place_of(groups.as_slice(), values) {
-        Some(place) => {
-            let group = &mut groups[place];
-            group.tally.step(number)?;
-            Ok(place)
-        }
-        None => {
-            let place = groups.len();
-            groups.push(Group::new(alloc, aggregator, values, number)?)?;
-            Ok(place)
-        }
-    }
+    let mut tally = Tally::new(alloc, aggregator);
+    tally.step(number)?;
+    Ok(tally)
 }

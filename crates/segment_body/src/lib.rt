@@ -1,9 +1,10 @@
 //! The cells of a segment: the rows of a load, summed up by their values on the header's columns.
 //!
-//! This is the plainest form, a list of groups. Another form may take its place under the same contracts.
+//! A group is found by the hash of its values. Tallies of groups are merged, which takes no memory and no row.
 #![tactic(auto)]
 
 mod body;
+mod folds;
 mod group;
 mod search;
 

@@ -1,17 +1,8 @@
-//! Where the group of some values stands, by a walk over all groups.
+//! Where the group of a cell stands.
 ghost use Rattle.std.specs.Prelude.{◌≡◌, bytes_eq, map, position};
 
-use crate::group::Group;
+use crate::group::GroupTable;
 use olap_meaning::{ColumnId, ValueId};
-
-/// The place of the group that has some values.
-pub(crate) fn place_of(groups: &[Group], values: &[ValueId]) -> Option<usize>
-    ensures { result ≡ position (λ group. bytes_eq values.now group.values) groups.now }
-{
-    groups
-        .iter()
-        .position(|group| values == group.values.as_slice())
-}
 
 /// Whether values are those of a cell's pairs, in their order.
 fn are_values_of(at: &[(ColumnId, ValueId)], values: &[ValueId]) -> bool
@@ -30,12 +21,35 @@ fn are_values_of(at: &[(ColumnId, ValueId)], values: &[ValueId]) -> bool
     true
 }
 
-/// The place of the group that has the values of a cell's pairs, in their order.
-pub(crate) fn place_in(groups: &[Group], at: &[(ColumnId, ValueId)]) -> Option<usize>
+/// The place of the group that has the values of a cell's pairs, by a walk over all groups.
+fn walk_to(groups: &GroupTable, at: &[(ColumnId, ValueId)]) -> Option<usize>
     ensures { result
         ≡ position (λ group. bytes_eq (map (λ pair. pair.1) at.now) group.values) groups.now }
 {
-    groups
-        .iter()
-        .position(|group| are_values_of(at, group.values.as_slice()))
+    for i in 0..groups.len() {
+        let group = groups.at(i);
+        if are_values_of(at, group.0) {
+            return Some(i);
+        }
+    }
+    None
+}
+
+/// The most columns of a cell whose values are looked up by their hash.
+const WIDTH: usize = 64;
+
+/// The place of the group that has the values of a cell's pairs, in their order. It takes no memory: the values are put
+/// beside each other on the stack, and a cell of more columns is found by a walk.
+pub(crate) fn place_in(groups: &GroupTable, at: &[(ColumnId, ValueId)]) -> Option<usize>
+    ensures { result
+        ≡ position (λ group. bytes_eq (map (λ pair. pair.1) at.now) group.values) groups.now }
+{
+    if at.len() > WIDTH {
+        return walk_to(groups, at);
+    }
+    let mut values = [ValueId(0); WIDTH];
+    for i in 0..at.len() {
+        values[i] = at[i].1;
+    }
+    groups.place_of(&values[..at.len()])
 }

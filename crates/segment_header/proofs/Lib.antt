@@ -1,1 +1,2 @@
 pub mod RiseFacts
+pub mod WideFacts

@@ -1,10 +1,11 @@
 -- What a header is, and the rows that it allows.
-use Rattle.std.specs.Prelude.{ℕ, List, Bool, true, ◌==◌, ◌&&◌, length, map, nat_lt}
-use Rattle.std.specs.List.{list_all, zip}
+use Rattle.std.specs.Prelude.{ℕ, List, Bool, true, ◌==◌, ◌&&◌, length, map, nat_lt, not}
+use Rattle.std.specs.List.{list_all, list_any, zip}
+use Rattle.olap_meaning.specs.declared.cells.Cell.{Cell}
 use Rattle.olap_meaning.specs.declared.cells.Header.{Header}
 use Rattle.olap_meaning.specs.declared.cells.Allowed.{Allowed}
 use Rattle.olap_meaning.specs.declared.cells.Allowed.TheVariants.{Any, Set}
-use Rattle.olap_meaning.specs.Covering.{allows}
+use Rattle.olap_meaning.specs.Covering.{allows, names_column}
 use Rattle.olap_meaning.specs.Legal.{rise}
 
 -- allowed values are well formed: any value, or a set that rises and is not empty
@@ -27,3 +28,8 @@ abbrev pub are_allowed : Header → List ℕ → Bool
 are_allowed header values =
     (length values == length header.columns)
     && list_all (λ own. allows own.0.1 own.1) (zip header.columns values)
+
+-- a column is a header's and not a cell's
+abbrev pub drops : Header → Cell → ℕ → Bool
+drops header cell column =
+    list_any (λ own. own.0 == column) header.columns && not (names_column cell column)

@@ -50,6 +50,20 @@ pub fn same_columns(header: &Header, cell: &Cell) -> bool
         .all(|column| names_column(cell, column.0))
 }
 
+fn has_column(columns: &[(ColumnId, Allowed)], column: ColumnId) -> bool
+    ensures { result ≡ list_any (λ own. own.0 == column) columns.now }
+{
+    columns.iter().any(|own| own.0 == column)
+}
+
+/// Whether a column is a header's and not a cell's, so that a rollup from the one to the other drops it. It takes no
+/// memory.
+pub fn drops(header: &Header, cell: &Cell, column: ColumnId) -> bool
+    ensures { result ≡ headers.drops header.now cell.now column }
+{
+    has_column(header.columns.as_slice(), column) && !names_column(cell, column)
+}
+
 /// Whether a header allows a row of values, one for each of its columns. It takes no memory.
 pub fn is_allowed(header: &Header, values: &[ValueId]) -> bool
     requires { IsTrue (headers.is_header header.now) }

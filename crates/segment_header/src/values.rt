@@ -26,7 +26,7 @@ pub fn allows(allowed: &Allowed, value: ValueId) -> bool
     }
 }
 
-fn are_rising(values: &[ValueId]) -> bool
+pub(crate) fn are_rising(values: &[ValueId]) -> bool
     ensures { result ≡ rise values.now }
 {
     for i in 1..values.len() {

@@ -7,8 +7,9 @@ use Rattle.mdx_reader.specs.declared.place.Place.TheVariants as place
 use Rattle.query_meaning.specs.Keywords.{keyword_text}
 use Rattle.mdx_reader.specs.AxisMoves as axes
 use Rattle.mdx_reader.specs.AxisMoves.{head_of}
-use Rattle.mdx_reader.proofs.Answering.{taken}
+use Rattle.tokens.specs.Carried.{taken}
+use Rattle.mdx_reader.specs.Places.{rest_of}
 use Rattle.mdx_reader.proofs.in_axes.begin.Goals as goal
 
 pub returns-then-is_word-clause-takes : goal.returns-then-is_word-clause-takes
-returns-then-is_word-clause-takes c = λ at. taken place.Start place.Start at c.args.token (Word (keyword_text keyword.Select)) (place.AnAxis which.Columns) (place.AnAxis which.Columns) refl c.if-is_word.ensures refl (axes.select_taken at)
+returns-then-is_word-clause-takes c = λ at. taken rest_of place.Start place.Start at c.args.token (Word (keyword_text keyword.Select)) (place.AnAxis which.Columns) (place.AnAxis which.Columns) refl c.if-is_word.ensures refl (axes.select_taken at)

@@ -9,11 +9,12 @@ use Rattle.query_meaning.specs.Keywords.{keyword_text}
 use Rattle.mdx_reader.specs.Places.{rest_of}
 use Rattle.mdx_reader.specs.AxisMoves as axes
 use Rattle.mdx_reader.specs.AxisMoves.{head_of}
-use Rattle.mdx_reader.proofs.Answering.{taken, ok_map}
+use Rattle.mdx_reader.proofs.Answering.{ok_map}
+use Rattle.tokens.specs.Carried.{taken}
 use Rattle.mdx_reader.proofs.in_axes.begin_axis.Goals as goal
 
 pub returns-then-is_word-clause-takes : goal.returns-then-is_word-clause-takes
-returns-then-is_word-clause-takes c = taken (place.AnAxis c.args.which) (place.AnAxis c.args.which) c.args.at c.args.token (Word (keyword_text keyword.Non)) (place.Non c.args.which) (place.Non c.args.which) refl c.if-is_word.ensures refl (axes.non_taken c.args.which c.args.at)
+returns-then-is_word-clause-takes c = taken rest_of (place.AnAxis c.args.which) (place.AnAxis c.args.which) c.args.at c.args.token (Word (keyword_text keyword.Non)) (place.Non c.args.which) (place.Non c.args.which) refl c.if-is_word.ensures refl (axes.non_taken c.args.which c.args.at)
 
 pub returns-clause-takes : goal.returns-clause-takes
 returns-clause-takes c =

@@ -8,19 +8,20 @@ use Rattle.mdx_reader.specs.declared.place.Place.TheVariants as place
 use Rattle.query_meaning.specs.Tree.{Braces, none}
 use Rattle.mdx_reader.specs.Places.{rest_of}
 use Rattle.mdx_reader.specs.SetMoves as sets
-use Rattle.mdx_reader.proofs.Answering.{taken, refused, ok_map}
+use Rattle.mdx_reader.proofs.Answering.{ok_map}
+use Rattle.tokens.specs.Carried.{taken, refused}
 use Rattle.mdx_reader.proofs.in_sets.begin_item.Goals as goal
 
 pub returns-then-is_sign-clause-takes : goal.returns-then-is_sign-clause-takes
 returns-then-is_sign-clause-takes c = let a = c.args in
-    taken (place.AnItem a.head a.around a.from a.left) (place.AnItem a.head a.around a.from a.left) a.at a.token (Sign 125) (place.AfterSet a.head a.around c.braces.result) (place.AfterSet a.head a.around (Braces a.from none))
+    taken rest_of (place.AnItem a.head a.around a.from a.left) (place.AnItem a.head a.around a.from a.left) a.at a.token (Sign 125) (place.AfterSet a.head a.around c.braces.result) (place.AfterSet a.head a.around (Braces a.from none))
     refl c.if-is_sign.ensures
     (ap (λ x. place.AfterSet a.head a.around x) (c.braces.ensures ∙ ap (Braces a.from) c.new.ensures))
     (sets.item_closed a.head a.around a.from a.left a.at)
 
 pub returns-then-left-eq0-clause-takes : goal.returns-then-left-eq0-clause-takes
 returns-then-left-eq0-clause-takes c = let a = c.args in
-    refused (place.AnItem a.head a.around a.from a.left) (place.AnItem a.head a.around a.from 0) (At a.at a.token) (ap (λ x. place.AnItem a.head a.around a.from x) c.if-left-eq0.true) (sets.item_refused a.head a.around a.from a.at a.token c.if-is_sign.ensures)
+    refused rest_of (place.AnItem a.head a.around a.from a.left) (place.AnItem a.head a.around a.from 0) (At a.at a.token) (ap (λ x. place.AnItem a.head a.around a.from x) c.if-left-eq0.true) (sets.item_refused a.head a.around a.from a.at a.token c.if-is_sign.ensures)
 
 pub returns-clause-takes : goal.returns-clause-takes
 returns-clause-takes c = let a = c.args in

@@ -3,8 +3,8 @@ use Rattle.std.proofs.Common.{◌≡◌, ◌++◌, Bool, true, false, ℕ, List,
 use Rattle.std.proofs.lemmas.Bool.{false≢true}
 use Rattle.std.proofs.lemmas.Bool.Decides.{Decides-eqb}
 use Rattle.std.proofs.lemmas.Slice.Eq.{starts_is}
-use Rattle.mdx_reader.specs.Words.{Begins}
-use Rattle.mdx_reader.proofs.keyword.begins.Goals as goal
+use Rattle.tokens.specs.Words.{Begins}
+use Rattle.tokens.proofs.keyword.begins.Goals as goal
 
 begins_at : (word front : List ℕ) (r : Bool) → (r ≡ true → word ≡ front ++ drop (length front) word) → ((more : List ℕ) → word ≡ front ++ more → r ≡ true) → MatchBool r (Begins front word) (¬ Begins front word)
 begins_at word front true f g = (drop (length front) word, sym (f refl))

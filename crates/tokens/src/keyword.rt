@@ -1,8 +1,8 @@
-//! Keywords of queries.
+//! Which keyword, sign or name a token is, and how keywords begin.
 ghost use Rattle.std.specs.Prelude.{◌≡◌, ◌⊎◌, List, ℕ, MatchBool, MatchOption};
 ghost use Rattle.query_meaning.specs.declared.token.Token.TheVariants.{Word, Sign, Name};
 ghost use Rattle.query_meaning.specs.Keywords.{keyword_text};
-ghost use Rattle.mdx_reader.specs.Words.{Begins};
+ghost use Rattle.tokens.specs.Words.{Begins};
 
 use olap_meaning::Text;
 use query_meaning::{Keyword, Token};
@@ -14,8 +14,8 @@ fn begins(front: &[u8], word: &[u8]) -> bool
     word.starts_with(front)
 }
 
-// Whether a keyword begins so.
-pub(crate) fn begins_keyword(front: &str, keyword: Keyword) -> bool
+/// Whether a keyword begins so.
+pub fn begins_keyword(front: &str, keyword: Keyword) -> bool
     ensures { MatchBool result
         (Begins front.now (keyword_text keyword))
         (¬ Begins front.now (keyword_text keyword)) }
@@ -35,6 +35,10 @@ pub(crate) fn begins_keyword(front: &str, keyword: Keyword) -> bool
         Keyword::Crossjoin => begins(front, b"CROSSJOIN"),
         Keyword::Members => begins(front, b"MEMBERS"),
         Keyword::Children => begins(front, b"CHILDREN"),
+        Keyword::Member => begins(front, b"MEMBER"),
+        Keyword::Range => begins(front, b"RANGE"),
+        Keyword::Measures => begins(front, b"MEASURES"),
+        Keyword::Union => begins(front, b"UNION"),
     }
 }
 
@@ -58,11 +62,15 @@ fn is_text(word: &str, keyword: Keyword) -> bool
         Keyword::Crossjoin => word == "CROSSJOIN",
         Keyword::Members => word == "MEMBERS",
         Keyword::Children => word == "CHILDREN",
+        Keyword::Member => word == "MEMBER",
+        Keyword::Range => word == "RANGE",
+        Keyword::Measures => word == "MEASURES",
+        Keyword::Union => word == "UNION",
     }
 }
 
-// Whether the token is the keyword.
-pub(crate) fn is_word(token: &Token, keyword: Keyword) -> bool
+/// Whether the token is the keyword.
+pub fn is_word(token: &Token, keyword: Keyword) -> bool
     ensures { MatchBool result
         (token.now ≡ Word (keyword_text keyword))
         (¬ token.now ≡ Word (keyword_text keyword)) }
@@ -74,8 +82,8 @@ pub(crate) fn is_word(token: &Token, keyword: Keyword) -> bool
     }
 }
 
-// Whether the token is the sign.
-pub(crate) fn is_sign(token: &Token, sign: char) -> bool
+/// Whether the token is the sign.
+pub fn is_sign(token: &Token, sign: char) -> bool
     ensures { MatchBool result (token.now ≡ Sign sign) (¬ token.now ≡ Sign sign) }
 {
     match token {
@@ -85,8 +93,8 @@ pub(crate) fn is_sign(token: &Token, sign: char) -> bool
     }
 }
 
-// The name that the token is.
-pub(crate) fn name_of(token: Token) -> Option<Text>
+/// The name that the token is.
+pub fn name_of(token: Token) -> Option<Text>
     ensures { MatchOption result
         ((name : List ℕ) → ¬ token ≡ Name name)
         (λ name. token ≡ Name name) }
@@ -98,8 +106,8 @@ pub(crate) fn name_of(token: Token) -> Option<Text>
     }
 }
 
-// Whether one of two keywords begins so.
-pub(crate) fn begins_either(front: &str, first: Keyword, second: Keyword) -> bool
+/// Whether one of two keywords begins so.
+pub fn begins_either(front: &str, first: Keyword, second: Keyword) -> bool
     ensures { MatchBool result
         (Begins front.now (keyword_text first) ⊎ Begins front.now (keyword_text second))
         ((¬ Begins front.now (keyword_text first)) × (¬ Begins front.now (keyword_text second))) }

@@ -1,0 +1,10 @@
+-- That `plain_widener` ensures what it says.
+use Rattle.std.proofs.Common.{Ok, IsTrue, subst, sym}
+use Rattle.segment_header.specs.Widening.{WidensPlainly, are_wanted}
+use Rattle.segment_header.proofs.widener.plain_widener.Goals as goal
+
+pub returns-clause-plain : goal.returns-clause-plain
+returns-clause-plain g c wanted count allowed asked given =
+    let said = (c.new.ensures wanted count (Ok allowed)).0 given in
+    subst (λ w. WidensPlainly w count allowed) said.shows
+    (c.requires.plain said.shown count (Ok allowed) (subst (λ w. IsTrue (are_wanted w count)) (sym said.shows) asked) said.says)
