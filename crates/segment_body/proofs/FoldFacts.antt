@@ -34,7 +34,7 @@ module _ (test : List ℕ → Bool) where
       rw (take_more groups i g inside, flat_map-append (λ (group : Group). if test group.values then group.tally.values else []) (take i groups) (get_or groups i g ∷ []), ← here)
       (ap (λ (ns : List (Option ℤ)). picked test (take i groups) ++ ns) (append-nil (if test g.values then g.tally.values else [])))
 
-  picked_fits : (groups : List Group) → length (picked test groups) ≤ length (all_numbers groups)
+  pub picked_fits : (groups : List Group) → length (picked test groups) ≤ length (all_numbers groups)
   picked_fits [] = omega arith
   picked_fits (g ∷ gs) =
       let rest = picked_fits gs in

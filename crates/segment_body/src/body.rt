@@ -1,21 +1,23 @@
 //! The cells of a segment.
-ghost use Rattle.std.specs.Prelude.{◌≡◌, ◌≢◌, ◌<◌, ◌≤◌, ◌+◌, ◌++◌, ◌∷◌, [], IfOk, OnOk, OnErr, IfSome, IfNone, IsTrue, length, map, filter, is_some};
-ghost use Rattle.std.specs.List.{list_all};
+ghost use Rattle.std.specs.Prelude.{◌≡◌, ◌≢◌, ◌<◌, ◌≤◌, ◌+◌, ◌++◌, ◌∷◌, [], All, IfOk, OnOk, OnErr, IfSome, IfNone, IsTrue, length, map, filter, is_some};
+ghost use Rattle.std.specs.List.{AllZip, list_all};
 ghost use Rattle.std.specs.List.Sorted.{IsPermutation};
-ghost use Rattle.olap_meaning.specs.Covering.{just_covers};
+ghost use Rattle.olap_meaning.specs.Covering.{header_covers, just_covers};
 ghost use Rattle.olap_meaning.specs.Legal.{rise};
 ghost use Rattle.olap_meaning.specs.Texts.{CanBeShown};
 ghost use Rattle.olap_meaning.specs.Values.{aggregate};
 ghost use Rattle.segment_header.specs.Headers.{are_allowed, is_header};
+ghost use Rattle.segment_body.specs.AllFolds.{IsFolded, are_alike};
 ghost use Rattle.segment_body.specs.BodyOf.{body_row_in, different_values, has_row, numbers_at};
 ghost use Rattle.segment_body.specs.Folds.{body_row_at, numbers_where};
 
+use crate::all_folds::{fold_into, places_in, tallies_of, wanted_by};
 use crate::folds::{fold_in, fold_valued};
 use crate::group::{Block, GroupTable};
 use crate::search::place_in;
 use measure_folds::Tally;
 use olap_meaning::{
-    Aggregator, Cell, CellValue, ColumnId, Header, OutOfMemory, ROW_LIMIT, ValueId,
+    Aggregator, Cell, CellValue, ColumnId, Header, List, OutOfMemory, ROW_LIMIT, ValueId,
 };
 use std::alloc::Global;
 use std::marker::Model;
@@ -67,7 +69,9 @@ impl Body {
             (self.new ≡ record self.old { rows = self.old.rows ++ (values.now, value) ∷ [] }) }
         ensures err { OnErr result (self.new ≡ self.old) }
     {
-        let place = self.groups.add_row(self.alloc, self.aggregator, values, value)?;
+        let place = self
+            .groups
+            .add_row(self.alloc, self.aggregator, values, value)?;
         let numbers = Trace::new().and(&value);
         self.parts = self.parts.and(&Block { place, numbers });
         Ok(())
@@ -90,7 +94,9 @@ impl Body {
         if tally.rows() == 0 {
             return Ok(());
         }
-        let place = self.groups.add_tally(self.alloc, self.aggregator, values, tally)?;
+        let place = self
+            .groups
+            .add_tally(self.alloc, self.aggregator, values, tally)?;
         let numbers = tally.numbers();
         self.parts = self.parts.and(&Block { place, numbers });
         Ok(())
@@ -167,6 +173,30 @@ impl Body {
             column,
             value,
         )
+    }
+
+    /// The tallies of the rows that are in each of some cells of the same columns, in one pass over the groups.
+    pub fn fold_all(&self, cells: &[Cell]) -> Result<List<Tally>, OutOfMemory>
+        requires adds_up { self.now.aggregator ≢ Aggregator.DistinctCount }
+        requires alike { IsTrue (are_alike cells.now) }
+        requires covered { All (λ cell. IsTrue (header_covers self.now.header cell)) cells.now }
+        ensures { IfOk result (AllZip (IsFolded self.now) cells.now) }
+    {
+        if cells.is_empty() {
+            return Ok(List::new(self.alloc));
+        }
+        let columns = self.header.columns.as_slice();
+        let places = places_in(self.alloc, columns, cells[0].at.as_slice())?;
+        let wanted = wanted_by(self.alloc, self.aggregator, cells)?;
+        let table = fold_into(
+            self.alloc,
+            self.aggregator,
+            &self.groups,
+            &places,
+            wanted,
+            cells,
+        )?;
+        tallies_of(self.alloc, self.aggregator, &table, cells)
     }
 
     /// How many different lists of values the rows have. It takes no memory.

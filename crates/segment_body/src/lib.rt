@@ -3,9 +3,11 @@
 //! A group is found by the hash of its values. Tallies of groups are merged, which takes no memory and no row.
 #![tactic(auto)]
 
+mod all_folds;
 mod body;
 mod folds;
 mod group;
 mod search;
 
+pub use all_folds::are_alike;
 pub use body::Body;

@@ -34,10 +34,7 @@ fn are_below(values: &[ValueId], count: u32) -> bool
 pub fn are_wanted(wanted: &[ValueId], count: u32) -> bool
     ensures { result ≡ widening.are_wanted wanted.now count }
 {
-    !wanted.is_empty()
-        && are_rising(wanted)
-        && are_below(wanted, count)
-        && count <= RECORD_LIMIT
+    !wanted.is_empty() && are_rising(wanted) && are_below(wanted, count) && count <= RECORD_LIMIT
 }
 
 /// Says what a load allows in a column by a closure, so that a load may fetch more than what a query asks for. It is kept

@@ -1,3 +1,4 @@
+-- That `fold_in` ensures what it says.
 use Rattle.std.proofs.Common.{◌∙◌, sym, arith}
 use Rattle.segment_body.specs.Folds.{are_at}
 use Rattle.segment_body.specs.Groups.{group}

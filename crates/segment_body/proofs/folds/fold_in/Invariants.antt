@@ -1,3 +1,4 @@
+-- What holds at each turn of `fold_in`.
 use Rattle.std.proofs.Common.{◌≡◌, take}
 use Rattle.segment_body.specs.Folds.{picked, are_at}
 use Rattle.segment_body.proofs.folds.fold_in.Given as goal

@@ -1,3 +1,4 @@
+-- That `fold_valued` ensures what it says.
 use Rattle.std.proofs.Common.{◌∙◌, sym, arith}
 use Rattle.segment_body.specs.Folds.{are_at_value}
 use Rattle.segment_body.specs.Groups.{group}

@@ -1,3 +1,4 @@
+-- What holds at each turn of `fold_valued`.
 use Rattle.std.proofs.Common.{◌≡◌, take}
 use Rattle.segment_body.specs.Folds.{picked, are_at_value}
 use Rattle.segment_body.proofs.folds.fold_valued.Given as goal

@@ -1,3 +1,4 @@
+-- That `walk_to` ensures what it says.
 use Rattle.std.proofs.Common.{◌∙◌, bytes_eq, map, sym, take}
 use Rattle.segment_body.specs.Groups.{Group, group}
 use Rattle.segment_body.proofs.MapFacts.{first_position}

@@ -1,3 +1,4 @@
+-- What holds at each turn of `walk_to`.
 use Rattle.std.proofs.Common.{◌≡◌, None, bytes_eq, map, take}
 use Rattle.std.specs.Prelude.{position}
 use Rattle.segment_body.proofs.search.walk_to.Given as goal

@@ -1,3 +1,4 @@
+-- That `add` ensures what it says.
 use Rattle.std.proofs.Common.{◌∙◌, ◌∷◌, [], ◌++◌, ℤ, List, Option, ap, refl}
 use Rattle.olap_meaning.specs.declared.TheConstants.{ROW_LIMIT}
 use Rattle.segment_body.specs.Groups.{placed_in, rows_of}

@@ -1,3 +1,4 @@
+-- That `add_group` ensures what it says.
 use Rattle.std.proofs.Common.{◌≡◌, ◌∙◌, length, refl}
 use Rattle.segment_body.specs.Groups.{placed_in, rows_of}
 use Rattle.segment_body.proofs.FoldFacts.{held_alike}

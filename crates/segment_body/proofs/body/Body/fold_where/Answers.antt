@@ -1,3 +1,4 @@
+-- That `fold_where` ensures what it says.
 use Rattle.std.proofs.Common.{refl, sym, ap}
 use Rattle.measure_folds.specs.Tallied.{Tallied}
 use Rattle.list_orders.proofs.Aggregates.{aggregate_permutes}

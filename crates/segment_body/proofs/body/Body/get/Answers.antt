@@ -1,3 +1,4 @@
+-- That `get` ensures what it says.
 use Rattle.std.proofs.Common.{◌∙◌, sym, ap}
 use Rattle.segment_body.specs.Groups.{Group, group}
 use Rattle.segment_body.proofs.GroupFacts.{group_found, row_found, row_missed, numbers_missed}
