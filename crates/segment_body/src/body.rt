@@ -1,5 +1,5 @@
 //! The cells of a segment.
-ghost use Rattle.std.specs.Prelude.{◌≡◌, ◌≢◌, ◌<◌, ◌≤◌, ◌+◌, ◌++◌, ◌∷◌, [], All, IfOk, OnOk, OnErr, IfSome, IfNone, IsTrue, length, map, filter, is_some};
+ghost use Rattle.std.specs.Prelude.{◌≡◌, ◌≢◌, ◌<◌, ◌≤◌, ◌+◌, ◌++◌, ◌∷◌, [], IfOk, OnOk, OnErr, IfSome, IfNone, IsTrue, length, map, filter, is_some};
 ghost use Rattle.std.specs.List.{AllZip, list_all};
 ghost use Rattle.std.specs.List.Sorted.{IsPermutation};
 ghost use Rattle.olap_meaning.specs.Covering.{header_covers, just_covers};
@@ -179,7 +179,7 @@ impl Body {
     pub fn fold_all(&self, cells: &[Cell]) -> Result<List<Tally>, OutOfMemory>
         requires adds_up { self.now.aggregator ≢ Aggregator.DistinctCount }
         requires alike { IsTrue (are_alike cells.now) }
-        requires covered { All (λ cell. IsTrue (header_covers self.now.header cell)) cells.now }
+        requires covered { IsTrue (list_all (header_covers self.now.header) cells.now) }
         ensures { IfOk result (AllZip (IsFolded self.now) cells.now) }
     {
         if cells.is_empty() {
