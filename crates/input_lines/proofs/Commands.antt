@@ -50,6 +50,7 @@ or_parts false b none = (refl, none)
 pub record HasNone (line : List ℕ) : Type 0 where
   pub mdx : is_some (argument_of (codes "MDX") line) ≡ false
   pub append : is_some (argument_of (codes "APPEND") line) ≡ false
+  pub flush : is_some (argument_of (codes "FLUSH") line) ≡ false
   pub after : is_some (argument_of (codes "AFTER") line) ≡ false
   pub quit : is_some (argument_of (codes "QUIT") line) ≡ false
   pub unbuilt : has_one_of unbuilt_commands line ≡ false
@@ -58,18 +59,18 @@ pub has_none : (line : List ℕ) → has_one_of commands line ≡ false → HasN
 has_none line none =
     let first = or_parts (is_some (argument_of (codes "MDX") line)) _ none in
     let second = or_parts (is_some (argument_of (codes "APPEND") line)) _ first.1 in
-    let third = or_parts (is_some (argument_of (codes "AFTER") line)) _ second.1 in
-    let fourth = or_parts (is_some (argument_of (codes "QUIT") line)) _ third.1 in record { mdx = first.0; append = second.0; after = third.0; quit = fourth.0; unbuilt = fourth.1 }
+    let third = or_parts (is_some (argument_of (codes "FLUSH") line)) _ second.1 in
+    let fourth = or_parts (is_some (argument_of (codes "AFTER") line)) _ third.1 in
+    let fifth = or_parts (is_some (argument_of (codes "QUIT") line)) _ fourth.1 in record { mdx = first.0; append = second.0; flush = third.0; after = fourth.0; quit = fifth.0; unbuilt = fifth.1 }
 
 -- a line with a command of which nothing is built has no other
-pub built_no : (word line : List ℕ) → bytes_eq (codes "FLUSH") word ≡ false → bytes_eq (codes "AGG") word ≡ false → bytes_eq (codes "CACHE") word ≡ false → has_one_of unbuilt_commands line ≡ true → argument_of word line ≡ None
-built_no word line flush agg cache has = by (is_some (argument_of (codes "FLUSH") line)) (is_some (argument_of (codes "AGG") line)) (is_some (argument_of (codes "CACHE") line)) refl refl refl has
+pub built_no : (word line : List ℕ) → bytes_eq (codes "AGG") word ≡ false → bytes_eq (codes "CACHE") word ≡ false → has_one_of unbuilt_commands line ≡ true → argument_of word line ≡ None
+built_no word line agg cache has = by (is_some (argument_of (codes "AGG") line)) (is_some (argument_of (codes "CACHE") line)) refl refl has
   where
-    by : (a b c : Bool) → is_some (argument_of (codes "FLUSH") line) ≡ a → is_some (argument_of (codes "AGG") line) ≡ b → is_some (argument_of (codes "CACHE") line) ≡ c → (a || (b || (c || false))) ≡ true → argument_of word line ≡ None
-    by true b c x y z h = no_other (codes "FLUSH") word line flush x
-    by false true c x y z h = no_other (codes "AGG") word line agg y
-    by false false true x y z h = no_other (codes "CACHE") word line cache z
-    by false false false x y z h = absurd (let n : ⊥ = cc in n)
+    by : (a b : Bool) → is_some (argument_of (codes "AGG") line) ≡ a → is_some (argument_of (codes "CACHE") line) ≡ b → (a || (b || false)) ≡ true → argument_of word line ≡ None
+    by true b x y h = no_other (codes "AGG") word line agg x
+    by false true x y h = no_other (codes "CACHE") word line cache y
+    by false false x y h = absurd (let n : ⊥ = cc in n)
 
 -- a line that ends the session has the command QUIT
 pub quit_has : (line : List ℕ) → is_quit line ≡ true → is_some (argument_of (codes "QUIT") line) ≡ true

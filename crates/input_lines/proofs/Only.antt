@@ -5,7 +5,9 @@ use Rattle.std.proofs.lemmas.List.{append_assoc}
 use Rattle.std.specs.Option.{option_map_or}
 use Rattle.std.specs.Str.{is_utf8}
 use Rattle.query_meaning.specs.declared.query.Query.{Query}
+use Rattle.query_meaning.specs.declared.region_text.RegionText.{RegionText}
 use Rattle.query_meaning.specs.Requests.{argument_of, commands, has_one_of, is_blank, unbuilt_commands}
+use Rattle.query_meaning.specs.WholeFlushes.{WritesFlush}
 use Rattle.query_meaning.specs.WholeQueries.{WritesQuery}
 use Rattle.text_forms.specs.Forms.{StopsAt, Writes}
 use Rattle.command_arguments.specs.Append.{IsAppend}
@@ -13,7 +15,7 @@ use Rattle.command_arguments.specs.Blank.{IsBlank}
 use Rattle.command_arguments.specs.Position.{IsPosition}
 use Rattle.command_arguments.specs.declared.append.AppendArgument.{AppendArgument}
 use Rattle.input_lines.specs.Asked.{AsksOnly}
-use Rattle.input_lines.specs.Requests.{Request, NotText, Blank, NoCommand, Stops, Quit, After, Append, Ask, Unbuilt, ArgumentStops, IsOnly, IsRequest, Stopped}
+use Rattle.input_lines.specs.Requests.{Request, NotText, Blank, NoCommand, Stops, Quit, After, Append, Ask, Flush, Unbuilt, ArgumentStops, IsOnly, IsRequest, Stopped}
 use Rattle.input_lines.proofs.Arguments.{writes_blank}
 use Rattle.input_lines.proofs.Commands.{built_no, has_none, has_some, no_other, none_in_blank, none_is_no, quit_has}
 
@@ -91,8 +93,8 @@ no_second word line argument other has apart second = none_is_no (argument_of ot
 has_it : (word line argument : List ℕ) → HasCommand word line argument → is_some (argument_of word line) ≡ false → ⊥
 has_it word line argument has none = not_both (is_some (argument_of word line)) (has_some _ argument has.is) none
 
-is_built : (word line argument : List ℕ) → HasCommand word line argument → bytes_eq (codes "FLUSH") word ≡ false → bytes_eq (codes "AGG") word ≡ false → bytes_eq (codes "CACHE") word ≡ false → has_one_of unbuilt_commands line ≡ true → ⊥
-is_built word line argument has flush agg cache unbuilt = none_is_no (argument_of word line) (built_no word line flush agg cache unbuilt) (has_some _ argument has.is)
+is_built : (word line argument : List ℕ) → HasCommand word line argument → bytes_eq (codes "AGG") word ≡ false → bytes_eq (codes "CACHE") word ≡ false → has_one_of unbuilt_commands line ≡ true → ⊥
+is_built word line argument has agg cache unbuilt = none_is_no (argument_of word line) (built_no word line agg cache unbuilt) (has_some _ argument has.is)
 
 -- what a line with the command MDX asks for
 mdx : (line argument : List ℕ) → HasCommand (codes "MDX") line argument → (other : Request) → IsRequest line other → Means Ask WritesQuery argument other
@@ -101,13 +103,15 @@ mdx line argument has Blank asks = absurd (no_blank _ line argument has asks.1)
 mdx line argument has NoCommand asks = absurd (has_it _ line argument has (has_none line asks.2).mdx)
 mdx line argument has (Stops byte) (utf8, inl s) = its_stop Ask WritesQuery (codes "MDX") line argument byte has.is s
 mdx line argument has (Stops byte) (utf8, inr (inl s)) = absurd (no_second _ line argument (codes "APPEND") has refl (has_some _ s.argument s.command))
-mdx line argument has (Stops byte) (utf8, inr (inr (inl s))) = absurd (no_second _ line argument (codes "AFTER") has refl (has_some _ s.argument s.command))
-mdx line argument has (Stops byte) (utf8, inr (inr (inr s))) = absurd (no_second _ line argument (codes "QUIT") has refl (has_some _ s.argument s.command))
+mdx line argument has (Stops byte) (utf8, inr (inr (inl s))) = absurd (no_second _ line argument (codes "FLUSH") has refl (has_some _ s.argument s.command))
+mdx line argument has (Stops byte) (utf8, inr (inr (inr (inl s)))) = absurd (no_second _ line argument (codes "AFTER") has refl (has_some _ s.argument s.command))
+mdx line argument has (Stops byte) (utf8, inr (inr (inr (inr s)))) = absurd (no_second _ line argument (codes "QUIT") has refl (has_some _ s.argument s.command))
 mdx line argument has Quit asks = absurd (no_second _ line argument (codes "QUIT") has refl (quit_has line asks.1))
 mdx line argument has (After n) asks = absurd (no_second _ line argument (codes "AFTER") has refl (has_some _ asks.1.argument asks.1.command))
 mdx line argument has (Append a) asks = absurd (no_second _ line argument (codes "APPEND") has refl (has_some _ asks.1.argument asks.1.command))
 mdx line argument has (Ask q) asks = inl (q, refl, subst (λ a. WritesQuery a q) (one_argument (codes "MDX") line argument asks.1.argument has.is asks.1.command) asks.1.writes)
-mdx line argument has Unbuilt asks = absurd (is_built _ line argument has refl refl refl asks.1)
+mdx line argument has (Flush f) asks = absurd (no_second _ line argument (codes "FLUSH") has refl (has_some _ asks.1.argument asks.1.command))
+mdx line argument has Unbuilt asks = absurd (is_built _ line argument has refl refl asks.1)
 
 -- what a line with the command APPEND asks for
 append : (line argument : List ℕ) → HasCommand (codes "APPEND") line argument → (other : Request) → IsRequest line other → Means Append (Writes IsAppend) argument other
@@ -116,13 +120,32 @@ append line argument has Blank asks = absurd (no_blank _ line argument has asks.
 append line argument has NoCommand asks = absurd (has_it _ line argument has (has_none line asks.2).append)
 append line argument has (Stops byte) (utf8, inl s) = absurd (no_second _ line argument (codes "MDX") has refl (has_some _ s.argument s.command))
 append line argument has (Stops byte) (utf8, inr (inl s)) = its_stop Append (Writes IsAppend) (codes "APPEND") line argument byte has.is s
-append line argument has (Stops byte) (utf8, inr (inr (inl s))) = absurd (no_second _ line argument (codes "AFTER") has refl (has_some _ s.argument s.command))
-append line argument has (Stops byte) (utf8, inr (inr (inr s))) = absurd (no_second _ line argument (codes "QUIT") has refl (has_some _ s.argument s.command))
+append line argument has (Stops byte) (utf8, inr (inr (inl s))) = absurd (no_second _ line argument (codes "FLUSH") has refl (has_some _ s.argument s.command))
+append line argument has (Stops byte) (utf8, inr (inr (inr (inl s)))) = absurd (no_second _ line argument (codes "AFTER") has refl (has_some _ s.argument s.command))
+append line argument has (Stops byte) (utf8, inr (inr (inr (inr s)))) = absurd (no_second _ line argument (codes "QUIT") has refl (has_some _ s.argument s.command))
 append line argument has Quit asks = absurd (no_second _ line argument (codes "QUIT") has refl (quit_has line asks.1))
 append line argument has (After n) asks = absurd (no_second _ line argument (codes "AFTER") has refl (has_some _ asks.1.argument asks.1.command))
 append line argument has (Append q) asks = inl (q, refl, subst (λ a. Writes IsAppend a q) (one_argument (codes "APPEND") line argument asks.1.argument has.is asks.1.command) asks.1.writes)
 append line argument has (Ask q) asks = absurd (no_second _ line argument (codes "MDX") has refl (has_some _ asks.1.argument asks.1.command))
-append line argument has Unbuilt asks = absurd (is_built _ line argument has refl refl refl asks.1)
+append line argument has (Flush f) asks = absurd (no_second _ line argument (codes "FLUSH") has refl (has_some _ asks.1.argument asks.1.command))
+append line argument has Unbuilt asks = absurd (is_built _ line argument has refl refl asks.1)
+
+-- what a line with the command FLUSH asks for
+flush : (line argument : List ℕ) → HasCommand (codes "FLUSH") line argument → (other : Request) → IsRequest line other → Means Flush WritesFlush argument other
+flush line argument has NotText asks = absurd (is_text _ line argument has asks)
+flush line argument has Blank asks = absurd (no_blank _ line argument has asks.1)
+flush line argument has NoCommand asks = absurd (has_it _ line argument has (has_none line asks.2).flush)
+flush line argument has (Stops byte) (utf8, inl s) = absurd (no_second _ line argument (codes "MDX") has refl (has_some _ s.argument s.command))
+flush line argument has (Stops byte) (utf8, inr (inl s)) = absurd (no_second _ line argument (codes "APPEND") has refl (has_some _ s.argument s.command))
+flush line argument has (Stops byte) (utf8, inr (inr (inl s))) = its_stop Flush WritesFlush (codes "FLUSH") line argument byte has.is s
+flush line argument has (Stops byte) (utf8, inr (inr (inr (inl s)))) = absurd (no_second _ line argument (codes "AFTER") has refl (has_some _ s.argument s.command))
+flush line argument has (Stops byte) (utf8, inr (inr (inr (inr s)))) = absurd (no_second _ line argument (codes "QUIT") has refl (has_some _ s.argument s.command))
+flush line argument has Quit asks = absurd (no_second _ line argument (codes "QUIT") has refl (quit_has line asks.1))
+flush line argument has (After n) asks = absurd (no_second _ line argument (codes "AFTER") has refl (has_some _ asks.1.argument asks.1.command))
+flush line argument has (Append a) asks = absurd (no_second _ line argument (codes "APPEND") has refl (has_some _ asks.1.argument asks.1.command))
+flush line argument has (Ask q) asks = absurd (no_second _ line argument (codes "MDX") has refl (has_some _ asks.1.argument asks.1.command))
+flush line argument has (Flush q) asks = inl (q, refl, subst (λ a. WritesFlush a q) (one_argument (codes "FLUSH") line argument asks.1.argument has.is asks.1.command) asks.1.writes)
+flush line argument has Unbuilt asks = absurd (is_built _ line argument has refl refl asks.1)
 
 -- what a line with the command AFTER asks for
 after : (line argument : List ℕ) → HasCommand (codes "AFTER") line argument → (other : Request) → IsRequest line other → Means After (Writes IsPosition) argument other
@@ -131,13 +154,15 @@ after line argument has Blank asks = absurd (no_blank _ line argument has asks.1
 after line argument has NoCommand asks = absurd (has_it _ line argument has (has_none line asks.2).after)
 after line argument has (Stops byte) (utf8, inl s) = absurd (no_second _ line argument (codes "MDX") has refl (has_some _ s.argument s.command))
 after line argument has (Stops byte) (utf8, inr (inl s)) = absurd (no_second _ line argument (codes "APPEND") has refl (has_some _ s.argument s.command))
-after line argument has (Stops byte) (utf8, inr (inr (inl s))) = its_stop After (Writes IsPosition) (codes "AFTER") line argument byte has.is s
-after line argument has (Stops byte) (utf8, inr (inr (inr s))) = absurd (no_second _ line argument (codes "QUIT") has refl (has_some _ s.argument s.command))
+after line argument has (Stops byte) (utf8, inr (inr (inl s))) = absurd (no_second _ line argument (codes "FLUSH") has refl (has_some _ s.argument s.command))
+after line argument has (Stops byte) (utf8, inr (inr (inr (inl s)))) = its_stop After (Writes IsPosition) (codes "AFTER") line argument byte has.is s
+after line argument has (Stops byte) (utf8, inr (inr (inr (inr s)))) = absurd (no_second _ line argument (codes "QUIT") has refl (has_some _ s.argument s.command))
 after line argument has Quit asks = absurd (no_second _ line argument (codes "QUIT") has refl (quit_has line asks.1))
 after line argument has (After q) asks = inl (q, refl, subst (λ a. Writes IsPosition a q) (one_argument (codes "AFTER") line argument asks.1.argument has.is asks.1.command) asks.1.writes)
 after line argument has (Append a) asks = absurd (no_second _ line argument (codes "APPEND") has refl (has_some _ asks.1.argument asks.1.command))
 after line argument has (Ask q) asks = absurd (no_second _ line argument (codes "MDX") has refl (has_some _ asks.1.argument asks.1.command))
-after line argument has Unbuilt asks = absurd (is_built _ line argument has refl refl refl asks.1)
+after line argument has (Flush f) asks = absurd (no_second _ line argument (codes "FLUSH") has refl (has_some _ asks.1.argument asks.1.command))
+after line argument has Unbuilt asks = absurd (is_built _ line argument has refl refl asks.1)
 
 abbrev the_end : Unit {0} → Request
 the_end _ = Quit
@@ -149,13 +174,15 @@ quit line argument has Blank asks = absurd (no_blank _ line argument has asks.1)
 quit line argument has NoCommand asks = absurd (has_it _ line argument has (has_none line asks.2).quit)
 quit line argument has (Stops byte) (utf8, inl s) = absurd (no_second _ line argument (codes "MDX") has refl (has_some _ s.argument s.command))
 quit line argument has (Stops byte) (utf8, inr (inl s)) = absurd (no_second _ line argument (codes "APPEND") has refl (has_some _ s.argument s.command))
-quit line argument has (Stops byte) (utf8, inr (inr (inl s))) = absurd (no_second _ line argument (codes "AFTER") has refl (has_some _ s.argument s.command))
-quit line argument has (Stops byte) (utf8, inr (inr (inr s))) = its_stop the_end (Writes IsBlank) (codes "QUIT") line argument byte has.is s
+quit line argument has (Stops byte) (utf8, inr (inr (inl s))) = absurd (no_second _ line argument (codes "FLUSH") has refl (has_some _ s.argument s.command))
+quit line argument has (Stops byte) (utf8, inr (inr (inr (inl s)))) = absurd (no_second _ line argument (codes "AFTER") has refl (has_some _ s.argument s.command))
+quit line argument has (Stops byte) (utf8, inr (inr (inr (inr s)))) = its_stop the_end (Writes IsBlank) (codes "QUIT") line argument byte has.is s
 quit line argument has Quit asks = inl (tt, refl, writes_blank argument (sym (ap (λ o. option_map_or is_blank o false) has.is) ∙ asks.1))
 quit line argument has (After n) asks = absurd (no_second _ line argument (codes "AFTER") has refl (has_some _ asks.1.argument asks.1.command))
 quit line argument has (Append a) asks = absurd (no_second _ line argument (codes "APPEND") has refl (has_some _ asks.1.argument asks.1.command))
 quit line argument has (Ask q) asks = absurd (no_second _ line argument (codes "MDX") has refl (has_some _ asks.1.argument asks.1.command))
-quit line argument has Unbuilt asks = absurd (is_built _ line argument has refl refl refl asks.1)
+quit line argument has (Flush f) asks = absurd (no_second _ line argument (codes "FLUSH") has refl (has_some _ asks.1.argument asks.1.command))
+quit line argument has Unbuilt asks = absurd (is_built _ line argument has refl refl asks.1)
 
 pub only_ask : (argument : List ℕ) (q : Query) → WritesQuery argument q → ((p : Query) → WritesQuery argument p → p ≡ q) → AsksOnly (codes "MDX") argument (Ask q)
 only_ask argument q writes one line utf8 is other asks = only_value Ask WritesQuery argument q writes one other (mdx line argument (record { utf8 = utf8; some = refl; is = is }) other asks)
@@ -168,6 +195,12 @@ only_append argument q writes one line utf8 is other asks = only_value Append (W
 
 pub only_append_stop : (argument : List ℕ) (byte : ℕ) → StopsAt (Writes IsAppend) argument byte → AsksOnly (codes "APPEND") argument (Stops byte)
 only_append_stop argument byte stops line utf8 is other asks = only_stop Append (Writes IsAppend) argument byte stops other (append line argument (record { utf8 = utf8; some = refl; is = is }) other asks)
+
+pub only_flush : (argument : List ℕ) (q : RegionText) → WritesFlush argument q → ((p : RegionText) → WritesFlush argument p → p ≡ q) → AsksOnly (codes "FLUSH") argument (Flush q)
+only_flush argument q writes one line utf8 is other asks = only_value Flush WritesFlush argument q writes one other (flush line argument (record { utf8 = utf8; some = refl; is = is }) other asks)
+
+pub only_flush_stop : (argument : List ℕ) (byte : ℕ) → StopsAt WritesFlush argument byte → AsksOnly (codes "FLUSH") argument (Stops byte)
+only_flush_stop argument byte stops line utf8 is other asks = only_stop Flush WritesFlush argument byte stops other (flush line argument (record { utf8 = utf8; some = refl; is = is }) other asks)
 
 pub only_after : (argument : List ℕ) (q : ℕ) → Writes IsPosition argument q → ((p : ℕ) → Writes IsPosition argument p → p ≡ q) → AsksOnly (codes "AFTER") argument (After q)
 only_after argument q writes one line utf8 is other asks = only_value After (Writes IsPosition) argument q writes one other (after line argument (record { utf8 = utf8; some = refl; is = is }) other asks)
@@ -191,12 +224,14 @@ only_no_text line not_text Quit asks = absurd (not_both _ asks.0 not_text)
 only_no_text line not_text (After n) asks = absurd (not_both _ asks.0 not_text)
 only_no_text line not_text (Append a) asks = absurd (not_both _ asks.0 not_text)
 only_no_text line not_text (Ask q) asks = absurd (not_both _ asks.0 not_text)
+only_no_text line not_text (Flush f) asks = absurd (not_both _ asks.0 not_text)
 only_no_text line not_text Unbuilt asks = absurd (not_both _ asks.0 not_text)
 
 -- a line without the commands that have arguments
 record Free (line : List ℕ) : Type 0 where
   pub mdx : argument_of (codes "MDX") line ≡ None
   pub append : argument_of (codes "APPEND") line ≡ None
+  pub flush : argument_of (codes "FLUSH") line ≡ None
   pub after : argument_of (codes "AFTER") line ≡ None
   pub quit : argument_of (codes "QUIT") line ≡ None
 
@@ -205,13 +240,13 @@ has_not None none = refl
 has_not (Some argument) none = absurd (let n : ⊥ = cc in n)
 
 free_blank : (line : List ℕ) → is_blank line ≡ true → Free line
-free_blank line blank = record { mdx = none_in_blank (codes "MDX") line refl blank; append = none_in_blank (codes "APPEND") line refl blank; after = none_in_blank (codes "AFTER") line refl blank; quit = none_in_blank (codes "QUIT") line refl blank }
+free_blank line blank = record { mdx = none_in_blank (codes "MDX") line refl blank; append = none_in_blank (codes "APPEND") line refl blank; flush = none_in_blank (codes "FLUSH") line refl blank; after = none_in_blank (codes "AFTER") line refl blank; quit = none_in_blank (codes "QUIT") line refl blank }
 
 free_none : (line : List ℕ) → has_one_of commands line ≡ false → Free line
-free_none line without = let none = has_none line without in record { mdx = has_not _ none.mdx; append = has_not _ none.append; after = has_not _ none.after; quit = has_not _ none.quit }
+free_none line without = let none = has_none line without in record { mdx = has_not _ none.mdx; append = has_not _ none.append; flush = has_not _ none.flush; after = has_not _ none.after; quit = has_not _ none.quit }
 
 free_unbuilt : (line : List ℕ) → has_one_of unbuilt_commands line ≡ true → Free line
-free_unbuilt line has = record { mdx = built_no (codes "MDX") line refl refl refl has; append = built_no (codes "APPEND") line refl refl refl has; after = built_no (codes "AFTER") line refl refl refl has; quit = built_no (codes "QUIT") line refl refl refl has }
+free_unbuilt line has = record { mdx = built_no (codes "MDX") line refl refl has; append = built_no (codes "APPEND") line refl refl has; flush = built_no (codes "FLUSH") line refl refl has; after = built_no (codes "AFTER") line refl refl has; quit = built_no (codes "QUIT") line refl refl has }
 
 no_argument : (word line argument : List ℕ) → argument_of word line ≡ None → argument_of word line ≡ Some argument → ⊥
 no_argument word line argument none is = none_is_no (argument_of word line) none (has_some _ argument is)
@@ -219,8 +254,9 @@ no_argument word line argument none is = none_is_no (argument_of word line) none
 no_stop : (line : List ℕ) (byte : ℕ) → Free line → Stopped line byte → ⊥
 no_stop line byte free (inl s) = no_argument (codes "MDX") line s.argument free.mdx s.command
 no_stop line byte free (inr (inl s)) = no_argument (codes "APPEND") line s.argument free.append s.command
-no_stop line byte free (inr (inr (inl s))) = no_argument (codes "AFTER") line s.argument free.after s.command
-no_stop line byte free (inr (inr (inr s))) = no_argument (codes "QUIT") line s.argument free.quit s.command
+no_stop line byte free (inr (inr (inl s))) = no_argument (codes "FLUSH") line s.argument free.flush s.command
+no_stop line byte free (inr (inr (inr (inl s)))) = no_argument (codes "AFTER") line s.argument free.after s.command
+no_stop line byte free (inr (inr (inr (inr s)))) = no_argument (codes "QUIT") line s.argument free.quit s.command
 
 -- such a line of text asks for something that has no argument
 abbrev Plain : List ℕ → Request → Type 0
@@ -235,14 +271,15 @@ plain line utf8 free Quit asks = absurd (none_is_no _ free.quit (quit_has line a
 plain line utf8 free (After n) asks = absurd (no_argument (codes "AFTER") line asks.1.argument free.after asks.1.command)
 plain line utf8 free (Append a) asks = absurd (no_argument (codes "APPEND") line asks.1.argument free.append asks.1.command)
 plain line utf8 free (Ask q) asks = absurd (no_argument (codes "MDX") line asks.1.argument free.mdx asks.1.command)
+plain line utf8 free (Flush f) asks = absurd (no_argument (codes "FLUSH") line asks.1.argument free.flush asks.1.command)
 plain line utf8 free Unbuilt asks = inr (inr (refl, asks.1))
 
 -- a blank line has no command of which nothing is built
 blank_unbuilt : (line : List ℕ) → is_blank line ≡ true → has_one_of unbuilt_commands line ≡ true → ⊥
-blank_unbuilt line blank has = by (none_in_blank (codes "FLUSH") line refl blank) (none_in_blank (codes "AGG") line refl blank) (none_in_blank (codes "CACHE") line refl blank)
+blank_unbuilt line blank has = by (none_in_blank (codes "AGG") line refl blank) (none_in_blank (codes "CACHE") line refl blank)
   where
-    by : argument_of (codes "FLUSH") line ≡ None → argument_of (codes "AGG") line ≡ None → argument_of (codes "CACHE") line ≡ None → ⊥
-    by flush agg cache = not_both (has_one_of unbuilt_commands line) has (rw (flush, agg, cache) refl)
+    by : argument_of (codes "AGG") line ≡ None → argument_of (codes "CACHE") line ≡ None → ⊥
+    by agg cache = not_both (has_one_of unbuilt_commands line) has (rw (agg, cache) refl)
 
 -- a blank line asks for nothing else
 pub only_blank : (line : List ℕ) → is_utf8 line ≡ true → is_blank line ≡ true → IsOnly line Blank

@@ -2,7 +2,9 @@
 use Rattle.std.specs.Prelude.{ℕ, ◌≡◌, ◌⊎◌, List, true, false, Some, codes}
 use Rattle.std.specs.Str.{is_utf8}
 use Rattle.query_meaning.specs.declared.query.Query.{Query}
+use Rattle.query_meaning.specs.declared.region_text.RegionText.{RegionText}
 use Rattle.query_meaning.specs.Requests.{argument_of, commands, has_one_of, is_blank, is_quit, unbuilt_commands}
+use Rattle.query_meaning.specs.WholeFlushes.{WritesFlush}
 use Rattle.query_meaning.specs.WholeQueries.{WritesQuery}
 use Rattle.text_forms.specs.Forms.{StopsAt, Writes}
 use Rattle.command_arguments.specs.Append.{IsAppend}
@@ -11,8 +13,8 @@ use Rattle.command_arguments.specs.Position.{IsPosition}
 use Rattle.command_arguments.specs.declared.append.AppendArgument.{AppendArgument}
 
 -- what a line asks for: nothing, since it is no text, or blank, or has no command, or its argument is none of its
--- command's form and stops at a byte; the end; that a cache has so many entries; an append; the answer to a query; or
--- what is not built
+-- command's form and stops at a byte; the end; that a cache has so many entries; an append; the answer to a query; a
+-- flush; or what is not built
 pub data Request : Type 0 where
   NotText : Request
   Blank : Request
@@ -22,6 +24,7 @@ pub data Request : Type 0 where
   After : ℕ → Request
   Append : AppendArgument → Request
   Ask : Query → Request
+  Flush : RegionText → Request
   Unbuilt : Request
 
 -- a line has a command, by its word, and an argument that writes this
@@ -44,6 +47,7 @@ abbrev pub Stopped : List ℕ → ℕ → Type 0
 Stopped line byte =
     ArgumentStops (codes "MDX") WritesQuery line byte
     ⊎ ArgumentStops (codes "APPEND") (Writes IsAppend) line byte
+    ⊎ ArgumentStops (codes "FLUSH") WritesFlush line byte
     ⊎ ArgumentStops (codes "AFTER") (Writes IsPosition) line byte
     ⊎ ArgumentStops (codes "QUIT") (Writes IsBlank) line byte
 
@@ -61,6 +65,8 @@ IsRequest line (Append argument) =
     (is_utf8 line ≡ true) × HasArgument (codes "APPEND") (Writes IsAppend) line argument
 IsRequest line (Ask query) =
     (is_utf8 line ≡ true) × HasArgument (codes "MDX") WritesQuery line query
+IsRequest line (Flush text) =
+    (is_utf8 line ≡ true) × HasArgument (codes "FLUSH") WritesFlush line text
 IsRequest line Unbuilt = (is_utf8 line ≡ true) × (has_one_of unbuilt_commands line ≡ true)
 
 -- a line asks for nothing else

@@ -9,6 +9,7 @@ use crate::argument::{argument_of, is_blank};
 use command_arguments::{AppendArgument, ReadFault, read_append, read_blank, read_position};
 use mdx_reader::{Query, QueryFault, read_query};
 use olap_meaning::OutOfMemory;
+use region_reader::{RegionText, RegionTextFault, read_region};
 use std::alloc::Global;
 use std::str;
 
@@ -31,6 +32,8 @@ pub enum Request {
     Append(AppendArgument),
     /// The answer to a query.
     Ask(Query),
+    /// That a region of a cube is flushed.
+    Flush(RegionText),
     /// What is not built.
     Unbuilt,
 }
@@ -57,9 +60,6 @@ fn has_command(word: &str, line: &str) -> bool
 fn has_unbuilt_command(line: &str) -> bool
     ensures { result ≡ has_one_of unbuilt_commands line.now }
 {
-    if has_command("FLUSH", line) {
-        return true;
-    }
     if has_command("AGG", line) {
         return true;
     }
@@ -91,6 +91,18 @@ fn ask_append(alloc: Global, argument: &str) -> Result<Request, OutOfMemory>
     }
 }
 
+// What the command FLUSH with this argument asks for.
+fn ask_flush(alloc: Global, argument: &str) -> Result<Request, OutOfMemory>
+    ensures request { IfOk result (λ request. Asks (codes "FLUSH") argument.now (asked request)) }
+    ensures one { IfOk result (λ request. AsksOnly (codes "FLUSH") argument.now (asked request)) }
+{
+    match read_region(alloc, argument) {
+        Ok(flush) => Ok(Request::Flush(flush)),
+        Err(RegionTextFault::SyntaxAt { byte }) => Ok(Request::Stops(byte)),
+        Err(RegionTextFault::OutOfMemory) => Err(OutOfMemory),
+    }
+}
+
 // What the command AFTER with this argument asks for.
 fn ask_after(alloc: Global, argument: &str) -> Result<Request, OutOfMemory>
     ensures request { IfOk result (λ request. Asks (codes "AFTER") argument.now (asked request)) }
@@ -117,7 +129,7 @@ fn ask_quit(alloc: Global, argument: &str) -> Result<Request, OutOfMemory>
     }
 }
 
-/// The one thing that a line asks for. Only a line with the command MDX or APPEND takes memory.
+/// The one thing that a line asks for. Only a line with the command MDX, APPEND or FLUSH takes memory.
 pub fn read_request(alloc: Global, line: &[u8]) -> Result<Request, OutOfMemory>
     requires { length line.now < 2 ^ 32 }
     ensures request { IfOk result (λ request. IsRequest line.now (asked request)) }
@@ -135,6 +147,9 @@ pub fn read_request(alloc: Global, line: &[u8]) -> Result<Request, OutOfMemory>
     }
     if let Some(argument) = argument_of("APPEND", text) {
         return ask_append(alloc, argument);
+    }
+    if let Some(argument) = argument_of("FLUSH", text) {
+        return ask_flush(alloc, argument);
     }
     if let Some(argument) = argument_of("AFTER", text) {
         return ask_after(alloc, argument);

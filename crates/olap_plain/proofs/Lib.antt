@@ -1,3 +1,4 @@
 pub mod EntryFacts
 pub mod StepFacts
 pub mod Fields
+pub mod RowListFacts

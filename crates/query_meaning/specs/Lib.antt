@@ -12,7 +12,6 @@ pub mod RegionCodes
 pub mod RegionView
 pub mod RegionSizes
 pub mod RegionFalls
-pub mod RegionMeaning
 pub mod Grammar
 pub mod WholeQueries
 pub mod FlushGrammar
@@ -23,6 +22,8 @@ pub mod GridForm
 pub mod Grids
 pub mod OwnAxes
 pub mod Resolution
+pub mod RegionMeaning
 pub mod AxisCells
 pub mod Requests
 pub mod Replies
+pub mod RegionReplies

@@ -24,10 +24,14 @@ syntax_reply byte = line (codes "ERR 4 SYNTAX " ++ decimal byte)
 abbrev pub no_cube_reply : List ℕ → List ℕ
 no_cube_reply name = named_line (codes "ERR 5 CUBE") name
 
+-- the reply to a name without a match
+abbrev pub no_member_reply : List ℕ → List ℕ
+no_member_reply name = named_line (codes "ERR 6 MEMBER") name
+
 -- the reply to a query that means no axes, by its first refusal
 abbrev pub refusal_reply : Refusal → List ℕ
 refusal_reply (NoCube name) = no_cube_reply name
-refusal_reply (NoMember name) = named_line (codes "ERR 6 MEMBER") name
+refusal_reply (NoMember name) = no_member_reply name
 refusal_reply (AxisTwice hierarchy) = named_line (codes "ERR 7 AXIS TWICE") hierarchy
 refusal_reply (MixedSet at) = line (codes "ERR 8 MIXED " ++ decimal at)
 refusal_reply (TooManyCells count limit) =

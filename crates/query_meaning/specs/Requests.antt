@@ -43,11 +43,12 @@ has_one_of words line = list_any (λ word. is_some (argument_of word line)) word
 
 -- the commands of which nothing is built yet
 abbrev pub unbuilt_commands : List (List ℕ)
-unbuilt_commands = codes "FLUSH" ∷ codes "AGG" ∷ codes "CACHE" ∷ []
+unbuilt_commands = codes "AGG" ∷ codes "CACHE" ∷ []
 
 -- all commands
 abbrev pub commands : List (List ℕ)
-commands = codes "MDX" ∷ codes "APPEND" ∷ codes "AFTER" ∷ codes "QUIT" ∷ unbuilt_commands
+commands =
+    codes "MDX" ∷ codes "APPEND" ∷ codes "FLUSH" ∷ codes "AFTER" ∷ codes "QUIT" ∷ unbuilt_commands
 
 -- a line ends the session: QUIT, and white
 abbrev pub is_quit : List ℕ → Bool
@@ -57,4 +58,6 @@ is_quit line = option_map_or is_blank (argument_of (codes "QUIT") line) false
 abbrev pub MayFindNoMemory : List ℕ → Type 0
 MayFindNoMemory line =
     (is_utf8 line ≡ true)
-    × (IsSome (argument_of (codes "MDX") line) ⊎ IsSome (argument_of (codes "APPEND") line))
+    × (IsSome (argument_of (codes "MDX") line)
+    ⊎ IsSome (argument_of (codes "APPEND") line)
+    ⊎ IsSome (argument_of (codes "FLUSH") line))

@@ -16,26 +16,7 @@ use olap_plain::steps::{is_legal, rows_held};
 use std::alloc::Global;
 use std::test::Fail;
 use test_samples::files::{later_sales, sales};
-
-/// A linear congruential generator.
-#[derive(Drop)]
-struct Random {
-    state: u64,
-}
-
-impl Random {
-    /// A number below another.
-    fn below(&mut self, n: u32) -> u32
-        requires { 0 < n }
-        ensures { result < n }
-    {
-        self.state = self
-            .state
-            .wrapping_mul(6_364_136_223_846_793_005)
-            .wrapping_add(1_442_695_040_888_963_407);
-        ((self.state >> 33) % u64::from(n)) as u32
-    }
-}
+use test_samples::random::Random;
 
 /// How many rows there may be.
 const LIMIT: u32 = 12;

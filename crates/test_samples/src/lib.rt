@@ -6,12 +6,14 @@ ghost use Rattle.std.specs.Prelude.{◌≡◌, length, map, IfSome};
 ghost use Rattle.olap_meaning.specs.Schema.{IsWithinLimits, levels_of};
 
 pub mod batches;
+pub mod bodies;
 pub mod files;
 mod jobs;
 pub mod lines;
 pub mod loads;
 pub mod members;
 pub mod opened;
+pub mod random;
 mod samples;
 
 use catalog_tables::Table;

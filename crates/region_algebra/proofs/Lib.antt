@@ -1,0 +1,11 @@
+pub mod BoolFacts
+pub mod FaultFacts
+pub mod Steps
+pub mod Counts
+pub mod DimFacts
+pub mod LevelFacts
+pub mod BoxFacts
+pub mod OwnFacts
+pub mod MemberFacts
+pub mod EndFacts
+pub mod LawFacts

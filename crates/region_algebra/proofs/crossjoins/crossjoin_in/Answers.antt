@@ -1,0 +1,6 @@
+-- That a crossjoin of regions is one.
+use Rattle.region_algebra.proofs.OwnFacts.{crossjoin_made}
+use Rattle.region_algebra.proofs.crossjoins.crossjoin_in.Goals as goal
+
+pub returns-clause-own : goal.returns-clause-own
+returns-clause-own c = crossjoin_made c.args.cube c.args.parts.now c.in_ok-dims.dims c.in_ok-boxes.boxes c.requires c.in_ok-refuse_product.ensures.ok c.in_ok-dims.ensures c.in_ok-boxes.ensures

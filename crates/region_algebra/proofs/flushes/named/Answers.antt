@@ -1,0 +1,9 @@
+-- That a fault of a path names no members.
+use Rattle.std.proofs.lemmas.Result.{IfErr-weaker, err_from_is_err_and}
+use Rattle.region_algebra.proofs.EndFacts.{path_names}
+use Rattle.region_algebra.proofs.flushes.named.Goals as goal
+
+pub returns-in_err-found-clause-members : goal.returns-in_err-found-clause-members
+returns-in_err-found-clause-members c =
+    let p = err_from_is_err_and c.from_residual.result c.from_residual.ensures.1 in
+    rw (p.1, p.2) (path_names c.args.catalog.now c.args.cube c.args.path.now c.in_err-found.field-0.0 c.in_err-found.ensures.fault)

@@ -1,0 +1,58 @@
+//! Crossjoins of regions.
+ghost use Rattle.std.specs.Prelude.{◌≡◌, ◌<◌, [], Ok, None, All, length, option_map, IfOk, IfErr, OnOk};
+ghost use Rattle.query_meaning.specs.RegionMeaning as meaning;
+ghost use Rattle.region_algebra.specs.Faults.{IsFaultOf, IsReason};
+ghost use Rattle.region_algebra.specs.Regions.{cube_of, IsRegion};
+
+use crate::boxes::all_crossed;
+use crate::dims::{all_dims, dim_again};
+use crate::fault::RegionFault;
+use crate::limits::refuse_product;
+use olap_meaning::{CubeId, Region, RegionDim};
+use std::alloc::Global;
+
+/// The crossjoin of some regions of one cube: each of its boxes is one box of each part put together, and the first part
+/// varies slowest. No two parts share a dimension. Its boxes are counted before one is made.
+pub fn crossjoin(alloc: Global, parts: &[Region]) -> Result<Region, RegionFault>
+    requires some { 0 < length parts.now }
+    requires cube { All (λ part. part.cube ≡ cube_of parts.now) parts.now }
+    requires regions { All IsRegion parts.now }
+    ensures ok { IfOk result
+        (λ region. meaning.crossjoin_meant (cube_of parts.now) parts.now ≡ Ok region) }
+    ensures own { IfOk result IsRegion }
+    ensures fault { IfErr result
+        (λ fault. IsFaultOf fault (meaning.crossjoin_meant (cube_of parts.now) parts.now)) }
+{
+    crossjoin_in(alloc, parts[0].cube, parts)
+}
+
+/// The crossjoin of some regions of a cube.
+pub(crate) fn crossjoin_in(
+    alloc: Global,
+    cube: CubeId,
+    parts: &[Region],
+) -> Result<Region, RegionFault>
+    requires { All IsRegion parts.now }
+    ensures ok { IfOk result (λ region. meaning.crossjoin_meant cube parts.now ≡ Ok region) }
+    ensures own { IfOk result IsRegion }
+    ensures fault { IfErr result
+        (λ fault. IsFaultOf fault (meaning.crossjoin_meant cube parts.now)) }
+{
+    let dims = all_dims(alloc, parts)?;
+    refuse_common(dims.as_slice())?;
+    refuse_product(parts)?;
+    let boxes = all_crossed(alloc, parts)?;
+    Ok(Region { cube, dims, boxes })
+}
+
+// Refuses the first of some dimensions that stood earlier already.
+fn refuse_common(dims: &[RegionDim]) -> Result<(), RegionFault>
+    ensures ok { OnOk result (meaning.dim_again [] dims.now ≡ None) }
+    ensures fault { IfErr result (λ fault. IsReason fault
+        (option_map meaning.CommonDimension (meaning.dim_again [] dims.now))) }
+{
+    match dim_again(dims) {
+        None => Ok(()),
+        Some(dimension) => Err(RegionFault::CommonDimension { dimension }),
+    }
+}

@@ -1,0 +1,5 @@
+pub mod Begins
+pub mod Moves
+pub mod Wants
+pub mod Finishes
+pub mod WholeFlushes

@@ -1,0 +1,21 @@
+-- That `read_region` ensures what it says.
+use Rattle.std.proofs.Common.{subst, Err}
+use Rattle.text_forms.specs.declared.ReadFault.{ReadFault}
+use Rattle.text_forms.specs.Forms.{Answers}
+use Rattle.tokens.specs.Modes.{Reads}
+use Rattle.query_meaning.specs.declared.region_text.RegionText.{RegionText}
+use Rattle.region_reader.specs.declared.place.Place.TheVariants.{ACube}
+use Rattle.region_reader.specs.Places.{rest_of}
+use Rattle.region_reader.proofs.WholeFlushes.{writes, written, stops}
+use Rattle.region_reader.proofs.reader.read_region.Goals as goal
+
+pub returns-in-Ok : goal.returns-in-Ok
+returns-in-Ok c =
+    let text = c.args.text.now in
+    (writes text c.in-Ok.flush c.in-Ok.ensures.0, λ other w. c.in-Ok.ensures.1 other (written text other w))
+
+pub returns-in-Err-StopsAt : goal.returns-in-Err-StopsAt
+returns-in-Err-StopsAt c =
+    let e = c.in-Err-StopsAt in
+    let text = c.args.text.now in
+    stops text e.byte (subst (λ (fault : ReadFault). Answers (λ (flush : RegionText). flush) (Reads (rest_of ACube)) (Unit {0}) text (Err fault)) e.field-0-is e.ensures)
