@@ -11,6 +11,8 @@ mod faults;
 #[cfg(test)]
 mod files;
 #[cfg(test)]
+mod folds;
+#[cfg(test)]
 mod headers;
 #[cfg(test)]
 mod loads;
@@ -18,3 +20,5 @@ mod loads;
 mod parts;
 #[cfg(test)]
 mod versions;
+#[cfg(test)]
+mod wideners;

@@ -21,7 +21,8 @@ use Rattle.segment_header.proofs.RiseFacts.{all_at}
 use Rattle.measure_folds.specs.Tallied.{Tallied}
 use Rattle.list_orders.specs.Parts.{are_different}
 use Rattle.list_orders.proofs.Aggregates.{aggregate_permutes}
-use Rattle.segment_body.specs.AllFolds.{AreWanted, IsFolded, IsTaken, are_alike, chosen, columns_of, places_of, values_in, wanted_group}
+use Rattle.segment_body.specs.AllFolds.{IsFolded, are_alike, columns_of, values_in}
+use Rattle.segment_body.specs.Tables.{AreWanted, IsTaken, chosen, places_of, wanted_group}
 use Rattle.segment_body.specs.BodyOf.{different_values}
 use Rattle.segment_body.specs.Folds.{are_at, picked}
 use Rattle.segment_body.specs.Groups.{AreHeld, Group, IsMerged, group, group_of, rows_of, values_of, with_numbers}

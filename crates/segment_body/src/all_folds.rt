@@ -2,7 +2,8 @@
 ghost use Rattle.std.specs.Prelude.{ℕ, ◌≡◌, ◌≢◌, ◌<◌, ◌+◌, ◌≤◌, ◌==◌, [], All, Contains, IfOk, IsTrue, List, OnOk, bytes_eq, flat_map, length, map};
 ghost use Rattle.std.specs.List.{AllZip, list_all, list_any, position_or_len};
 ghost use Rattle.segment_body.specs.AllFolds as all_folds;
-ghost use Rattle.segment_body.specs.AllFolds.{AreWanted, IsTaken, chosen, columns_of, places_of, values_in};
+ghost use Rattle.segment_body.specs.AllFolds.{columns_of, values_in};
+ghost use Rattle.segment_body.specs.Tables.{AreWanted, IsTaken, chosen, places_of};
 ghost use Rattle.segment_body.specs.Groups.{group, values_of};
 
 use crate::group::GroupTable;
@@ -11,7 +12,7 @@ use olap_meaning::{Aggregator, Allowed, Cell, ColumnId, List, OutOfMemory, ROW_L
 use std::alloc::Global;
 
 /// Whether the columns of some pairs are those of others, in the same order.
-fn same_columns(at: &[(ColumnId, ValueId)], other: &[(ColumnId, ValueId)]) -> bool
+fn have_same_columns(at: &[(ColumnId, ValueId)], other: &[(ColumnId, ValueId)]) -> bool
     ensures { result ≡ bytes_eq (map (λ pair. pair.0) at.now) (map (λ pair. pair.0) other.now) }
 {
     if at.len() != other.len() {
@@ -34,7 +35,7 @@ fn have_columns(cells: &[Cell], at: &[(ColumnId, ValueId)]) -> bool
 {
     cells
         .iter()
-        .all(|cell| same_columns(at, cell.at.as_slice()))
+        .all(|cell| have_same_columns(at, cell.at.as_slice()))
 }
 
 /// Whether cells have the same columns, in the same order. It takes no memory.

@@ -134,7 +134,8 @@ impl Body {
         }
     }
 
-    /// The tally of the rows that are in a cell, in some order. It takes no memory.
+    /// The tally of the rows that are in a cell, in some order. The cell's cube and measure are not looked at. It takes no
+    /// memory.
     pub fn fold_where(&self, cell: &Cell) -> Tally
         requires { self.now.aggregator ≢ Aggregator.DistinctCount }
         ensures aggregator { result.aggregator ≡ self.now.aggregator }

@@ -1,10 +1,12 @@
 -- Wanted values and the number of a column's values.
-use Rattle.std.proofs.Common.{◌≡◌, ◌<◌, ◌≤◌, ℕ, suc, ◌+◌, true, false, List, [], ◌∷◌, length, refl, arith, inl, inr}
-use Rattle.std.specs.Prelude.{◌&&◌, ◌==◌, IsTrue, nat_le, nat_lt}
+use Rattle.std.proofs.Common.{◌≡◌, ◌<◌, ◌≤◌, ℕ, suc, ◌+◌, true, false, List, [], ◌∷◌, Result, Ok, Err, length, refl, sym, subst, arith, inl, inr}
+use Rattle.std.specs.Prelude.{IfOk, ◌&&◌, ◌==◌, IsTrue, nat_le, nat_lt}
 use Rattle.std.specs.List.{list_all}
 use Rattle.std.proofs.lemmas.Bool.{and_from, and_parts, cases_Bool, cases_lt}
 use Rattle.std.proofs.lemmas.Bool.Decides.{nat_tests}
+use Rattle.olap_meaning.specs.declared.OutOfMemory.{OutOfMemory}
 use Rattle.olap_meaning.specs.declared.schema.TheConstants.{RECORD_LIMIT}
+use Rattle.olap_meaning.specs.declared.cells.Allowed.{Allowed}
 use Rattle.olap_meaning.specs.declared.cells.Allowed.TheVariants.{Any, Set}
 use Rattle.olap_meaning.specs.Covering.{allows, among}
 use Rattle.olap_meaning.specs.Legal.{rise}
@@ -138,7 +140,7 @@ any_all (x ∷ xs) = any_all xs
 
 -- any value serves
 pub any_serves : (wanted : List ℕ) (count : ℕ) → Serves wanted count Any
-any_serves wanted count = record { formed = refl; wide = any_all wanted; known = refl }
+any_serves wanted count = record { formed = refl; wide = any_all wanted; within = refl }
 
 -- the wanted set serves
 pub set_serves : (wanted : List ℕ) (count : ℕ) → IsTrue (are_wanted wanted count) → Serves wanted count (Set wanted)
@@ -147,7 +149,7 @@ set_serves wanted count asked =
     record {
       formed = and_from (nat_lt 0 (length wanted)) (rise wanted) parts.some parts.rising;
       wide = all_among wanted wanted (λ x held. held);
-      known = parts.below;
+      within = parts.below;
     }
 
 pub any_plain : (wanted : List ℕ) (count : ℕ) → IsTrue (are_wanted wanted count) → length wanted ≡ count → WidensPlainly wanted count Any
@@ -171,3 +173,12 @@ set_plain wanted count asked apart =
         let few = room wanted 0 count parts.rising (zero_le wanted) parts.below (omega arith) in
         let many = filled wanted 0 count parts.rising (zero_le wanted) (λ v from to. each v to) in
         omega (arith, few, many)
+
+-- what is answered plainly serves
+pub plain_serves : (wanted : List ℕ) (count : ℕ) (answer : Result Allowed OutOfMemory) → IsTrue (are_wanted wanted count) → IfOk answer (WidensPlainly wanted count) → IfOk answer (Serves wanted count)
+plain_serves wanted count (Err e) asked plain = tt
+plain_serves wanted count (Ok allowed) asked plain =
+    elim plain.set [
+      | inl any ↦ subst (Serves wanted count) (sym any) (any_serves wanted count)
+      | inr set ↦ subst (Serves wanted count) (sym set) (set_serves wanted count asked)
+    ]

@@ -29,7 +29,7 @@ is_within count (Set values) = are_below count values
 pub record Serves (wanted : List ℕ) (count : ℕ) (allowed : Allowed) : Type 0 where
   pub formed : IsTrue (is_set allowed)
   pub wide : IsTrue (list_all (allows allowed) wanted)
-  pub known : IsTrue (is_within count allowed)
+  pub within : IsTrue (is_within count allowed)
 
 -- the plain answer: any value exactly where all values of the column are wanted, else the wanted set
 pub record WidensPlainly (wanted : List ℕ) (count : ℕ) (allowed : Allowed) : Type 0 where

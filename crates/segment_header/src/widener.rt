@@ -69,6 +69,16 @@ impl Widener {
         Widener { widen }
     }
 
+    /// That each answer that it may give to wanted values serves them. This costs nothing.
+    pub fn answers_serve(&self)
+        ensures { (wanted : List ℕ) (count : ℕ) (allowed : Allowed)
+            → IsTrue (widening.are_wanted wanted count)
+            → ⟦<Widener as AllowsValues>⟧.answers self.now wanted count (Ok allowed)
+            → Serves wanted count allowed }
+    {
+        let _ = &self.widen;
+    }
+
     /// What a load may allow in a column, or want of memory, as the closure answers it.
     pub fn allow(&self, wanted: &[ValueId], count: u32) -> Result<Allowed, OutOfMemory>
         requires { IsTrue (widening.are_wanted wanted.now count) }
@@ -104,9 +114,6 @@ pub fn plain_widener(widen: Widening) -> Widener
     requires plain { (wanted : _) (count : _) (answer : _)
         → IsTrue (widening.are_wanted wanted.now count)
         → Widening.post widen wanted count answer → IfOk answer (WidensPlainly wanted.now count) }
-    requires serves { (wanted : _) (count : _) (answer : _)
-        → IsTrue (widening.are_wanted wanted.now count)
-        → Widening.post widen wanted count answer → IfOk answer (Serves wanted.now count) }
     ensures answers { (wanted : List ℕ) (count : ℕ) (answer : Result Allowed OutOfMemory)
         → ⟦<Widener as AllowsValues>⟧.answers result wanted count answer
         ↔ AnswersAt Widening.Fn widen wanted count answer }

@@ -280,7 +280,7 @@ fn cell_in(alloc: Global, word: &str) -> Result<Cell, Fail> {
     cell_at(alloc, &at).map_err(no_memory)
 }
 
-// What a cell is worth in two columns' rows.
+// What a cell is worth over some rows.
 fn said_of(alloc: Global, rows: &[SampleRow], asked: &str) -> Result<String, Fail> {
     let words = words(alloc, asked)?;
     let [name, cell] = words.as_slice() else {
@@ -290,11 +290,12 @@ fn said_of(alloc: Global, rows: &[SampleRow], asked: &str) -> Result<String, Fai
         return Err(Fail::from("no aggregator"));
     };
     let cells = [cell_in(alloc, cell)?];
-    let worths = worths_of(alloc, aggregator, 2, rows, &cells)?;
+    let columns = rows.first().map_or(0, |row| row.values.len());
+    let worths = worths_of(alloc, aggregator, columns as u16, rows, &cells)?;
     Ok(format!(in alloc; "{:?}", worths[0])?)
 }
 
-/// A table of folds over rows of two columns, each an aggregator and a cell, and what the cell is worth.
+/// A table of folds over rows, each an aggregator and a cell, and what the cell is worth.
 pub fn tell_folds(alloc: Global, rows: &str, table: &str) -> Result<String, Fail> {
     let rows = rows_in(alloc, rows)?;
     let mut text = String::new(alloc);

@@ -15,6 +15,7 @@ pub mod members;
 pub mod opened;
 pub mod random;
 mod samples;
+pub mod wideners;
 
 use catalog_tables::Table;
 use cube_schema::read_schema;

@@ -1,6 +1,6 @@
 -- What holds at each turn of `fold_into`.
 use Rattle.std.proofs.Common.{take}
-use Rattle.segment_body.specs.AllFolds.{AreWanted}
+use Rattle.segment_body.specs.Tables.{AreWanted}
 use Rattle.segment_body.proofs.all_folds.fold_into.Given as goal
 
 -- the table has the numbers of the groups so far

@@ -1,6 +1,6 @@
 -- What holds at each turn of `places_in`.
 use Rattle.std.proofs.Common.{◌≡◌, map, take}
-use Rattle.segment_body.specs.AllFolds.{places_of}
+use Rattle.segment_body.specs.Tables.{places_of}
 use Rattle.segment_body.proofs.all_folds.places_in.Given as goal
 
 abbrev pub invariant-loop-i : goal.invariant-loop-i

@@ -1,6 +1,6 @@
 -- That `take_in` ensures what it says.
 use Rattle.std.proofs.Common.{◌∙◌, inl, inr, sym}
-use Rattle.segment_body.specs.AllFolds.{chosen}
+use Rattle.segment_body.specs.Tables.{chosen}
 use Rattle.segment_body.specs.Groups.{Group, group}
 use Rattle.segment_body.proofs.GroupFacts.{found, unfound}
 use Rattle.segment_body.proofs.all_folds.take_in.Goals as goal

@@ -1,6 +1,6 @@
 -- What holds at each turn of `wanted_by`.
 use Rattle.std.proofs.Common.{ℕ, List, [], take}
-use Rattle.segment_body.specs.AllFolds.{AreWanted}
+use Rattle.segment_body.specs.Tables.{AreWanted}
 use Rattle.segment_body.proofs.all_folds.wanted_by.Given as goal
 
 -- the values of the cells so far are wanted

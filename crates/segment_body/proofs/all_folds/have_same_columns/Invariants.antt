@@ -1,6 +1,6 @@
--- What holds at each turn of `same_columns`, and what falls at each of them.
+-- What holds at each turn of `have_same_columns`, and what falls at each of them.
 use Rattle.std.proofs.Common.{◌≡◌, ◌-◌, bytes_eq, drop, length, map}
-use Rattle.segment_body.proofs.all_folds.same_columns.Given as goal
+use Rattle.segment_body.proofs.all_folds.have_same_columns.Given as goal
 
 -- what is left decides
 abbrev pub invariant-loop-i : goal.invariant-loop-i

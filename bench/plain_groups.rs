@@ -1,0 +1,72 @@
+//! The plain program that grids of many groups are measured beside: std alone, no quotes in its files, and a panic at each fault.
+//!
+//! plain_groups LARGE SMALL: reads flat.csv and other.csv into hash maps by key, and groups.csv into columns of numbers; sums the units
+//! up by both members, in a hash map by the two members' numbers packed into one; and writes the grid of all members so many times, and
+//! then the grid of the first ten other members so many times. Each grid looks its cells up anew.
+
+use std::collections::HashMap;
+use std::io::Write;
+
+fn table(file: &str) -> (HashMap<Vec<u8>, u32>, Vec<String>) {
+    let text = std::fs::read(file).unwrap();
+    let mut keys = HashMap::new();
+    let mut names = Vec::new();
+    for line in text.split(|c| *c == b'\n').skip(1).filter(|it| !it.is_empty()) {
+        let mut fields = line.split(|c| *c == b',');
+        keys.insert(fields.next().unwrap().to_vec(), names.len() as u32);
+        names.push(String::from_utf8(fields.next().unwrap().to_vec()).unwrap());
+    }
+    (keys, names)
+}
+
+fn facts(flat: &HashMap<Vec<u8>, u32>, other: &HashMap<Vec<u8>, u32>) -> (Vec<u32>, Vec<u32>, Vec<i64>) {
+    let bytes = std::fs::read("groups.csv").unwrap();
+    let mut facts = (Vec::new(), Vec::new(), Vec::new());
+    let mut fields = Vec::new();
+    for line in bytes.split(|c| *c == b'\n').skip(1).filter(|it| !it.is_empty()) {
+        fields.clear();
+        fields.extend(line.split(|c| *c == b','));
+        facts.0.push(flat[fields[0]]);
+        facts.1.push(other[fields[1]]);
+        facts.2.push(std::str::from_utf8(fields[2]).unwrap().parse().unwrap());
+    }
+    facts
+}
+
+fn grid(sums: &HashMap<u64, i128>, rows: &[String], columns: &[String], out: &mut Vec<u8>) {
+    writeln!(out, "GRID 1 {} {}", columns.len(), rows.len()).unwrap();
+    for column in columns {
+        writeln!(out, "C\t[Other].[{column}]").unwrap();
+    }
+    for (i, row) in rows.iter().enumerate() {
+        write!(out, "R\t[Flat].[{row}]").unwrap();
+        for j in 0..columns.len() {
+            match sums.get(&((i as u64) << 32 | j as u64)) {
+                Some(sum) => write!(out, "\t{sum}").unwrap(),
+                None => out.push(b'\t'),
+            }
+        }
+        out.push(b'\n');
+    }
+    out.extend(b".\n");
+}
+
+fn main() {
+    let times: Vec<usize> = std::env::args().skip(1).map(|word| word.parse().unwrap()).collect();
+    let (flat, rows) = table("flat.csv");
+    let (other, columns) = table("other.csv");
+    let facts = facts(&flat, &other);
+    let mut sums: HashMap<u64, i128> = HashMap::new();
+    if times[0] + times[1] > 0 {
+        for ((row, column), units) in facts.0.iter().zip(&facts.1).zip(&facts.2) {
+            *sums.entry((*row as u64) << 32 | *column as u64).or_insert(0) += i128::from(*units);
+        }
+    }
+    for (count, columns) in [(times[0], &columns[..]), (times[1], &columns[..10])] {
+        for _ in 0..count {
+            let mut out = Vec::new();
+            grid(&sums, &rows, columns, &mut out);
+            std::io::stdout().write_all(&out).unwrap();
+        }
+    }
+}
