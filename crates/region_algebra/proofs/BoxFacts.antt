@@ -14,7 +14,7 @@ use Rattle.olap_meaning.specs.declared.tables.Catalog.{Catalog}
 use Rattle.olap_meaning.specs.Legal.{is_box, is_measures, is_value}
 use Rattle.query_meaning.specs.declared.TheConstants.{BOX_LIMIT}
 use Rattle.query_meaning.specs.RegionMeaning.{all_crossed, all_dims, box_counts, crossed_boxes, many_crossed, many_united, together, too_many_boxes, whole_box}
-use Rattle.region_algebra.specs.Regions.{IsRegion}
+use Rattle.region_algebra.specs.Regions.{IsBounded}
 use Rattle.region_algebra.proofs.BoolFacts.{and_true, false_le, or_true, true_le, true_or}
 use Rattle.region_algebra.proofs.Counts.{many}
 
@@ -90,9 +90,9 @@ crossed_none (first ∷ firsts) seconds one other =
     (crossed_none firsts seconds (All-tail NamesNone first firsts one) other)
 
 -- a crossjoin names measures only where some part has them among its dimensions
-pub crossed_measures : (parts : List Region) (boxes : List RegionBox) → All IsRegion parts → All NamesNone boxes → (list_any is_measures (all_dims parts) ≡ true) ⊎ All NamesNone (fold crossed_boxes boxes (boxes_in parts))
+pub crossed_measures : (parts : List Region) (boxes : List RegionBox) → All IsBounded parts → All NamesNone boxes → (list_any is_measures (all_dims parts) ≡ true) ⊎ All NamesNone (fold crossed_boxes boxes (boxes_in parts))
 crossed_measures [] boxes all none = inr none
-crossed_measures (part ∷ parts) boxes all none = by (λ more. crossed_measures parts (crossed_boxes boxes part.boxes) (All-tail IsRegion part parts all) (crossed_none boxes part.boxes none more)) (All-head IsRegion part parts all).measures
+crossed_measures (part ∷ parts) boxes all none = by (λ more. crossed_measures parts (crossed_boxes boxes part.boxes) (All-tail IsBounded part parts all) (crossed_none boxes part.boxes none more)) (All-head IsBounded part parts all).measures
   where
     split : list_any is_measures (part.dims ++ all_dims parts) ≡ (list_any is_measures part.dims || list_any is_measures (all_dims parts))
     split = list_any-append is_measures part.dims (all_dims parts)

@@ -6,7 +6,7 @@ use Rattle.std.proofs.lemmas.List.Elements.{All-get_or}
 use Rattle.olap_meaning.specs.declared.regions.Region.{Region}
 use Rattle.query_meaning.specs.declared.TheConstants.{BOX_LIMIT}
 use Rattle.query_meaning.specs.RegionMeaning.{TooManyBoxes, box_counts, many_crossed, many_united, too_many_boxes}
-use Rattle.region_algebra.specs.Regions.{IsRegion}
+use Rattle.region_algebra.specs.Regions.{IsBounded}
 use Rattle.region_algebra.proofs.BoolFacts.{le_false, le_true}
 
 pub few : (n : ℕ) → n ≤ BOX_LIMIT → too_many_boxes n ≡ None
@@ -16,8 +16,8 @@ pub many : (n : ℕ) → BOX_LIMIT < n → too_many_boxes n ≡ Some (TooManyBox
 many n h = ap (λ b. if b then None else Some (TooManyBoxes n BOX_LIMIT)) (le_false n BOX_LIMIT h)
 
 -- a part has not too many boxes
-pub limit_at : (parts : List Region) (i : ℕ) (part : Region) → i < length parts → part ≡ get_or parts i part → All IsRegion parts → length part.boxes ≤ BOX_LIMIT
-limit_at parts i part within is all = (subst IsRegion (sym is) (All-get_or IsRegion parts i part within all)).limit
+pub limit_at : (parts : List Region) (i : ℕ) (part : Region) → i < length parts → part ≡ get_or parts i part → All IsBounded parts → length part.boxes ≤ BOX_LIMIT
+limit_at parts i part within is all = (subst IsBounded (sym is) (All-get_or IsBounded parts i part within all)).limit
 
 -- two numbers within the limit have a product that is no great number
 pub small_product : (p n : ℕ) → p ≤ BOX_LIMIT → n ≤ BOX_LIMIT → p * n ≤ 10_000_000_000

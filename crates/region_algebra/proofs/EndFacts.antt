@@ -73,7 +73,6 @@ module _ (catalog : Catalog) (cube : ℕ) where
   names_none : {A : Type 0} (f : RegionFault) (outcome : Result A RegionRefusal) → IfErr outcome NoLevels → IsFaultOf f outcome → NamesMembers catalog cube f
   names_none (fault.RangeLevels first second) outcome none (inl short) = absurd (cc short)
   names_none (fault.RangeLevels first second) outcome none (inr is) = absurd (subst (λ o. IfErr o NoLevels) is none)
-  names_none (fault.Syntax byte) outcome none is = tt
   names_none (fault.UnknownCube name) outcome none is = tt
   names_none (fault.UnknownMember name) outcome none is = tt
   names_none (fault.CommonDimension dimension) outcome none is = tt
@@ -107,7 +106,6 @@ module _ (catalog : Catalog) (cube : ℕ) where
           let one : first ≡ a = cc at in
           let two : last ≡ b = cc at in
           (subst (IsMemberOf catalog cube) one own, subst (IsMemberOf catalog cube) two other)
-      by false (fault.Syntax byte) at = tt
       by false (fault.UnknownCube name) at = tt
       by false (fault.UnknownMember name) at = tt
       by false (fault.CommonDimension dimension) at = tt
@@ -119,7 +117,6 @@ module _ (catalog : Catalog) (cube : ℕ) where
   -- of a text, where the cube is known
   pub text_names : (text : RegionText) (f : RegionFault) → find_cube catalog text.cube ≡ Some cube → NamesMembers catalog cube f → NamesMembersOf catalog text f
   text_names text (fault.RangeLevels a b) found is = subst (λ o. IsSomeAnd o (λ k. IsMemberOf catalog k a × IsMemberOf catalog k b)) (sym found) is
-  text_names text (fault.Syntax byte) found is = tt
   text_names text (fault.UnknownCube name) found is = tt
   text_names text (fault.UnknownMember name) found is = tt
   text_names text (fault.CommonDimension dimension) found is = tt

@@ -14,7 +14,7 @@ use Rattle.olap_meaning.specs.Covering.{among, box_covers, of_measure, region_co
 use Rattle.olap_meaning.specs.Legal.{is_measures}
 use Rattle.olap_meaning.specs.Results.{unless}
 use Rattle.query_meaning.specs.RegionMeaning.{CommonDimension, all_dims, crossed_boxes, crossjoin_meant, dim_again, dim_of, member_box, member_region, members_from, members_region, range_meant, together, too_many_boxes, two_levels, union_meant, whole_box}
-use Rattle.region_algebra.specs.Regions.{IsRegion}
+use Rattle.region_algebra.specs.Regions.{IsBounded}
 use Rattle.region_algebra.proofs.BoolFacts.{all_agree, and_false, and_or, and_swap, any_agree, any_flat_map, any_map, everywhere, or_and, or_false, or_first, or_true, spread_all, spread_any, true_all, true_or}
 use Rattle.region_algebra.proofs.BoxFacts.{NamesNone, crossed_none}
 use Rattle.region_algebra.proofs.DimFacts.{goes_on, no_measures}
@@ -91,7 +91,7 @@ module _ (cell : Cell) where
   and_assoc false b c = refl
 
   -- some boxes, and then the parts of a crossjoin in turn
-  fold_covers : (parts : List Region) (before : List RegionDim) (boxes : List RegionBox) → dim_again before (all_dims parts) ≡ None → All NamesNone boxes ⊎ (list_any is_measures before ≡ true) → All IsRegion parts
+  fold_covers : (parts : List Region) (before : List RegionDim) (boxes : List RegionBox) → dim_again before (all_dims parts) ≡ None → All NamesNone boxes ⊎ (list_any is_measures before ≡ true) → All IsBounded parts
       → some_covers (fold crossed_boxes boxes (map (λ part. part.boxes) parts)) ≡ (some_covers boxes && list_all (λ part. some_covers part.boxes) parts)
   fold_covers [] before boxes once free all = true_after (some_covers boxes)
     where
@@ -99,8 +99,8 @@ module _ (cell : Cell) where
       true_after true = refl
       true_after false = refl
   fold_covers (part ∷ parts) before boxes once free all =
-      fold_covers parts after.0 (crossed_boxes boxes part.boxes) after.1 (next free (All-head IsRegion part parts all).measures) (All-tail IsRegion part parts all)
-      ∙ ap (λ b. b && list_all (λ (p : Region). some_covers p.boxes) parts) (crossed_covers boxes part.boxes (apart free (All-head IsRegion part parts all).measures))
+      fold_covers parts after.0 (crossed_boxes boxes part.boxes) after.1 (next free (All-head IsBounded part parts all).measures) (All-tail IsBounded part parts all)
+      ∙ ap (λ b. b && list_all (λ (p : Region). some_covers p.boxes) parts) (crossed_covers boxes part.boxes (apart free (All-head IsBounded part parts all).measures))
       ∙ and_assoc (some_covers boxes) (some_covers part.boxes) (list_all (λ (p : Region). some_covers p.boxes) parts)
     where
       after : (dims : List RegionDim) × (dim_again dims (all_dims parts) ≡ None) × (list_any is_measures dims ≡ (list_any is_measures part.dims || list_any is_measures before))
@@ -134,7 +134,7 @@ module _ (cell : Cell) where
   in_cube cube part is = ap (λ n. (n == cell.cube) && some_covers part.boxes) (sym is)
 
   -- a crossjoin
-  pub crossjoin_covers : (cube : ℕ) (parts : List Region) (region : Region) → 0 < length parts → All (λ part. part.cube ≡ cube) parts → All IsRegion parts → crossjoin_meant cube parts ≡ Ok region
+  pub crossjoin_covers : (cube : ℕ) (parts : List Region) (region : Region) → 0 < length parts → All (λ part. part.cube ≡ cube) parts → All IsBounded parts → crossjoin_meant cube parts ≡ Ok region
       → region_covers region cell ≡ list_all (λ part. region_covers part cell) parts
   crossjoin_covers cube [] region some of_cube all is = absurd (omega (arith, some))
   crossjoin_covers cube (part ∷ parts) region some of_cube all is =

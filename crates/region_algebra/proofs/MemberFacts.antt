@@ -22,7 +22,7 @@ use Rattle.olap_meaning.specs.Schema.{cube_over, IsWithinCube}
 use Rattle.olap_meaning.specs.Whole.{IsWhole}
 use Rattle.query_meaning.specs.declared.TheConstants.{BOX_LIMIT}
 use Rattle.query_meaning.specs.RegionMeaning.{between, dim_of, level_around, measures_of, measures_region, member_box, member_region, members_region, named_measures}
-use Rattle.region_algebra.specs.Regions.{HasHierarchy, IsRegionOf}
+use Rattle.region_algebra.specs.Regions.{HasHierarchy, IsBoundedOf}
 use Rattle.region_algebra.proofs.BoolFacts.{and_true, everywhere, lt_true, true_lt}
 use Rattle.region_algebra.proofs.BoxFacts.{NamesNone}
 
@@ -65,10 +65,10 @@ pub measures_are : (catalog : Catalog) (cube : ℕ) (c : Cube) → slice_get cat
 measures_are catalog cube c there = sym (ap (λ o. range_with_len 0 (option_map_or (λ (x : Cube). length x.measures) o 0)) there)
 
 -- the region of the measures is one of the cube
-pub measures_own : (catalog : Catalog) (cube : ℕ) → IsRegionOf catalog cube (measures_region catalog cube)
+pub measures_own : (catalog : Catalog) (cube : ℕ) → IsBoundedOf catalog cube (measures_region catalog cube)
 measures_own catalog cube = record {
   of_cube = refl;
-  is_region = record { limit = omega arith; measures = inl refl };
+  bounded = record { limit = omega arith; measures = inl refl };
   boxes = refl;
 }
 
@@ -140,10 +140,10 @@ between_all P (Some first) (Some last) members all = All-drop P first (take (suc
 
 -- the region of some members of a level is one of the cube
 pub range_own : (catalog : Catalog) (cube : ℕ) (first : Member) (level members : List Member) (from to : Option ℕ) → level ≡ level_around catalog cube first → All (IsMemberOf catalog cube) level → members ≡ between from to level → length members ≤ BOX_LIMIT
-    → IsRegionOf catalog cube (members_region catalog cube (dim_of catalog first) members)
+    → IsBoundedOf catalog cube (members_region catalog cube (dim_of catalog first) members)
 range_own catalog cube first level members from to around own are few = record {
   of_cube = refl;
-  is_region = record {
+  bounded = record {
     limit = subst (λ n. n ≤ BOX_LIMIT) (sym (length_map_boxes members)) few;
     measures = by (level_measures catalog cube first);
   };
@@ -160,10 +160,10 @@ range_own catalog cube first level members from to around own are few = record {
     by (inr none) = inr (All-map NamesNone (member_box catalog) members (All-same IsNoMeasure _ _ are (between_all IsNoMeasure from to level (All-same IsNoMeasure _ _ around none))))
 
 -- the region of a member is one of the cube
-pub member_own : (catalog : Catalog) (cube : ℕ) (m : Member) → IsMemberOf catalog cube m → IsRegionOf catalog cube (member_region catalog cube m)
+pub member_own : (catalog : Catalog) (cube : ℕ) (m : Member) → IsMemberOf catalog cube m → IsBoundedOf catalog cube (member_region catalog cube m)
 member_own catalog cube m own = record {
   of_cube = refl;
-  is_region = record { limit = omega arith; measures = by m };
+  bounded = record { limit = omega arith; measures = by m };
   boxes = boxes_own catalog cube (m ∷ []) (All-cons (IsMemberOf catalog cube) m [] own (All-nil (IsMemberOf catalog cube)));
 }
   where
@@ -173,10 +173,10 @@ member_own catalog cube m own = record {
     by (member.At h path) = inr (All-cons NamesNone (member_box catalog (member.At h path)) [] refl (All-nil NamesNone))
 
 -- the same of its dimension and its box
-pub member_made : (catalog : Catalog) (cube : ℕ) (m : Member) (dims : List RegionDim) (boxes : List RegionBox) → IsMemberOf catalog cube m → dims ≡ dim_of catalog m ∷ [] → boxes ≡ member_box catalog m ∷ [] → IsRegionOf catalog cube (record { cube = cube; dims = dims; boxes = boxes })
+pub member_made : (catalog : Catalog) (cube : ℕ) (m : Member) (dims : List RegionDim) (boxes : List RegionBox) → IsMemberOf catalog cube m → dims ≡ dim_of catalog m ∷ [] → boxes ≡ member_box catalog m ∷ [] → IsBoundedOf catalog cube (record { cube = cube; dims = dims; boxes = boxes })
 member_made catalog cube m dims boxes own is_dims are_boxes =
-    subst (λ (d : List RegionDim). IsRegionOf catalog cube (record { cube = cube; dims = d; boxes = boxes })) (sym is_dims)
-    (subst (λ (b : List RegionBox). IsRegionOf catalog cube (record { cube = cube; dims = dim_of catalog m ∷ []; boxes = b })) (sym are_boxes) (member_own catalog cube m own))
+    subst (λ (d : List RegionDim). IsBoundedOf catalog cube (record { cube = cube; dims = d; boxes = boxes })) (sym is_dims)
+    (subst (λ (b : List RegionBox). IsBoundedOf catalog cube (record { cube = cube; dims = dim_of catalog m ∷ []; boxes = b })) (sym are_boxes) (member_own catalog cube m own))
 
 -- the members from one place to another
 pub cut : (from to : ℕ) (members : List Member) → from ≤ to → take (to + 1 - from) (drop from members) ≡ drop from (take (suc to) members)

@@ -11,9 +11,8 @@ use Rattle.query_meaning.specs.RegionMeaning as refusal
 use Rattle.region_algebra.specs.declared.fault.RegionFault.{RegionFault}
 use Rattle.region_algebra.specs.declared.fault.RegionFault.TheVariants as fault
 
--- why a flush means no region, where a fault says so. A fault of syntax says nothing of meanings
+-- why a flush means no region, where a fault says so
 abbrev pub refusal_of : RegionFault → Option RegionRefusal
-refusal_of (fault.Syntax byte) = None
 refusal_of (fault.UnknownCube name) = Some (refusal.NoCube name)
 refusal_of (fault.UnknownMember name) = Some (refusal.NoMember name)
 refusal_of (fault.CommonDimension dimension) = Some (refusal.CommonDimension dimension)

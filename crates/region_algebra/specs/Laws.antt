@@ -8,7 +8,7 @@ use Rattle.olap_meaning.specs.declared.tables.Catalog.{Catalog}
 use Rattle.olap_meaning.specs.Covering.{region_covers}
 use Rattle.query_meaning.specs.declared.TheConstants.{BOX_LIMIT}
 use Rattle.query_meaning.specs.RegionMeaning.{crossjoin_meant, member_region, members_from, range_meant, union_meant}
-use Rattle.region_algebra.specs.Regions.{IsRegion}
+use Rattle.region_algebra.specs.Regions.{IsBounded}
 
 -- the limit of the boxes is this number
 abbrev pub BoxLimitIsStated : Type 0
@@ -29,7 +29,7 @@ CrossjoinsCover =
     (cube : ℕ) (parts : List Region) (region : Region) (cell : Cell)
     → 0 < length parts
     → All (λ part. part.cube ≡ cube) parts
-    → All IsRegion parts
+    → All IsBounded parts
     → crossjoin_meant cube parts ≡ Ok region
     → region_covers region cell ≡ list_all (λ part. region_covers part cell) parts
 

@@ -9,17 +9,17 @@ use Rattle.olap_meaning.specs.declared.tables.Catalog.{Catalog}
 use Rattle.olap_meaning.specs.Legal.{is_box, is_measures}
 use Rattle.query_meaning.specs.declared.TheConstants.{BOX_LIMIT}
 
--- a region is one such as the calls give: it has not too many boxes, and its boxes name measures only where the measures
--- are among its dimensions
-pub record IsRegion (region : Region) : Type 0 where
+-- a region is bounded, as the calls give it: it has not too many boxes, and its boxes name measures only where the
+-- measures are among its dimensions
+pub record IsBounded (region : Region) : Type 0 where
   pub limit : length region.boxes ≤ BOX_LIMIT
   pub measures : IsTrue (list_any is_measures region.dims)
       ⊎ All (λ box. box.measures ≡ None) region.boxes
 
--- a region is one of a cube: also, the columns and values of its boxes are the catalog's
-pub record IsRegionOf (catalog : Catalog) (cube : ℕ) (region : Region) : Type 0 where
+-- a region is a bounded one of a cube, and the columns and values of its boxes are the catalog's
+pub record IsBoundedOf (catalog : Catalog) (cube : ℕ) (region : Region) : Type 0 where
   pub of_cube : region.cube ≡ cube
-  pub is_region : IsRegion region
+  pub bounded : IsBounded region
   pub boxes : IsTrue (list_all (is_box catalog) region.boxes)
 
 -- the cube of the first of some regions

@@ -4,6 +4,7 @@ ghost use Rattle.std.specs.List.{list_all, list_any};
 ghost use Rattle.olap_meaning.specs.Covering as covering;
 ghost use Rattle.olap_meaning.specs.Legal as legal;
 
+use crate::dims::is_measures;
 use olap_meaning::{Cell, ColumnId, List, MeasureId, Region, RegionBox, RegionDim, ValueId};
 
 /// Whether a region covers a cell: it is of the cell's cube, and one of its boxes is of the cell's measure and has the
@@ -72,7 +73,8 @@ fn have(values: &[ValueId], value: ValueId) -> bool
     values.iter().any(|one| *one == value)
 }
 
-/// Whether a region can be flushed: the measures are among its dimensions (Cache Control).
+/// Whether the measures are among a region's dimensions, as a flush asks (Cache Control); that its cube, columns and
+/// values are a catalog's is said of what `resolve_region` answers.
 pub fn is_flushable(region: &Region) -> bool
     ensures { result ≡ list_any legal.is_measures region.now.dims }
 {
@@ -84,14 +86,4 @@ fn are_with_measures(dims: &[RegionDim]) -> bool
     ensures { result ≡ list_any legal.is_measures dims.now }
 {
     dims.iter().any(|one| is_measures(*one))
-}
-
-// A dimension is the measures.
-fn is_measures(dimension: RegionDim) -> bool
-    ensures { result ≡ legal.is_measures dimension }
-{
-    match dimension {
-        RegionDim::Measures => true,
-        RegionDim::Dimension(_) => false,
-    }
 }

@@ -2,7 +2,7 @@
 ghost use Rattle.std.specs.Prelude.{◌≡◌, ◌<◌, [], Ok, None, All, length, option_map, IfOk, IfErr, OnOk};
 ghost use Rattle.query_meaning.specs.RegionMeaning as meaning;
 ghost use Rattle.region_algebra.specs.Faults.{IsFaultOf, IsReason};
-ghost use Rattle.region_algebra.specs.Regions.{cube_of, IsRegion};
+ghost use Rattle.region_algebra.specs.Regions.{cube_of, IsBounded};
 
 use crate::boxes::all_crossed;
 use crate::dims::{all_dims, dim_again};
@@ -16,10 +16,10 @@ use std::alloc::Global;
 pub fn crossjoin(alloc: Global, parts: &[Region]) -> Result<Region, RegionFault>
     requires some { 0 < length parts.now }
     requires cube { All (λ part. part.cube ≡ cube_of parts.now) parts.now }
-    requires regions { All IsRegion parts.now }
+    requires regions { All IsBounded parts.now }
     ensures ok { IfOk result
         (λ region. meaning.crossjoin_meant (cube_of parts.now) parts.now ≡ Ok region) }
-    ensures own { IfOk result IsRegion }
+    ensures own { IfOk result IsBounded }
     ensures fault { IfErr result
         (λ fault. IsFaultOf fault (meaning.crossjoin_meant (cube_of parts.now) parts.now)) }
 {
@@ -32,9 +32,9 @@ pub(crate) fn crossjoin_in(
     cube: CubeId,
     parts: &[Region],
 ) -> Result<Region, RegionFault>
-    requires { All IsRegion parts.now }
+    requires { All IsBounded parts.now }
     ensures ok { IfOk result (λ region. meaning.crossjoin_meant cube parts.now ≡ Ok region) }
-    ensures own { IfOk result IsRegion }
+    ensures own { IfOk result IsBounded }
     ensures fault { IfErr result
         (λ fault. IsFaultOf fault (meaning.crossjoin_meant cube parts.now)) }
 {

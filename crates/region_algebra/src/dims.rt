@@ -1,15 +1,17 @@
 //! Dimensions of regions: which are the same, and the first that repeats.
 ghost use Rattle.std.specs.Prelude.{◌≡◌, [], flat_map, not, find, option_copied, IfOk};
 ghost use Rattle.std.specs.List.{list_all};
+ghost use Rattle.olap_meaning.specs.Legal as legal;
 ghost use Rattle.query_meaning.specs.RegionMeaning as meaning;
 
 use crate::copies::add_dims;
 use olap_meaning::{List, OutOfMemory, Region, RegionDim};
 use std::alloc::Global;
 
-// A dimension is the measures.
-fn is_measures(dimension: RegionDim) -> bool
-    ensures { result ≡ meaning.is_dim RegionDim.Measures dimension }
+/// A dimension is the measures.
+pub(crate) fn is_measures(dimension: RegionDim) -> bool
+    ensures measures { result ≡ legal.is_measures dimension }
+    ensures same { result ≡ meaning.is_dim RegionDim.Measures dimension }
 {
     match dimension {
         RegionDim::Measures => true,

@@ -5,13 +5,9 @@ ghost use Rattle.region_algebra.specs.Faults.{fault_of};
 use olap_catalog::NameFault;
 use olap_meaning::{List, Member, OutOfMemory, RegionDim, Text};
 
-/// Why a text of a flush means no region, or regions can not be joined. The limit is that of the boxes of a region.
+/// Why the text of a flush means no region, or regions can not be joined. The limit is that of the boxes of a region.
 #[derive(Drop)]
 pub enum RegionFault {
-    /// The byte from which on no flush goes on. Only a reader of texts answers it.
-    Syntax {
-        byte: u64,
-    },
     /// No cube has this name.
     UnknownCube {
         name: Text,

@@ -6,7 +6,7 @@ ghost use Rattle.query_meaning.specs.RegionMeaning as meaning;
 ghost use Rattle.query_meaning.specs.RegionTree as tree;
 ghost use Rattle.query_meaning.specs.RegionTree.{trees_of};
 ghost use Rattle.region_algebra.specs.Faults.{IsFaultOf, NamesMembers, NamesMembersOf};
-ghost use Rattle.region_algebra.specs.Regions.{IsRegion, IsRegionOf};
+ghost use Rattle.region_algebra.specs.Regions.{IsBounded, IsBoundedOf};
 
 use crate::cover::is_flushable;
 use crate::crossjoins::crossjoin_in;
@@ -21,14 +21,15 @@ use query_meaning::{Joins, RegionShape, RegionText, RegionTree};
 use std::alloc::Global;
 
 /// The region that the text of a flush means in a catalog: its cube; the region from left to right, parts before their
-/// whole; then the measures, which have to be among its dimensions. The fault is the first refusal.
+/// whole; then the measures, which have to be among its dimensions. The fault is the first refusal. A tree that was put
+/// together by hand may be deeper than that of any text, and each depth takes stack.
 pub fn resolve_region(
     alloc: Global,
     catalog: &Catalog,
     text: &RegionText,
 ) -> Result<Region, RegionFault>
     ensures ok { IfOk result (λ region. meaning.flush_meant catalog.now text.now ≡ Ok region) }
-    ensures region { IfOk result IsRegion }
+    ensures region { IfOk result IsBounded }
     ensures flushable { IfOk result (λ region. legal.is_flushable catalog.now region ≡ true) }
     ensures fault { IfErr result (λ fault. IsFaultOf fault (meaning.flush_meant catalog.now text.now)) }
     ensures members { IfErr result (NamesMembersOf catalog.now text.now) }
@@ -49,7 +50,7 @@ fn flushed_in(
     requires known { cube < length catalog.now.cubes }
     requires found { find_cube catalog.now text.now.cube ≡ Some cube }
     ensures ok { IfOk result (λ region. meaning.flush_meant catalog.now text.now ≡ Ok region) }
-    ensures region { IfOk result IsRegion }
+    ensures region { IfOk result IsBounded }
     ensures flushable { IfOk result (λ region. legal.is_flushable catalog.now region ≡ true) }
     ensures fault { IfErr result (λ fault. IsFaultOf fault (meaning.flush_meant catalog.now text.now)) }
     ensures members { IfErr result (NamesMembersOf catalog.now text.now) }
@@ -71,7 +72,7 @@ fn region_of(
 ) -> Result<Region, RegionFault>
     requires { cube < length catalog.now.cubes }
     ensures ok { IfOk result (λ region. meaning.region_meant catalog.now cube text.now ≡ Ok region) }
-    ensures own { IfOk result (IsRegionOf catalog.now cube) }
+    ensures own { IfOk result (IsBoundedOf catalog.now cube) }
     ensures fault { IfErr result
         (λ fault. IsFaultOf fault (meaning.region_meant catalog.now cube text.now)) }
     ensures members { IfErr result (NamesMembers catalog.now cube) }
@@ -100,7 +101,7 @@ fn regions_of(
     requires { cube < length catalog.now.cubes }
     ensures ok { IfOk result
         (λ regions. meaning.parts_meant catalog.now cube (trees_of trees.now) ≡ Ok regions) }
-    ensures own { IfOk result (All (IsRegionOf catalog.now cube)) }
+    ensures own { IfOk result (All (IsBoundedOf catalog.now cube)) }
     ensures fault { IfErr result (λ fault. IsFaultOf fault
         (meaning.parts_meant catalog.now cube (trees_of trees.now))) }
     ensures members { IfErr result (NamesMembers catalog.now cube) }
@@ -123,7 +124,7 @@ fn named(
     requires { cube < length catalog.now.cubes }
     ensures ok { IfOk result
         (λ region. meaning.region_meant catalog.now cube (tree.Member path.now) ≡ Ok region) }
-    ensures own { IfOk result (IsRegionOf catalog.now cube) }
+    ensures own { IfOk result (IsBoundedOf catalog.now cube) }
     ensures fault { IfErr result (λ fault. IsFaultOf fault
         (meaning.region_meant catalog.now cube (tree.Member path.now))) }
     ensures members { IfErr result (NamesMembers catalog.now cube) }
@@ -144,7 +145,7 @@ fn range_between(
     requires { cube < length catalog.now.cubes }
     ensures ok { IfOk result (λ region. meaning.region_meant catalog.now cube
         (tree.Range first.now last.now) ≡ Ok region) }
-    ensures own { IfOk result (IsRegionOf catalog.now cube) }
+    ensures own { IfOk result (IsBoundedOf catalog.now cube) }
     ensures fault { IfErr result (λ fault. IsFaultOf fault
         (meaning.region_meant catalog.now cube (tree.Range first.now last.now))) }
     ensures members { IfErr result (NamesMembers catalog.now cube) }
@@ -159,7 +160,7 @@ fn all_measures(alloc: Global, catalog: &Catalog, cube: CubeId) -> Result<Region
     requires { cube < length catalog.now.cubes }
     ensures ok { IfOk result
         (λ region. meaning.region_meant catalog.now cube tree.Measures ≡ Ok region) }
-    ensures own { IfOk result (IsRegionOf catalog.now cube) }
+    ensures own { IfOk result (IsBoundedOf catalog.now cube) }
     ensures fault { IfErr result (λ fault. fault ≡ RegionFault.OutOfMemory) }
 {
     let region = measures(alloc, catalog, cube)?;
@@ -174,9 +175,9 @@ fn joined(
     joins: Joins,
     parts: &[Region],
 ) -> Result<Region, RegionFault>
-    requires { All (IsRegionOf catalog.now cube) parts.now }
+    requires { All (IsBoundedOf catalog.now cube) parts.now }
     ensures ok { IfOk result (λ region. meaning.joined_meant joins cube parts.now ≡ Ok region) }
-    ensures own { IfOk result (IsRegionOf catalog.now cube) }
+    ensures own { IfOk result (IsBoundedOf catalog.now cube) }
     ensures fault { IfErr result
         (λ fault. IsFaultOf fault (meaning.joined_meant joins cube parts.now)) }
     ensures members { IfErr result (NamesMembers catalog.now cube) }

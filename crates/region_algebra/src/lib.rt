@@ -1,6 +1,7 @@
 //! Regions of cells: what makes them, which cells they cover, and what the text of a flush means in a catalog.
 #![tactic(auto)]
 
+mod bounds;
 mod boxes;
 mod copies;
 mod cover;
@@ -16,6 +17,7 @@ mod names;
 mod ranges;
 mod unions;
 
+pub use bounds::is_bounded;
 pub use copies::copy_region;
 pub use cover::{covers, is_flushable};
 pub use crossjoins::crossjoin;

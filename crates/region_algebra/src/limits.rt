@@ -2,7 +2,7 @@
 ghost use Rattle.std.specs.Prelude.{◌≡◌, ◌≤◌, ◌<◌, None, All, IfErr, OnOk};
 ghost use Rattle.query_meaning.specs.RegionMeaning as meaning;
 ghost use Rattle.region_algebra.specs.Faults.{IsReason};
-ghost use Rattle.region_algebra.specs.Regions.{IsRegion};
+ghost use Rattle.region_algebra.specs.Regions.{IsBounded};
 
 use crate::fault::RegionFault;
 use olap_meaning::Region;
@@ -25,7 +25,7 @@ pub(crate) fn refuse_many(count: u64) -> Result<(), RegionFault>
 
 /// Refuses the first product of the numbers of boxes, from the first part on, that is above the limit.
 pub(crate) fn refuse_product(parts: &[Region]) -> Result<(), RegionFault>
-    requires { All IsRegion parts.now }
+    requires { All IsBounded parts.now }
     ensures ok { OnOk result (meaning.many_crossed 1 (meaning.box_counts parts.now) ≡ None) }
     ensures fault { IfErr result
         (λ fault. IsReason fault (meaning.many_crossed 1 (meaning.box_counts parts.now))) }
@@ -40,7 +40,7 @@ pub(crate) fn refuse_product(parts: &[Region]) -> Result<(), RegionFault>
 
 /// Refuses the first sum of the numbers of boxes, from the first part on, that is above the limit.
 pub(crate) fn refuse_sum(parts: &[Region]) -> Result<(), RegionFault>
-    requires { All IsRegion parts.now }
+    requires { All IsBounded parts.now }
     ensures ok { OnOk result (meaning.many_united 0 (meaning.box_counts parts.now) ≡ None) }
     ensures fault { IfErr result
         (λ fault. IsReason fault (meaning.many_united 0 (meaning.box_counts parts.now))) }

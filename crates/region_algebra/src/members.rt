@@ -2,7 +2,7 @@
 ghost use Rattle.std.specs.Prelude.{◌≡◌, ◌<◌, ◌∷◌, [], length, map, IfOk};
 ghost use Rattle.olap_meaning.specs.MemberOf.{IsMemberOf};
 ghost use Rattle.query_meaning.specs.RegionMeaning as meaning;
-ghost use Rattle.region_algebra.specs.Regions.{HasHierarchy, IsRegionOf};
+ghost use Rattle.region_algebra.specs.Regions.{HasHierarchy, IsBoundedOf};
 
 use olap_catalog::Catalog;
 use olap_meaning::{
@@ -22,7 +22,7 @@ pub fn member(
     requires own { IsMemberOf catalog.now cube member.now }
     ensures region { IfOk result
         (λ region. region ≡ meaning.member_region catalog.now cube member.now) }
-    ensures own { IfOk result (IsRegionOf catalog.now cube) }
+    ensures own { IfOk result (IsBoundedOf catalog.now cube) }
 {
     let mut boxes = List::new(alloc);
     boxes.push(member_box(alloc, catalog, member)?)?;
@@ -34,7 +34,7 @@ pub fn member(
 pub fn measures(alloc: Global, catalog: &Catalog, cube: CubeId) -> Result<Region, OutOfMemory>
     requires { cube < length catalog.now.cubes }
     ensures region { IfOk result (λ region. region ≡ meaning.measures_region catalog.now cube) }
-    ensures own { IfOk result (IsRegionOf catalog.now cube) }
+    ensures own { IfOk result (IsBoundedOf catalog.now cube) }
 {
     let mut boxes = List::new(alloc);
     boxes.push(RegionBox {

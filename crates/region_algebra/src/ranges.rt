@@ -3,7 +3,7 @@ ghost use Rattle.std.specs.Prelude.{◌≡◌, ◌<◌, Ok, None, length, positi
 ghost use Rattle.olap_meaning.specs.MemberOf.{IsMemberOf};
 ghost use Rattle.query_meaning.specs.RegionMeaning as meaning;
 ghost use Rattle.region_algebra.specs.Faults.{IsFaultOf, IsReason};
-ghost use Rattle.region_algebra.specs.Regions.{IsRegionOf};
+ghost use Rattle.region_algebra.specs.Regions.{IsBoundedOf};
 
 use crate::copies::copy_member;
 use crate::fault::RegionFault;
@@ -29,7 +29,7 @@ pub fn range(
     requires last { IsMemberOf catalog.now cube last.now }
     ensures ok { IfOk result
         (λ region. meaning.range_meant catalog.now cube first.now last.now ≡ Ok region) }
-    ensures own { IfOk result (IsRegionOf catalog.now cube) }
+    ensures own { IfOk result (IsBoundedOf catalog.now cube) }
     ensures fault { IfErr result (λ fault. IsFaultOf fault
         (meaning.range_meant catalog.now cube first.now last.now)) }
 {

@@ -2,7 +2,7 @@
 ghost use Rattle.std.specs.Prelude.{◌≡◌, ◌<◌, Ok, None, All, find, flat_map, length, not, option_copied, IfOk, IfErr, OnOk};
 ghost use Rattle.query_meaning.specs.RegionMeaning as meaning;
 ghost use Rattle.region_algebra.specs.Faults.{IsFaultOf, IsReason};
-ghost use Rattle.region_algebra.specs.Regions.{cube_of, IsRegion};
+ghost use Rattle.region_algebra.specs.Regions.{cube_of, IsBounded};
 
 use crate::copies::{add_boxes, copy_dims};
 use crate::dims::same_dims;
@@ -16,10 +16,10 @@ use std::alloc::Global;
 pub fn union(alloc: Global, parts: &[Region]) -> Result<Region, RegionFault>
     requires some { 0 < length parts.now }
     requires cube { All (λ part. part.cube ≡ cube_of parts.now) parts.now }
-    requires regions { All IsRegion parts.now }
+    requires regions { All IsBounded parts.now }
     ensures ok { IfOk result
         (λ region. meaning.union_meant (cube_of parts.now) parts.now ≡ Ok region) }
-    ensures own { IfOk result IsRegion }
+    ensures own { IfOk result IsBounded }
     ensures fault { IfErr result
         (λ fault. IsFaultOf fault (meaning.union_meant (cube_of parts.now) parts.now)) }
 {
@@ -28,9 +28,9 @@ pub fn union(alloc: Global, parts: &[Region]) -> Result<Region, RegionFault>
 
 /// The union of some regions of a cube.
 pub(crate) fn union_in(alloc: Global, cube: CubeId, parts: &[Region]) -> Result<Region, RegionFault>
-    requires { All IsRegion parts.now }
+    requires { All IsBounded parts.now }
     ensures ok { IfOk result (λ region. meaning.union_meant cube parts.now ≡ Ok region) }
-    ensures own { IfOk result IsRegion }
+    ensures own { IfOk result IsBounded }
     ensures fault { IfErr result
         (λ fault. IsFaultOf fault (meaning.union_meant cube parts.now)) }
 {

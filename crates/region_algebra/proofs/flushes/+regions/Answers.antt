@@ -6,7 +6,7 @@ use Rattle.query_meaning.specs.RegionMeaning.{region_meant}
 use Rattle.query_meaning.specs.RegionTree.{region_size, trees_size, trees_of}
 use Rattle.query_meaning.specs.RegionTree as tree
 use Rattle.query_meaning.specs.RegionView.{region_of}
-use Rattle.region_algebra.specs.Regions.{IsRegionOf}
+use Rattle.region_algebra.specs.Regions.{IsBoundedOf}
 use Rattle.region_algebra.proofs.FaultFacts.{fault_each}
 use Rattle.region_algebra.proofs.Steps.{each_more, one_smaller, parts_each}
 use Rattle.region_algebra.proofs.flushes.+regions.Goals as goal
@@ -32,5 +32,5 @@ regions_of-loop-one-preserved t c =
       parts_each c.args.catalog.now c.args.cube (take (c.loop-one.one-index + 1) c.args.trees.now)
           ∙ each_more (region_meant c.args.catalog.now c.args.cube) c.args.trees.now c.loop-one.one-index c.one-item.result c.loop-one.regions c.in_ok-region.region c.loop-one-test.true c.one-item.is
           (sym (parts_each c.args.catalog.now c.args.cube (take c.loop-one.one-index c.args.trees.now)) ∙ c.loop-one.invariant.0) c.in_ok-region.ensures.ok,
-      All-push (IsRegionOf c.args.catalog.now c.args.cube) c.loop-one.regions c.in_ok-region.region c.loop-one.invariant.1 c.in_ok-region.ensures.own,
+      All-push (IsBoundedOf c.args.catalog.now c.args.cube) c.loop-one.regions c.in_ok-region.region c.loop-one.invariant.1 c.in_ok-region.ensures.own,
     )

@@ -1,5 +1,5 @@
 -- That a fault of a path names no members.
-use Rattle.std.proofs.lemmas.Result.{IfErr-weaker, err_from_is_err_and}
+use Rattle.std.proofs.lemmas.Result.{err_from_is_err_and}
 use Rattle.region_algebra.proofs.EndFacts.{path_names}
 use Rattle.region_algebra.proofs.flushes.named.Goals as goal
 

@@ -1,6 +1,6 @@
 -- That a fault of a range names members of the cube.
-use Rattle.std.proofs.lemmas.Result.{IfErr-weaker, err_from_is_err_and}
-use Rattle.region_algebra.proofs.EndFacts.{path_names, range_names}
+use Rattle.std.proofs.lemmas.Result.{err_from_is_err_and}
+use Rattle.region_algebra.proofs.EndFacts.{path_names}
 use Rattle.region_algebra.proofs.flushes.range_between.Goals as goal
 
 pub returns-in_err-first-clause-members : goal.returns-in_err-first-clause-members
