@@ -7,7 +7,7 @@ use Rattle.query_meaning.specs.Resolution.{Refusal, axes_meant}
 use Rattle.outside.specs.declared.depot.DepotRefusal.{DepotRefusal}
 use Rattle.outside.specs.declared.depot.DepotRefusal.TheVariants as depot
 use Rattle.command_arguments.specs.declared.append.AppendArgument.{AppendArgument}
-use Rattle.input_lines.specs.Requests.{Request, NotText, Blank, NoCommand, Stops, Quit, After, Append, Ask, Unbuilt}
+use Rattle.input_lines.specs.Requests.{Request, NotText, Blank, NoCommand, Stops, Quit, After, Append, Ask, Flush, Unbuilt}
 use Rattle.fact_rows.specs.BatchFiles.{batch_of}
 use Rattle.fact_rows.specs.declared.fault.BatchFault.{BatchFault}
 use Rattle.fact_versions.specs.FactRows.{FactRows}
@@ -67,6 +67,7 @@ request_goes_on texts around Quit position reply is = same_goes_on around.before
 request_goes_on texts around (After n) position reply is = (is.fronts.more, is.fronts.goes_on)
 request_goes_on texts around (Append argument) position reply is = append_goes_on around argument (find_cube (catalog_of around.before) argument.cube) position reply is
 request_goes_on texts around (Ask query) position reply is = meaning_goes_on texts around (axes_meant (catalog_of around.before) query) position reply is.1
+request_goes_on texts around (Flush text) position reply is = same_goes_on around.before around.after is.0.same
 request_goes_on texts around Unbuilt position reply is = same_goes_on around.before around.after is.0.same
 
 -- and where nothing of it was read

@@ -8,7 +8,7 @@ use Rattle.command_arguments.specs.Blank.{IsBlank}
 use Rattle.input_lines.specs.Asked.{asked}
 use Rattle.input_lines.specs.declared.request.Request.{Request as Read}
 use Rattle.input_lines.specs.declared.request.Request.TheVariants as read
-use Rattle.input_lines.specs.Requests.{Request, NotText, Blank, NoCommand, Stops, Quit, After, Append, Ask, Unbuilt, IsRequest, Stopped}
+use Rattle.input_lines.specs.Requests.{Request, NotText, Blank, NoCommand, Stops, Quit, After, Append, Ask, Flush, Unbuilt, IsRequest, Stopped}
 use Rattle.input_lines.proofs.Arguments.{writes_blank}
 use Rattle.input_lines.proofs.Commands.{built_no, has_none, has_some, no_other, none_in_blank}
 use Rattle.line_session.specs.Sessions.{ends_session}
@@ -40,11 +40,12 @@ not_blank line argument command none = ap (λ o. option_map_or is_blank o false)
 stopped : (line : List ℕ) (byte : ℕ) → Stopped line byte → is_quit line ≡ false
 stopped line byte (inl mdx) = other_command (codes "MDX") line refl (has_some _ mdx.argument mdx.command)
 stopped line byte (inr (inl append)) = other_command (codes "APPEND") line refl (has_some _ append.argument append.command)
-stopped line byte (inr (inr (inl after))) = other_command (codes "AFTER") line refl (has_some _ after.argument after.command)
-stopped line byte (inr (inr (inr quit))) = not_blank line quit.argument quit.command (quit.stops.none tt)
+stopped line byte (inr (inr (inl flush))) = other_command (codes "FLUSH") line refl (has_some _ flush.argument flush.command)
+stopped line byte (inr (inr (inr (inl after)))) = other_command (codes "AFTER") line refl (has_some _ after.argument after.command)
+stopped line byte (inr (inr (inr (inr quit)))) = not_blank line quit.argument quit.command (quit.stops.none tt)
 
 unbuilt : (line : List ℕ) → has_one_of unbuilt_commands line ≡ true → is_quit line ≡ false
-unbuilt line has = ap (λ o. option_map_or is_blank o false) (built_no (codes "QUIT") line refl refl refl has)
+unbuilt line has = ap (λ o. option_map_or is_blank o false) (built_no (codes "QUIT") line refl refl has)
 
 no_end : (line : List ℕ) → is_quit line ≡ false → ends_session line ≡ false
 no_end line none = by (is_utf8 line) (is_quit line) none
@@ -67,12 +68,14 @@ goes_on line Quit is other = absurd (other refl)
 goes_on line (After n) is other = no_end line (other_command (codes "AFTER") line refl (has_some _ is.1.argument is.1.command))
 goes_on line (Append argument) is other = no_end line (other_command (codes "APPEND") line refl (has_some _ is.1.argument is.1.command))
 goes_on line (Ask query) is other = no_end line (other_command (codes "MDX") line refl (has_some _ is.1.argument is.1.command))
+goes_on line (Flush text) is other = no_end line (other_command (codes "FLUSH") line refl (has_some _ is.1.argument is.1.command))
 goes_on line Unbuilt is other = no_end line (unbuilt line is.1)
 
 -- a line for which there may be no memory does not
 pub lacking : (line : List ℕ) → MayFindNoMemory line → ends_session line ≡ false
 lacking line (utf8, inl mdx) = no_end line (other_command (codes "MDX") line refl mdx)
-lacking line (utf8, inr append) = no_end line (other_command (codes "APPEND") line refl append)
+lacking line (utf8, inr (inl append)) = no_end line (other_command (codes "APPEND") line refl append)
+lacking line (utf8, inr (inr flush)) = no_end line (other_command (codes "FLUSH") line refl flush)
 
 -- what was read asks for the end only where it is that
 pub asks_for_end : (request : Read) → asked request ≡ Quit → request ≡ read.Quit
@@ -84,4 +87,5 @@ asks_for_end read.Quit is = refl
 asks_for_end (read.After n) is = absurd (let n : ⊥ = cc in n)
 asks_for_end (read.Append argument) is = absurd (let n : ⊥ = cc in n)
 asks_for_end (read.Ask query) is = absurd (let n : ⊥ = cc in n)
+asks_for_end (read.Flush text) is = absurd (let n : ⊥ = cc in n)
 asks_for_end read.Unbuilt is = absurd (let n : ⊥ = cc in n)

@@ -4,9 +4,12 @@ use Rattle.olap_meaning.specs.declared.tables.Catalog.{Catalog}
 use Rattle.olap_meaning.specs.Catalog.{find_cube}
 use Rattle.olap_meaning.specs.declared.CellValue.{CellValue}
 use Rattle.query_meaning.specs.declared.axes.Axes.{Axes}
+use Rattle.query_meaning.specs.declared.region_text.RegionText.{RegionText}
 use Rattle.query_meaning.specs.AxisCells.{cells_of}
 use Rattle.query_meaning.specs.GridForm.{IsGridText, IsOfGrid}
 use Rattle.query_meaning.specs.Grids.{grid_of}
+use Rattle.query_meaning.specs.RegionMeaning.{flush_meant}
+use Rattle.query_meaning.specs.RegionReplies.{flush_reply}
 use Rattle.query_meaning.specs.Replies.{no_command_reply, no_cube_reply, no_file_reply, no_memory_reply, not_text_reply, not_yet_reply, quit_reply, refusal_reply, refused_batch_reply, seen_reply, source_reply, syntax_reply, unbuilt_reply, version_reply}
 use Rattle.query_meaning.specs.Resolution.{Refusal, axes_meant}
 use Rattle.query_meaning.specs.Requests.{MayFindNoMemory}
@@ -14,7 +17,7 @@ use Rattle.outside.specs.Fetched.{Fetched}
 use Rattle.outside.specs.declared.depot.DepotRefusal.{DepotRefusal}
 use Rattle.outside.specs.declared.depot.DepotRefusal.TheVariants as depot
 use Rattle.command_arguments.specs.declared.append.AppendArgument.{AppendArgument}
-use Rattle.input_lines.specs.Requests.{Request, NotText, Blank, NoCommand, Stops, Quit, After, Append, Ask, Unbuilt, IsRequest}
+use Rattle.input_lines.specs.Requests.{Request, NotText, Blank, NoCommand, Stops, Quit, After, Append, Ask, Flush, Unbuilt, IsRequest}
 use Rattle.fact_rows.specs.BatchFiles.{batch_of}
 use Rattle.fact_rows.specs.declared.fault.BatchFault.{BatchFault}
 use Rattle.fact_versions.specs.FactRows.{FactRows}
@@ -164,6 +167,11 @@ pub record TellsWhatIsSeen (dealing : Dealing) (asked : ℕ) (position : Option 
   pub none : position ≡ None
   pub text : reply ≡ front_reply asked front
 
+-- the reply to a flush, by what it means; and there may be no memory
+abbrev pub AnswersFlush : Catalog → RegionText → List ℕ → Type 0
+AnswersFlush catalog text reply =
+    (reply ≡ flush_reply catalog text (flush_meant catalog text)) ⊎ (reply ≡ no_memory_reply)
+
 -- the reply to a line that asks for this, the position of its entry, and what it adds
 abbrev pub AnswersRequest : Texts → Dealing → Request → Option ℕ → List ℕ → Type 0
 AnswersRequest texts dealing NotText position reply =
@@ -182,6 +190,8 @@ AnswersRequest texts dealing (Ask query) position reply =
     (dealing.asked ≡ [])
     × AnswersMeaning texts dealing
     (axes_meant (catalog_of dealing.before) query) position reply
+AnswersRequest texts dealing (Flush text) position reply =
+    StandsStill dealing position × AnswersFlush (catalog_of dealing.before) text reply
 AnswersRequest texts dealing Unbuilt position reply =
     StandsStill dealing position × (reply ≡ unbuilt_reply)
 
@@ -197,7 +207,7 @@ pub record LeavesUnread (dealing : Dealing) (handled : Handled) : Type 0 where
   pub nothing : StandsStill dealing handled.position
   pub no_memory : handled.reply ≡ no_memory_reply
 
--- a line was handled. That there was no memory is replied to two commands alone
+-- a line was handled. That there was no memory is replied to three commands alone
 pub record Handles (texts : Texts) (dealing : Dealing) (handled : Handled) : Type 0 where
   pub answers : AnswersLine texts dealing handled ⊎ LeavesUnread dealing handled
   pub lack : handled.reply ≡ no_memory_reply → MayFindNoMemory handled.line

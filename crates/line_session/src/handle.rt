@@ -11,6 +11,7 @@ ghost use Rattle.line_session.specs.Sessions.{ends_session};
 
 use crate::append::reply_to_append;
 use crate::desk::Desk;
+use crate::flush::reply_to_flush;
 use crate::query::reply_to_query;
 use crate::reply::Reply;
 use crate::tools::Tools;
@@ -66,6 +67,7 @@ fn reply_to_request<P: Desk, D: Depot, L: Ledger>(
         Request::After(count) => reply_to_after(desk, *count),
         Request::Append(argument) => reply_to_append(alloc, desk, depot, catalog, argument),
         Request::Ask(query) => reply_to_query(alloc, desk, catalog, tools, query, steps),
+        Request::Flush(text) => reply_to_flush(alloc, catalog, text),
         Request::Unbuilt => Reply::fixed("ERR 17 UNBUILT\n"),
     }
 }

@@ -1,5 +1,5 @@
 //! What follows of sessions from their definition alone. Each function does nothing: its contract is the law.
-ghost use Rattle.line_session.specs.Answered.{QueriesAreAnswered};
+ghost use Rattle.line_session.specs.Answered.{FlushesAreAnswered, QueriesAreAnswered};
 ghost use Rattle.shown_values.specs.Given.{Given};
 
 use crate::tools::Tools;
@@ -9,6 +9,14 @@ use shown_values::{Formatter, GivesTexts};
 /// the grid of an answer to their cells.
 pub fn queries_are_answered(tools: &Tools)
     ensures { QueriesAreAnswered (Given (⟦<Formatter as GivesTexts>⟧.answers tools.now.formatter)) }
+{
+    let _ = &tools.formatter;
+}
+
+/// With these tools: where a line of text is a flush, nothing is added; and where no want of memory is replied, the reply
+/// is the one by what the flush means.
+pub fn flushes_are_answered(tools: &Tools)
+    ensures { FlushesAreAnswered (Given (⟦<Formatter as GivesTexts>⟧.answers tools.now.formatter)) }
 {
     let _ = &tools.formatter;
 }

@@ -7,6 +7,7 @@
 mod append;
 mod desk;
 mod end;
+mod flush;
 mod handle;
 pub mod laws;
 mod query;

@@ -1,7 +1,9 @@
-//! Tests of the readers of queries, of paths and of shown values; of what queries mean; and of grids laid out and read back.
-//! They stand apart, since a crate with tests is proved twice.
+//! Tests of the readers of queries, of flushes, of paths and of shown values; of what queries mean; and of grids laid out
+//! and read back. They stand apart, since a crate with tests is proved twice.
 #![tactic(auto)]
 
+#[cfg(test)]
+mod flushes;
 #[cfg(test)]
 mod grid_texts;
 #[cfg(test)]

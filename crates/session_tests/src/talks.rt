@@ -23,7 +23,10 @@ const SCRIPT: [(&[u8], &[u8]); 6] = [
         b"GRID 4 1 1\nC\t[Measures].[Units]\nR\t\t15\n.\n",
     ),
     (b" \t\r\n", b""),
-    (b"FLUSH\n", b"ERR 17 UNBUILT\n"),
+    (
+        b"FLUSH [Sales] MEMBER([Time].[1997])\n",
+        b"ERR 13 REGION MEASURES\n",
+    ),
     (
         b"MDX SELECT {[Time].[1997].[Q1]} ON COLUMNS FROM [Sales]\n",
         b"GRID 7 1 1\nC\t[Time].[1997].[Q1]\nR\t\t12\n.\n",

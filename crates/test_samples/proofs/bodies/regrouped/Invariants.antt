@@ -1,0 +1,7 @@
+-- What holds at each turn of `regrouped`.
+use Rattle.std.proofs.Common.{◌≡◌, ◌≤◌, length}
+use Rattle.test_samples.proofs.bodies.regrouped.Given as goal
+
+-- the rows are counted, and the aggregator is the other body's
+abbrev pub invariant-loop-i : goal.invariant-loop-i
+invariant-loop-i l = (length l.grouped.rows ≤ l.held) × (l.grouped.aggregator ≡ l.body.aggregator)
