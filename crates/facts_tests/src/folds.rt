@@ -75,7 +75,10 @@ fn a_fold_at_a_value_has_the_rows_with_it(rt: HostRuntime) -> Result<(), Fail> {
         at_value(alloc, (1, 1))?,
         [Whole(11), Whole(2), Whole(3), Whole(8), Hundredths(550)]
     );
-    assert_eq!(rt; at_value(alloc, (0, 1))?, [Empty, Whole(0), Empty, Empty, Empty]);
+    assert_eq!(rt;
+        at_value(alloc, (0, 1))?,
+        [Empty, Whole(0), Empty, Empty, Empty]
+    );
     assert_eq!(rt; at_value(alloc, (0, 9))?, [Empty; 5]);
     Ok(())
 }

@@ -5,9 +5,7 @@ ghost use Rattle.segment_header.specs.Widening.{Serves, WidensPlainly, are_wante
 use olap_meaning::{Allowed, OutOfMemory, ValueId};
 use segment_header::{Widener, Widening, plain_widener, widened_plainly, wideners_are_shared};
 use std::test::Fail;
-use test_samples::wideners::{
-    not_widened, tell_wideners, widened_by_the_next, widened_to_any,
-};
+use test_samples::wideners::{not_widened, tell_wideners, widened_by_the_next, widened_to_any};
 
 const PLAIN: &str = "3 0,1,2 => *
 3 0,1 =>  0 1

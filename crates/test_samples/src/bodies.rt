@@ -31,7 +31,8 @@ fn open_header(alloc: Global, columns: u16) -> Result<Header, Fail>
 {
     let mut open = List::new(alloc);
     for column in 0..columns {
-        open.push((ColumnId(column), Allowed::Any)).map_err(no_memory)?;
+        open.push((ColumnId(column), Allowed::Any))
+            .map_err(no_memory)?;
     }
     let header = Header {
         cube: CubeId(0),
@@ -74,7 +75,8 @@ fn filled(
         if i >= 1_000_000 || !is_allowed(body.header(), &rows[i].values) {
             return Err(Fail::from("no row"));
         }
-        body.add(&rows[i].values, rows[i].number).map_err(no_memory)?;
+        body.add(&rows[i].values, rows[i].number)
+            .map_err(no_memory)?;
     }
     Ok(body)
 }
@@ -126,7 +128,8 @@ fn listed(
     let header = copy_header(alloc, header).map_err(no_memory)?;
     let mut list = RowList::new(alloc, header, aggregator);
     for i in 0..rows.len() {
-        list.add(&rows[i].values, rows[i].number).map_err(no_memory)?;
+        list.add(&rows[i].values, rows[i].number)
+            .map_err(no_memory)?;
     }
     Ok(list)
 }
@@ -172,6 +175,53 @@ fn fold_alike(body: &Body, cells: &[Cell], worths: &[CellValue]) -> Result<(), F
     Ok(())
 }
 
+/// What cells are worth over some rows, by a list of them.
+fn plain_worths(
+    alloc: Global,
+    header: &Header,
+    aggregator: Aggregator,
+    rows: &[SampleRow],
+    cells: &[Cell],
+) -> Result<Vec<CellValue>, Fail> {
+    let list = listed(alloc, header, aggregator, rows)?;
+    let mut worths = Vec::new(alloc);
+    for i in 0..cells.len() {
+        worths.push(plain_worth(&list, &cells[i])?)?;
+    }
+    Ok(worths)
+}
+
+/// That a body of the groups of another folds cells to what they are worth.
+fn groups_agree(
+    alloc: Global,
+    body: &Body,
+    rows: &[SampleRow],
+    cells: &[Cell],
+    worths: &[CellValue],
+) -> Result<(), Fail>
+    requires { body.now.aggregator ≢ Aggregator.DistinctCount }
+{
+    let grouped = regrouped(alloc, body, rows)?;
+    fold_alike(&grouped, cells, worths)
+}
+
+/// That a body of some rows, and one of its groups, fold cells to what they are worth.
+fn bodies_agree(
+    alloc: Global,
+    header: &Header,
+    aggregator: Aggregator,
+    rows: &[SampleRow],
+    cells: &[Cell],
+    worths: &[CellValue],
+) -> Result<(), Fail>
+    requires header { IsTrue (holds_header header.now) }
+    requires adds_up { aggregator ≢ Aggregator.DistinctCount }
+{
+    let body = filled(alloc, header, aggregator, rows)?;
+    fold_alike(&body, cells, worths)?;
+    groups_agree(alloc, &body, rows, cells, worths)
+}
+
 /// What cells of the same columns are worth over some rows, where all ways agree.
 pub fn worths_of(
     alloc: Global,
@@ -184,16 +234,29 @@ pub fn worths_of(
         return Err(Fail::from("no fold"));
     }
     let header = open_header(alloc, columns)?;
-    let body = filled(alloc, &header, aggregator, rows)?;
-    let grouped = regrouped(alloc, &body, rows)?;
-    let list = listed(alloc, &header, aggregator, rows)?;
-    let mut worths = Vec::new(alloc);
-    for i in 0..cells.len() {
-        worths.push(plain_worth(&list, &cells[i])?)?;
-    }
-    fold_alike(&body, cells, &worths)?;
-    fold_alike(&grouped, cells, &worths)?;
+    let worths = plain_worths(alloc, &header, aggregator, rows, cells)?;
+    bodies_agree(alloc, &header, aggregator, rows, cells, &worths)?;
     Ok(worths)
+}
+
+/// What a cell is worth in a body of all its columns, looked up by its values.
+fn looked_up(
+    alloc: Global,
+    header: &Header,
+    aggregator: Aggregator,
+    rows: &[SampleRow],
+    cell: &Cell,
+) -> Result<CellValue, Fail>
+    requires { IsTrue (holds_header header.now) }
+{
+    let body = filled(alloc, header, aggregator, rows)?;
+    if !covers(body.header(), cell)
+        || !same_columns(body.header(), cell)
+        || !columns_rise(cell.at.as_slice())
+    {
+        return Err(Fail::from("no cell"));
+    }
+    Ok(body.value(cell))
 }
 
 /// What a cell of all columns is worth over some rows, where the look-up by its values and the list agree.
@@ -205,16 +268,9 @@ pub fn worth_of_all_columns(
     cell: &Cell,
 ) -> Result<CellValue, Fail> {
     let header = open_header(alloc, columns)?;
-    let body = filled(alloc, &header, aggregator, rows)?;
+    let worth = looked_up(alloc, &header, aggregator, rows, cell)?;
     let list = listed(alloc, &header, aggregator, rows)?;
-    let worth = plain_worth(&list, cell)?;
-    if !covers(body.header(), cell)
-        || !same_columns(body.header(), cell)
-        || !columns_rise(cell.at.as_slice())
-    {
-        return Err(Fail::from("no cell"));
-    }
-    if body.value(cell) != worth {
+    if plain_worth(&list, cell)? != worth {
         return Err(differ("value"));
     }
     Ok(worth)
@@ -280,6 +336,14 @@ fn cell_in(alloc: Global, word: &str) -> Result<Cell, Fail> {
     cell_at(alloc, &at).map_err(no_memory)
 }
 
+// How many columns the first of some rows has, 0 where there are too many.
+fn width_of(rows: &[SampleRow]) -> u16 {
+    match rows.first() {
+        Some(row) if row.values.len() <= 64 => row.values.len() as u16,
+        _ => 0,
+    }
+}
+
 // What a cell is worth over some rows.
 fn said_of(alloc: Global, rows: &[SampleRow], asked: &str) -> Result<String, Fail> {
     let words = words(alloc, asked)?;
@@ -290,9 +354,11 @@ fn said_of(alloc: Global, rows: &[SampleRow], asked: &str) -> Result<String, Fai
         return Err(Fail::from("no aggregator"));
     };
     let cells = [cell_in(alloc, cell)?];
-    let columns = rows.first().map_or(0, |row| row.values.len());
-    let worths = worths_of(alloc, aggregator, columns as u16, rows, &cells)?;
-    Ok(format!(in alloc; "{:?}", worths[0])?)
+    let worths = worths_of(alloc, aggregator, width_of(rows), rows, &cells)?;
+    match worths.first() {
+        Some(worth) => Ok(format!(in alloc; "{worth:?}")?),
+        None => Err(Fail::from("no worth")),
+    }
 }
 
 /// A table of folds over rows, each an aggregator and a cell, and what the cell is worth.
@@ -307,7 +373,12 @@ pub fn tell_folds(alloc: Global, rows: &str, table: &str) -> Result<String, Fail
 }
 
 /// Rows that are drawn: two columns of so many values, and small numbers, of which some are none.
-pub fn drawn_rows(alloc: Global, seed: u64, count: u32, widths: (u32, u32)) -> Result<Vec<SampleRow>, Fail> {
+pub fn drawn_rows(
+    alloc: Global,
+    seed: u64,
+    count: u32,
+    widths: (u32, u32),
+) -> Result<Vec<SampleRow>, Fail> {
     let mut random = Random { state: seed };
     let mut rows = Vec::new(alloc);
     for _ in 0..count {
@@ -317,7 +388,11 @@ pub fn drawn_rows(alloc: Global, seed: u64, count: u32, widths: (u32, u32)) -> R
         let mut values = Vec::new(alloc);
         values.push(ValueId(first))?;
         values.push(ValueId(second))?;
-        let number = if drawn < 5 { None } else { Some(i64::from(drawn) - 20) };
+        let number = if drawn < 5 {
+            None
+        } else {
+            Some(i64::from(drawn) - 20)
+        };
         rows.push(SampleRow { values, number })?;
     }
     Ok(rows)

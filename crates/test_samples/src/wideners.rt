@@ -54,11 +54,7 @@ pub fn widened_to_any(wanted: &[ValueId], count: u32) -> Result<Allowed, OutOfMe
 }
 
 /// The wanted set, also where all values are wanted.
-pub fn not_widened(
-    alloc: Global,
-    wanted: &[ValueId],
-    count: u32,
-) -> Result<Allowed, OutOfMemory>
+pub fn not_widened(alloc: Global, wanted: &[ValueId], count: u32) -> Result<Allowed, OutOfMemory>
     requires { IsTrue (may_be_wanted wanted.now count) }
     ensures { IfOk result (Serves wanted.now count) }
 {
