@@ -57,24 +57,30 @@ for _ in range(rounds):
 
 def grids(text):
     """The grids of an output, each without the line with its position."""
-    found = [it.split("\n", 1)[1] for it in text.split("GRID ")[1:]]
-    return found
+    return [it.split("\n", 1)[1] for it in text.split("GRID ")[1:]]
 
 
 for kind in ("cold", "warm", "few"):
     if grids(told[f"olapd {kind}"]) != grids(told[f"plain {kind}"]):
         sys.exit(f"{kind}: olapd and the plain program differ")
-if [it.replace("[Deep]", "[Flat]").split("\t")[-1] for it in grids(told["olapd cold deep"])] != [it.split("\t")[-1] for it in grids(told["olapd cold"])]:
-    sys.exit("the grid of six columns and that of two differ")
+
+
+def values(grid):
+    """The values of a grid, row by row."""
+    return [line.split("\t")[2:] for line in grid.splitlines() if line.startswith("R\t")]
+
+
+if [values(it) for it in grids(told["olapd warm deep"])] != [values(it) for it in grids(told["olapd warm"])]:
+    sys.exit("the grids of six columns and those of two differ")
 sums = {}
 for line in told["sqlite3 cold"].splitlines():
     member, side, units = line.split("\t")
     sums[member, side] = units
 lines = grids(told["olapd cold"])[0].splitlines()
 for line in lines[OTHER:-1]:
-    title, *values = line[2:].split("\t")
+    title, *row = line[2:].split("\t")
     member = title.removeprefix("[Flat].[").removesuffix("]")
-    if values != [sums.pop((member, f"S{k + 1}"), "") for k in range(OTHER)]:
+    if row != [sums.pop((member, f"S{k + 1}"), "") for k in range(OTHER)]:
         sys.exit(f"of {title} olapd and sqlite3 differ")
 if sums:
     sys.exit("sqlite3 has groups that olapd has not")
@@ -100,8 +106,8 @@ rustc, version = (run([it, "--version"], "")[1].split() for it in ("rustc", "sql
 print(f"{len(os.sched_getaffinity(0))} cores, rustc {rustc[1]}, sqlite3 {version[0]}, best of {rounds} rounds; {ROWS:,} rows, 100,000 groups\n")
 print("| grid | olapd busy ms | plain busy ms | sqlite3 busy ms | olapd ms | plain ms | sqlite3 ms |\n|---|---|---|---|---|---|---|")
 for name, of, programs in (("cold, 100,000 cells", cold, 3), ("warm, 100,000 cells", warm, 2), ("warm, 10,000 cells", few, 2)):
-    values = [f"{of(it, whole):.1f}" if n < programs else "" for whole in (False, True) for n, it in enumerate(("olapd", "plain", "sqlite3"))]
-    print(f"| {name} | {' | '.join(values)} |")
+    times = [f"{of(it, whole):.1f}" if n < programs else "" for whole in (False, True) for n, it in enumerate(("olapd", "plain", "sqlite3"))]
+    print(f"| {name} | {' | '.join(times)} |")
 for name, of in (("cold", cold), ("warm", warm)):
     print(f"| {name}, 100,000 cells, six columns | {of('olapd', False, ' deep'):.1f} | | | {of('olapd', True, ' deep'):.1f} | | |")
 print(f"\ncold: {cold('olapd') / cold('plain'):.2f} times the plain program, sqlite3 {cold('sqlite3') / cold('olapd'):.1f} times olapd; warm: {warm('olapd') / few('olapd'):.1f} times that of 10,000")
