@@ -11,7 +11,7 @@ use Rattle.std.proofs.lemmas.List.Sums.{sum_by-set, sum_by_push}
 use Rattle.olap_meaning.specs.declared.tables.Setting.{Setting}
 use Rattle.olap_meaning.specs.declared.tables.Row.{Row}
 use Rattle.olap_meaning.specs.declared.cells.Who.{Who}
-use Rattle.olap_meaning.specs.History.{Entry, Append, Flush, Start, Done, Drop, Answer, Saw, appended, is_some_and, version, rows_of}
+use Rattle.olap_meaning.specs.History.{Entry, Append, Agg, Flush, Start, Done, Drop, Evict, Answer, Saw, appended, is_some_and, version, rows_of}
 use Rattle.olap_meaning.specs.Catalog.{fact_columns}
 use Rattle.olap_meaning.specs.declared.TheConstants.{VERSION_LIMIT}
 use Rattle.olap_meaning.specs.declared.tables.Catalog.{Catalog}
@@ -163,10 +163,12 @@ version_limit setting entries cube (suc n) lawful l = by (slice_get entries n) r
               let grown : version (take n entries ++ Append w c v rows ∷ []) cube ≡ version (take n entries) cube + 0 = version_grows (take n entries) (Append w c v rows) cube ∙ rw other refl in
               omega (arith, grown, few)
         ]
+    step (Agg w t v) s few = omega (arith, version_grows (take n entries) (Agg w t v) cube, few)
     step (Flush w r) s few = omega (arith, version_grows (take n entries) (Flush w r) cube, few)
     step (Start d) s few = omega (arith, version_grows (take n entries) (Start d) cube, few)
     step (Done w j) s few = omega (arith, version_grows (take n entries) (Done w j) cube, few)
     step (Drop w j) s few = omega (arith, version_grows (take n entries) (Drop w j) cube, few)
+    step (Evict j) s few = omega (arith, version_grows (take n entries) (Evict j) cube, few)
     step (Answer w cs) s few = omega (arith, version_grows (take n entries) (Answer w cs) cube, few)
     step (Saw w) s few = omega (arith, version_grows (take n entries) (Saw w) cube, few)
 

@@ -1,5 +1,5 @@
 -- Jobs that are out, while an entry is added to the history; and the numbers of loads.
-use Rattle.std.proofs.Common.{◌≡◌, refl, sym, ◌∙◌, ap, ℕ, zero, suc, ◌<◌, List, [], ◌∷◌, ◌++◌, length, map, Bool, true, false, ◌==◌, inl, inr, arith, All}
+use Rattle.std.proofs.Common.{◌≡◌, refl, sym, ◌∙◌, ap, ℕ, zero, suc, ◌<◌, List, [], ◌∷◌, ◌++◌, length, map, Bool, true, false, ◌==◌, inl, inr, Option, Some, arith, All}
 use Rattle.std.specs.List.{list_any}
 use Rattle.std.proofs.lemmas.Bool.{and_from, both_ways, eqb-true, eq-eqb, false_from_ne_true, not_from_false, or_cases, or_left, or_right}
 use Rattle.std.proofs.lemmas.List.{append-nil}
@@ -7,24 +7,31 @@ use Rattle.std.proofs.lemmas.List.Elements.{All-cons, All-head, All-nil, All-tai
 use Rattle.olap_meaning.specs.declared.cells.Who.{Who}
 use Rattle.olap_meaning.specs.declared.tables.Setting.{Setting}
 use Rattle.olap_meaning.specs.Covering.{among}
-use Rattle.olap_meaning.specs.History.{Entry, ends, load_at, rows_of}
+use Rattle.olap_meaning.specs.History.{Entry, Load, ends, load_at, rows_of}
 use Rattle.olap_meaning.specs.Legal.{Legal}
+use Rattle.olap_meaning.specs.Worth.{cost, load_rows}
+use Rattle.olap_meaning.specs.declared.tables.Catalog.{Catalog}
+use Rattle.std.specs.Option.{option_map_or}
 use Rattle.segment_load.specs.Loads.{JobOf}
 use Rattle.history_core.specs.Cache.{CacheOf}
 use Rattle.cache_manager.specs.Jobs.{IsJobOf}
-use Rattle.history_core.specs.Seats.{actor, entries_of}
+use Rattle.history_core.specs.Seats.{entries_of, is_of_seat}
 use Rattle.history_core.specs.Groups.{numbers_from}
 use Rattle.cache_manager.specs.Runs.{apart}
 use Rattle.cache_manager.proofs.Pushes.{any_none, load_on, recorded, rows_on}
+
+-- the cost of a load that was started
+pub cost_is : (catalog : Catalog) (history : List Entry) (j : ℕ) (load : Load) → load_at history j ≡ Some load → cost catalog history j ≡ length (rows_of history load.header.cube load.version)
+cost_is catalog history j load at = ap (λ (o : Option Load). option_map_or (load_rows history) o 0) at
 
 module _ (before after : CacheOf) (entry : Entry) (same : after.setting ≡ before.setting) (grown : after.entries ≡ before.entries ++ entry ∷ []) (legal : Legal before.setting before.entries) where
   unended_on : (who : Who) (j : ℕ) → ends j entry ≡ false → list_any (ends j) (entries_of before.entries who.seat) ≡ false → list_any (ends j) (entries_of after.entries who.seat) ≡ false
   unended_on who j other none =
       ap (λ (es : List Entry). list_any (ends j) (entries_of es who.seat)) grown
-      ∙ ap (list_any (ends j)) (filter-append (λ e. (actor e).seat == who.seat) before.entries (entry ∷ []))
-      ∙ by ((actor entry).seat == who.seat) refl
+      ∙ ap (list_any (ends j)) (filter-append (is_of_seat who.seat) before.entries (entry ∷ []))
+      ∙ by (is_of_seat who.seat entry) refl
     where
-      by : (b : Bool) → ((actor entry).seat == who.seat) ≡ b → list_any (ends j) (entries_of before.entries who.seat ++ entries_of (entry ∷ []) who.seat) ≡ false
+      by : (b : Bool) → is_of_seat who.seat entry ≡ b → list_any (ends j) (entries_of before.entries who.seat ++ entries_of (entry ∷ []) who.seat) ≡ false
       by true e = rw e (any_none (ends j) (entries_of before.entries who.seat) entry none other)
       by false e = rw (e, append-nil (entries_of before.entries who.seat)) none
 
@@ -44,7 +51,9 @@ module _ (before after : CacheOf) (entry : Entry) (same : after.setting ≡ befo
         };
         header = is.header;
         rows = is.rows ∙ sym rows;
-        costs = is.costs ∙ sym (ap length rows);
+        costs =
+            is.costs ∙ cost_is before.setting.catalog before.entries job.load is.load is.flies.started ∙ sym (ap length rows)
+            ∙ sym (cost_is after.setting.catalog after.entries job.load is.load (ap (λ (es : List Entry). load_at es job.load) grown ∙ load_on before.entries entry job.load is.load is.flies.started));
       }
 
   -- and so do jobs, where it ends none of their loads

@@ -11,6 +11,7 @@ pub mod Rising
 pub mod Numbers
 pub mod Grouping
 pub mod Serving
+pub mod Showing
 pub mod Answering
 pub mod Starting
 pub mod Wanting

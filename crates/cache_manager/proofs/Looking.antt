@@ -1,16 +1,18 @@
 -- The loads that a look starts.
-use Rattle.std.proofs.Common.{◌≡◌, refl, sym, subst, ℕ, suc, ◌+◌, ◌≤◌, List, [], ◌∷◌, ◌++◌, length, map, Bool, true, false, not, ◌&&◌, Option, Some, None, is_some, option_to_list, filter, arith, All}
+use Rattle.std.proofs.Common.{◌≡◌, refl, sym, ap, subst, ℕ, suc, ◌+◌, ◌≤◌, List, [], ◌∷◌, ◌++◌, length, map, Bool, true, false, not, ◌&&◌, Option, Some, None, is_some, option_to_list, filter, arith, All}
 use Rattle.std.specs.List.{list_all}
 use Rattle.std.proofs.lemmas.Bool.{and_from, and_parts, both_ways, false_from_ne_true}
+use Rattle.std.proofs.lemmas.List.{length-append, length-map}
 use Rattle.std.proofs.lemmas.List.Elements.{All-cons, All-nil}
 use Rattle.olap_meaning.specs.declared.cells.Cell.{Cell}
+use Rattle.olap_meaning.specs.declared.cells.Header.{Header}
 use Rattle.olap_meaning.specs.declared.cells.Who.{Who}
 use Rattle.olap_meaning.specs.declared.tables.Setting.{Setting}
 use Rattle.olap_meaning.specs.History.{Entry, awaited, awaited_load, exact_source, flushed_after, flying, load_just_covers}
 use Rattle.olap_meaning.specs.Legal.{Legal, is_cell}
 use Rattle.fact_versions.specs.Facts.{FactsOf}
-use Rattle.cache_manager.specs.declared.kept.Flight.{Flight}
-use Rattle.cache_manager.specs.declared.kept.Kept.{Kept}
+use Rattle.cache_flush.specs.Loads.{KeptOf}
+use Rattle.cache_flush.specs.Flights.{FlightOf}
 use Rattle.cache_manager.specs.declared.starts.Planned.{Planned}
 use Rattle.history_core.specs.Cache.{CacheOf}
 use Rattle.history_core.specs.Groups.{firsts, wanting}
@@ -18,10 +20,11 @@ use Rattle.history_core.specs.Answers.{HasSource, SomeWants}
 use Rattle.cache_manager.proofs.Answering.{source_is}
 use Rattle.cache_manager.specs.Jobs.{IsJobOf}
 use Rattle.history_core.specs.Seats.{NoneFlies}
-use Rattle.cache_manager.specs.Kept.{IsManager}
-use Rattle.cache_manager.specs.Plans.{AreLegalSteps, ArePlanned}
+use Rattle.cache_manager.specs.Kept.{IsFlight, IsManager, headers_of}
+use Rattle.cache_manager.specs.Plans.{AreLegalSteps, AreNew, ArePlanned, flight_for}
 use Rattle.cache_manager.proofs.Grouping.{contains_at}
-use Rattle.cache_manager.proofs.Planning.{all_jobs, all_started, planned_steps, step_of}
+use Rattle.cache_manager.proofs.Managing.{flights_below}
+use Rattle.cache_manager.proofs.Planning.{all_jobs, all_started, anywhere, planned_new, planned_steps, step_of}
 use Rattle.cache_manager.proofs.Serving.{none_latest}
 use Rattle.cache_manager.proofs.Wanting.{steps_legal}
 
@@ -32,18 +35,22 @@ idle_unawaited entries cell none = none_latest (length entries) (λ j. awaited e
 
 -- other room
 pub refit :
-    (setting : Setting) (entries : List Entry) (spare left : ℕ) (facts : FactsOf) (held : List Kept) (places free : ℕ) (flights : List Flight) → IsManager setting entries spare facts held places flights → length flights ≤ left → length flights ≤ free
-    → IsManager setting entries left facts held free flights
-refit setting entries spare left facts held places free flights is room place = record {
+    (setting : Setting) (entries : List Entry) (spare left : ℕ) (facts : FactsOf) (held : List KeptOf) (places now : List Header → Type 0) (flights : List FlightOf) → IsManager setting entries spare facts held places flights → length flights ≤ left → now (headers_of flights)
+    → IsManager setting entries left facts held now flights
+refit setting entries spare left facts held places now flights is room fit = record {
   facts_are = is.facts_are;
   kept_are = is.kept_are;
   kept_all = is.kept_all;
   flights_are = is.flights_are;
   flights_all = is.flights_all;
-  unflushed = is.unflushed;
   ends_fit = room;
-  places_fit = place;
+  places_fit = fit;
 }
+
+headers_started : (flights : List FlightOf) (plans : List Planned) → headers_of (flights ++ map (λ p. flight_for p.flight) plans) ≡ headers_of flights ++ map (λ p. p.flight.header) plans
+headers_started [] [] = refl
+headers_started [] (p ∷ ps) = ap (λ (hs : List Header). p.flight.header ∷ hs) (headers_started [] ps)
+headers_started (f ∷ fs) plans = ap (λ (hs : List Header). f.header ∷ hs) (headers_started fs plans)
 
 module _ (cache : CacheOf) (who : Who) (wanted : List Cell) (plans : List Planned) (legal : Legal cache.setting cache.entries) (known : list_all (is_cell cache.setting.catalog) wanted ≡ true) (unserved : list_all (λ cell. not (is_some (exact_source cache.entries cell))) wanted ≡ true) (idle : NoneFlies cache.entries) (are : ArePlanned cache who wanted (length cache.entries + 1) (firsts [] wanted) plans) where
   pub all_legal : AreLegalSteps cache.setting cache.entries (map step_of plans)
@@ -56,11 +63,21 @@ module _ (cache : CacheOf) (who : Who) (wanted : List Cell) (plans : List Planne
       all_jobs cache who wanted plans cache.entries [] (length cache.entries + 1) (firsts [] wanted) legal all_legal are (omega arith) (λ cube. refl) (λ cube. refl) (All-nil (IsJobOf (record { setting = cache.setting; entries = cache.entries })))
 
   pub manager_started :
-      (facts : FactsOf) (held : List Kept) (spare left places free : ℕ) (flights : List Flight) → IsManager cache.setting cache.entries spare facts held places flights → length flights + length plans ≤ left → length flights + length plans ≤ free
-      → IsManager cache.setting (cache.entries ++ map step_of plans) left facts held free (flights ++ map (λ p. p.flight) plans)
-  manager_started facts held spare left places free flights is room place =
-      all_started cache who wanted facts held free left plans cache.entries flights (length cache.entries + 1) (firsts [] wanted) legal all_legal are (omega arith)
-      (refit cache.setting cache.entries spare left facts held places free flights is (omega (arith, room)) (omega (arith, place))) room place
+      (facts : FactsOf) (held : List KeptOf) (spare left : ℕ) (places now : List Header → Type 0) (flights : List FlightOf) → IsManager cache.setting cache.entries spare facts held places flights → length flights + length plans ≤ left
+      → now (headers_of flights ++ map (λ p. p.flight.header) plans)
+      → IsManager cache.setting (cache.entries ++ map step_of plans) left facts held now (flights ++ map (λ p. flight_for p.flight) plans)
+  manager_started facts held spare left places now flights is room fit =
+      refit cache.setting (cache.entries ++ map step_of plans) left left facts held anywhere now (flights ++ map (λ p. flight_for p.flight) plans)
+      (all_started cache who wanted facts held left plans cache.entries flights (length cache.entries + 1) (firsts [] wanted) legal all_legal are (omega arith)
+      (refit cache.setting cache.entries spare left facts held places anywhere flights is (omega (arith, room)) tt) room)
+      (omega (arith, room, length-append flights (map (λ (p : Planned). flight_for p.flight) plans), length-map plans (λ (p : Planned). flight_for p.flight)))
+      (subst now (sym (headers_started flights plans)) fit)
+
+  -- the numbers of the loads are new
+  pub numbers_new : (flights : List FlightOf) → All (IsFlight cache.entries) flights → AreNew (map (λ f. f.load) flights) (map (λ p. p.flight.load) plans)
+  numbers_new flights all =
+      planned_new cache who wanted (length cache.entries + 1) (firsts [] wanted) plans (map (λ f. f.load) flights) are
+      (λ i h. let l : i ≤ length cache.entries = flights_below cache.entries flights i all h in omega (arith, l))
 
 -- where no cell wants a source, each has one
 pub none_wanted : (entries : List Entry) (cells : List Cell) → length (wanting entries cells) ≡ 0 → list_all (λ cell. is_some (exact_source entries cell)) cells ≡ true

@@ -1,50 +1,121 @@
 -- What a manager keeps, after one more entry.
-use Rattle.std.proofs.Common.{◌≡◌, refl, sym, ◌∙◌, ap, ℕ, ◌<◌, ◌≤◌, List, [], ◌∷◌, ◌++◌, length, map, filter, Bool, true, false, not, ◌==◌, ◌||◌, inl, inr, Some, None, arith, option_map, All}
+use Rattle.std.proofs.Common.{◌≡◌, refl, sym, ◌∙◌, ap, subst, ℕ, ◌<◌, ◌≤◌, List, [], ◌∷◌, ◌++◌, length, map, filter, Bool, true, false, not, ◌==◌, ◌||◌, ◌⊎◌, inl, inr, Option, Some, None, arith, option_map, option_to_list, All}
 use Rattle.std.specs.List.{find}
 use Rattle.std.proofs.lemmas.Bool.{both_ways, or_cases, or_left, or_right, eqb-true, eq-eqb, false_from_ne_true}
-use Rattle.std.proofs.lemmas.List.Elements.{All-cons, All-filter, All-head, All-nil, All-tail}
+use Rattle.std.proofs.lemmas.List.{append-nil, length-map}
+use Rattle.std.proofs.lemmas.List.Elements.{All-cons, All-filter, All-head, All-map, All-nil, All-tail, All-weaker}
 use Rattle.std.proofs.lemmas.List.Folds.{list_any-append}
+use Rattle.olap_meaning.specs.declared.cells.Header.{Header}
+use Rattle.olap_meaning.specs.declared.cells.Who.{Who}
+use Rattle.olap_meaning.specs.declared.regions.Region.{Region}
+use Rattle.olap_meaning.specs.declared.tables.Catalog.{Catalog}
+use Rattle.olap_meaning.specs.declared.tables.Row.{Row}
 use Rattle.olap_meaning.specs.declared.tables.Setting.{Setting}
-use Rattle.olap_meaning.specs.Covering.{among}
-use Rattle.olap_meaning.specs.History.{Entry, Load, load_version, kept, delivers, ends, flying, started}
+use Rattle.olap_meaning.specs.Covering.{among, concerning}
+use Rattle.olap_meaning.specs.History.{Entry, Flush, Load, load_version, kept, delivers, ends, evicts, flushed, flying, shutting, started}
 use Rattle.olap_meaning.specs.Legal.{Legal}
-use Rattle.segment_load.specs.Loads.{body_of}
-use Rattle.cache_manager.specs.declared.kept.Kept.{Kept}
-use Rattle.cache_manager.specs.declared.kept.Flight.{Flight}
-use Rattle.cache_manager.specs.Kept.{IsKept, IsFlight}
-use Rattle.cache_manager.proofs.Pushes.{any_back, any_on, flying_back, flying_on, flying_parts, load_on, recorded, rows_on}
+use Rattle.olap_meaning.proofs.Shutting.{shutting_grows}
+use Rattle.segment_load.specs.Loads.{HoldsRows}
+use Rattle.cache_flush.specs.Loads as of_loads
+use Rattle.cache_flush.specs.Loads.{KeptOf, ShelfOf}
+use Rattle.cache_flush.specs.Flights as of_flights
+use Rattle.cache_flush.specs.Flights.{FlightOf, numbers_of}
+use Rattle.cache_manager.specs.Kept.{IsKept, IsFlight, has_places, headers_of}
+use Rattle.cache_manager.proofs.Pushes.{flying_back, flying_on, kept_back, kept_stays, load_on, load_within, recorded, rows_on}
 
--- a kept load stays one
-pub kept_on : (setting : Setting) (entries : List Entry) (entry : Entry) (k : Kept) → Legal setting entries → IsKept setting.catalog entries k → IsKept setting.catalog (entries ++ entry ∷ []) k
-kept_on setting entries entry k legal is = record {
+-- nothing is shut off by an entry that flushes nothing
+nothing_more : (shut : List Region) (header : Header) (entry : Entry) → flushed entry ≡ None → shut ≡ shut ++ concerning header (option_to_list (flushed entry))
+nothing_more shut header entry none = sym (ap (λ (o : Option Region). shut ++ concerning header (option_to_list o)) none ∙ append-nil shut)
+
+-- a kept load stays one, with the region that an entry flushes
+kept_grown :
+    (setting : Setting) (entries : List Entry) (entry : Entry) (k : KeptOf) (shut : List Region) → Legal setting entries → evicts k.load entry ≡ false → shut ≡ k.shut ++ concerning k.body.header (option_to_list (flushed entry)) → IsKept setting.catalog entries k
+    → IsKept setting.catalog (entries ++ entry ∷ []) (record k { shut = shut })
+kept_grown setting entries entry k shut legal stays more is = record {
   load = is.load;
   started = load_on entries entry k.load is.load is.started;
-  delivered = any_on (delivers k.load) entries entry is.delivered;
+  delivered = kept_stays entries entry k.load stays is.delivered;
   version = is.version;
   formed = is.formed;
-  whole = ap (body_of setting.catalog is.load.header) (rows_on entries entry is.load.header.cube is.load.version (recorded setting entries k.load is.load legal is.started)) ∙ is.whole;
+  holds = subst (λ (rows : List Row). HoldsRows setting.catalog is.load.header rows k.body) (sym (rows_on entries entry is.load.header.cube is.load.version (recorded setting entries k.load is.load legal is.started))) is.holds;
+  shut =
+      more
+      ∙ ap (λ (rs : List Region). rs ++ concerning k.body.header (option_to_list (flushed entry))) is.shut
+      ∙ ap (λ (h : Header). shutting entries k.load ++ concerning h (option_to_list (flushed entry))) is.holds.own_header
+      ∙ sym (shutting_grows entries entry k.load is.load is.started);
 }
 
-pub all_kept_on : (setting : Setting) (entries : List Entry) (entry : Entry) (kept : List Kept) → Legal setting entries → All (IsKept setting.catalog entries) kept → All (IsKept setting.catalog (entries ++ entry ∷ [])) kept
-all_kept_on setting entries entry kept legal all i d l = kept_on setting entries entry _ legal (all i d l)
+pub all_kept_on :
+    (setting : Setting) (entries : List Entry) (entry : Entry) (loads : List KeptOf) → ((j : ℕ) → evicts j entry ≡ false) → flushed entry ≡ None → Legal setting entries → All (IsKept setting.catalog entries) loads
+    → All (IsKept setting.catalog (entries ++ entry ∷ [])) loads
+all_kept_on setting entries entry loads stays none legal all =
+    All-weaker (IsKept setting.catalog entries) (IsKept setting.catalog (entries ++ entry ∷ []))
+    (λ k is. kept_grown setting entries entry k k.shut legal (stays k.load) (nothing_more k.shut k.body.header entry none) is) loads all
 
--- a load in flight stays one, where it does not end
-pub flight_on : (entries : List Entry) (entry : Entry) (f : Flight) → ends f.load entry ≡ false → IsFlight entries f → IsFlight (entries ++ entry ∷ []) f
-flight_on entries entry f unended is =
-    let parts = flying_parts entries f.load is.flies in
-    record {
-      flies = flying_on entries entry f.load is.flies unended;
-      version = ap (option_map (λ (load : Load). load.version)) (load_on entries entry f.load parts.0 parts.1) ∙ sym (ap (option_map (λ (load : Load). load.version)) parts.1) ∙ is.version;
-    }
+-- the kept loads stay kept, with the region that is flushed
+pub all_kept_shut :
+    (setting : Setting) (entries : List Entry) (who : Who) (region : Region) (loads : List KeptOf) → Legal setting entries → All (IsKept setting.catalog entries) loads
+    → All (IsKept setting.catalog (entries ++ Flush who region ∷ [])) (map (of_loads.shut_off region) loads)
+all_kept_shut setting entries who region loads legal all =
+    All-map (IsKept setting.catalog (entries ++ Flush who region ∷ [])) (of_loads.shut_off region) loads
+    (All-weaker (IsKept setting.catalog entries) (λ k. IsKept setting.catalog (entries ++ Flush who region ∷ []) (of_loads.shut_off region k))
+    (λ k is. kept_grown setting entries (Flush who region) k (k.shut ++ concerning k.body.header (region ∷ [])) legal refl refl is) loads all)
 
-pub all_flights_on : (entries : List Entry) (entry : Entry) (flights : List Flight) → ((j : ℕ) → ends j entry ≡ false) → All (IsFlight entries) flights → All (IsFlight (entries ++ entry ∷ [])) flights
-all_flights_on entries entry flights none all i d l = flight_on entries entry _ (none _) (all i d l)
+pub kept_numbers_shut : (region : Region) (loads : List KeptOf) → of_loads.numbers_of (map (of_loads.shut_off region) loads) ≡ of_loads.numbers_of loads
+kept_numbers_shut region [] = refl
+kept_numbers_shut region (k ∷ ks) = ap (λ (ns : List ℕ). k.load ∷ ns) (kept_numbers_shut region ks)
+
+-- the numbers of the kept loads are those of loads that are kept
+pub numbers_kept : (catalog : Catalog) (entries : List Entry) (loads : List KeptOf) (j : ℕ) → All (IsKept catalog entries) loads → among (map (λ k. k.load) loads) j ≡ true → kept entries j ≡ true
+numbers_kept catalog entries [] j all h = absurd (cc)
+numbers_kept catalog entries (k ∷ ks) j all h = elim (or_cases (k.load == j) (among (map (λ o. o.load) ks) j) h) [
+  | inl here ↦ let is : IsKept catalog entries k = All-head (IsKept catalog entries) k ks all in ap (kept entries) (sym (eqb-true k.load j here)) ∙ is.delivered
+  | inr there ↦ numbers_kept catalog entries ks j (All-tail (IsKept catalog entries) k ks all) there
+]
+
+-- a load in flight stays one, where it does not end, with the region that an entry flushes
+flight_grown :
+    (entries : List Entry) (entry : Entry) (f : FlightOf) (shut : List Region) → ends f.load entry ≡ false → shut ≡ f.shut ++ concerning f.header (option_to_list (flushed entry)) → IsFlight entries f → IsFlight (entries ++ entry ∷ []) (record f { shut = shut })
+flight_grown entries entry f shut unended more is = record {
+  load = is.load;
+  started = load_on entries entry f.load is.load is.started;
+  flies = flying_on entries entry f.load is.flies unended;
+  who = is.who;
+  header = is.header;
+  version = is.version;
+  shut =
+      more
+      ∙ ap (λ (rs : List Region). rs ++ concerning f.header (option_to_list (flushed entry))) is.shut
+      ∙ ap (λ (h : Header). shutting entries f.load ++ concerning h (option_to_list (flushed entry))) is.header
+      ∙ sym (shutting_grows entries entry f.load is.load is.started);
+}
+
+pub flight_on : (entries : List Entry) (entry : Entry) (f : FlightOf) → ends f.load entry ≡ false → flushed entry ≡ None → IsFlight entries f → IsFlight (entries ++ entry ∷ []) f
+flight_on entries entry f unended none is = flight_grown entries entry f f.shut unended (nothing_more f.shut f.header entry none) is
+
+pub all_flights_on : (entries : List Entry) (entry : Entry) (flights : List FlightOf) → ((j : ℕ) → ends j entry ≡ false) → flushed entry ≡ None → All (IsFlight entries) flights → All (IsFlight (entries ++ entry ∷ [])) flights
+all_flights_on entries entry flights unended none all = All-weaker (IsFlight entries) (IsFlight (entries ++ entry ∷ [])) (λ f is. flight_on entries entry f (unended f.load) none is) flights all
+
+pub all_flights_shut :
+    (entries : List Entry) (who : Who) (region : Region) (flights : List FlightOf) → All (IsFlight entries) flights → All (IsFlight (entries ++ Flush who region ∷ [])) (map (of_flights.shut_off region) flights)
+all_flights_shut entries who region flights all =
+    All-map (IsFlight (entries ++ Flush who region ∷ [])) (of_flights.shut_off region) flights
+    (All-weaker (IsFlight entries) (λ f. IsFlight (entries ++ Flush who region ∷ []) (of_flights.shut_off region f))
+    (λ f is. flight_grown entries (Flush who region) f (f.shut ++ concerning f.header (region ∷ [])) refl refl is) flights all)
+
+pub flight_numbers_shut : (region : Region) (flights : List FlightOf) → numbers_of (map (of_flights.shut_off region) flights) ≡ numbers_of flights
+flight_numbers_shut region [] = refl
+flight_numbers_shut region (f ∷ fs) = ap (λ (ns : List ℕ). f.load ∷ ns) (flight_numbers_shut region fs)
+
+pub flight_headers_shut : (region : Region) (flights : List FlightOf) → headers_of (map (of_flights.shut_off region) flights) ≡ headers_of flights
+flight_headers_shut region [] = refl
+flight_headers_shut region (f ∷ fs) = ap (λ (hs : List Header). f.header ∷ hs) (flight_headers_shut region fs)
 
 -- an entry that delivers nothing leaves the kept loads all that there are
 pub kept_all_on :
     (entries : List Entry) (entry : Entry) (held : List ℕ) → ((j : ℕ) → delivers j entry ≡ false) → ((j : ℕ) → kept entries j ≡ true → among held j ≡ true)
     → (j : ℕ) → kept (entries ++ entry ∷ []) j ≡ true → among held j ≡ true
-kept_all_on entries entry held none all j h = elim (any_back (delivers j) entries entry h) [ inl old ↦ all j old | inr new ↦ absurd (both_ways _ (none j) new) ]
+kept_all_on entries entry held none all j h = elim (kept_back entries entry j h) [ inl old ↦ all j old | inr new ↦ absurd (both_ways _ (none j) new) ]
 
 -- an entry that starts nothing leaves the loads in flight all that there are
 pub flights_all_on :
@@ -61,12 +132,18 @@ among_left held n j h = among_push held n j ∙ or_left _ _ h
 pub among_last : (held : List ℕ) (n j : ℕ) → n ≡ j → among (held ++ n ∷ []) j ≡ true
 among_last held n j h = among_push held n j ∙ or_right _ _ (or_left _ _ (eq-eqb n j h))
 
+pub among_back : (held : List ℕ) (n j : ℕ) → among (held ++ n ∷ []) j ≡ true → (among held j ≡ true) ⊎ (n ≡ j)
+among_back held n j h = elim (or_cases (among held j) ((n == j) || false) (sym (among_push held n j) ∙ h)) [
+  | inl old ↦ inl old
+  | inr new ↦ elim (or_cases (n == j) false new) [ inl same ↦ inr (eqb-true n j same) | inr none ↦ absurd (cc) ]
+]
+
 -- those in flight but for one
 module _ (j : ℕ) where
-  abbrev pub others : List Flight → List Flight
+  abbrev pub others : List FlightOf → List FlightOf
   others flights = filter (λ f. not (f.load == j)) flights
 
-  pub among_others : (flights : List Flight) (i : ℕ) → (i ≡ j → ⊥) → among (map (λ f. f.load) flights) i ≡ true → among (map (λ f. f.load) (others flights)) i ≡ true
+  pub among_others : (flights : List FlightOf) (i : ℕ) → (i ≡ j → ⊥) → among (map (λ f. f.load) flights) i ≡ true → among (map (λ f. f.load) (others flights)) i ≡ true
   among_others [] i apart h = h
   among_others (f ∷ flights) i apart h = by (f.load == j) refl (among_others flights i apart)
     where
@@ -77,7 +154,7 @@ module _ (j : ℕ) where
         | inr rest ↦ or_right (f.load == i) (among (map (λ g. g.load) (others flights)) i) (more rest)
       ])
 
-  pub length-others-le : (flights : List Flight) → length (others flights) ≤ length flights
+  pub length-others-le : (flights : List FlightOf) → length (others flights) ≤ length flights
   length-others-le [] = omega arith
   length-others-le (f ∷ flights) = by (f.load == j) refl (length-others-le flights)
     where
@@ -86,7 +163,7 @@ module _ (j : ℕ) where
       by false e rest = rw e (omega (arith, rest))
 
   -- one at least is gone
-  pub length-others : (flights : List Flight) → among (map (λ f. f.load) flights) j ≡ true → length (others flights) < length flights
+  pub length-others : (flights : List FlightOf) → among (map (λ f. f.load) flights) j ≡ true → length (others flights) < length flights
   length-others [] h = absurd (cc)
   length-others (f ∷ flights) h = by (f.load == j) refl (length-others flights)
     where
@@ -96,7 +173,14 @@ module _ (j : ℕ) where
           let rest = more (elim (or_cases _ _ h) [ inl same ↦ absurd (both_ways _ e same) | inr rest ↦ rest ]) in
           rw e (omega (arith, rest))
 
-  others_apart : (flights : List Flight) → All (λ f. (f.load == j) ≡ false) (others flights)
+  -- a place less is wanted
+  pub places_but : (shelf : ShelfOf) (flights : List FlightOf) → has_places shelf (headers_of flights) → has_places shelf (headers_of (others flights))
+  places_but shelf flights fit = omega (arith, length-others-le flights, length-map flights (λ (f : FlightOf). f.header), length-map (others flights) (λ (f : FlightOf). f.header), fit)
+
+  pub place_of_one : (shelf : ShelfOf) (header : Header) (flights : List FlightOf) → among (map (λ f. f.load) flights) j ≡ true → has_places shelf (headers_of flights) → has_places shelf (header ∷ headers_of (others flights))
+  place_of_one shelf header flights there fit = omega (arith, length-others flights there, length-map flights (λ (f : FlightOf). f.header), length-map (others flights) (λ (f : FlightOf). f.header), fit)
+
+  others_apart : (flights : List FlightOf) → All (λ f. (f.load == j) ≡ false) (others flights)
   others_apart [] = All-nil (λ g. (g.load == j) ≡ false)
   others_apart (f ∷ flights) = by (f.load == j) refl (others_apart flights)
     where
@@ -106,48 +190,57 @@ module _ (j : ℕ) where
 
   -- an entry that ends just this load leaves the others in flight
   pub flights_but :
-      (entries : List Entry) (entry : Entry) (flights : List Flight) → ((i : ℕ) → ends i entry ≡ (j == i)) → All (IsFlight entries) flights → All (IsFlight (entries ++ entry ∷ [])) (others flights)
-  flights_but entries entry flights just all i d l =
+      (entries : List Entry) (entry : Entry) (flights : List FlightOf) → ((i : ℕ) → ends i entry ≡ (j == i)) → flushed entry ≡ None → All (IsFlight entries) flights → All (IsFlight (entries ++ entry ∷ [])) (others flights)
+  flights_but entries entry flights just none all i d l =
       let kept = All-filter (λ f. not (f.load == j)) (IsFlight entries) flights all i d l in
       let apart = others_apart flights i d l in
-      flight_on entries entry _ (just _ ∙ eqb_other _ apart) kept
+      flight_on entries entry _ (just _ ∙ eqb_other _ apart) none kept
     where
       eqb_other : (n : ℕ) → (n == j) ≡ false → (j == n) ≡ false
       eqb_other n h = false_from_ne_true (j == n) (λ e. both_ways (n == j) h (eq-eqb n j (sym (eqb-true j n e))))
 
   pub flights_all_but :
-      (entries : List Entry) (entry : Entry) (flights : List Flight) → ((i : ℕ) → ends i entry ≡ (j == i)) → started entry ≡ None → ((i : ℕ) → flying entries i ≡ true → among (map (λ f. f.load) flights) i ≡ true)
+      (entries : List Entry) (entry : Entry) (flights : List FlightOf) → ((i : ℕ) → ends i entry ≡ (j == i)) → started entry ≡ None → ((i : ℕ) → flying entries i ≡ true → among (map (λ f. f.load) flights) i ≡ true)
       → (i : ℕ) → flying (entries ++ entry ∷ []) i ≡ true → among (map (λ f. f.load) (others flights)) i ≡ true
   flights_all_but entries entry flights just none all i h =
       let back = flying_back entries entry i h in
       let apart : i ≡ j → ⊥ = λ same. both_ways _ back.0 (just i ∙ eq-eqb j i (sym same)) in
       elim back.1 [ inl old ↦ among_others flights i apart (all i old) | inr new ↦ let is = rw none at new.1 in absurd (cc) ]
 
--- a load in flight is found with its version
-pub version_found :
-    (entries : List Entry) (j : ℕ) (flights : List Flight) → All (IsFlight entries) flights → among (map (λ f. f.load) flights) j ≡ true
-    → (v : ℕ) × (option_map (λ (f : Flight). f.version) (find (λ f. f.load == j) flights) ≡ Some v) × (load_version entries j ≡ Some v)
-version_found entries j [] all h = absurd (cc)
-version_found entries j (f ∷ flights) all h = by (f.load == j) refl (version_found entries j flights (All-tail (IsFlight entries) f flights all))
+-- a load in flight is found by its number
+pub flight_found :
+    (entries : List Entry) (j : ℕ) (flights : List FlightOf) → All (IsFlight entries) flights → among (map (λ f. f.load) flights) j ≡ true
+    → (f : FlightOf) × (find (λ (g : FlightOf). g.load == j) flights ≡ Some f) × IsFlight entries f × (f.load ≡ j)
+flight_found entries j [] all h = absurd (cc)
+flight_found entries j (f ∷ flights) all h = by (f.load == j) refl (flight_found entries j flights (All-tail (IsFlight entries) f flights all))
   where
     by : (b : Bool) → (f.load == j) ≡ b
-        → (among (map (λ g. g.load) flights) j ≡ true → (v : ℕ) × (option_map (λ (g : Flight). g.version) (find (λ g. g.load == j) flights) ≡ Some v) × (load_version entries j ≡ Some v))
-        → (v : ℕ) × (option_map (λ (g : Flight). g.version) (find (λ g. g.load == j) (f ∷ flights)) ≡ Some v) × (load_version entries j ≡ Some v)
-    by true e more =
-        let here : IsFlight entries f = All-head (IsFlight entries) f flights all in
-        (f.version, rw e refl, ap (load_version entries) (sym (eqb-true f.load j e)) ∙ here.version)
+        → (among (map (λ g. g.load) flights) j ≡ true → (o : FlightOf) × (find (λ (g : FlightOf). g.load == j) flights ≡ Some o) × IsFlight entries o × (o.load ≡ j))
+        → (o : FlightOf) × (find (λ (g : FlightOf). g.load == j) (f ∷ flights) ≡ Some o) × IsFlight entries o × (o.load ≡ j)
+    by true e more = (f, rw e refl, All-head (IsFlight entries) f flights all, eqb-true f.load j e)
     by false e more =
         pass e (more (elim (or_cases (f.load == j) (among (map (λ g. g.load) flights) j) h) [ inl same ↦ absurd (both_ways _ e same) | inr rest ↦ rest ]))
       where
-        pass : (f.load == j) ≡ false → (v : ℕ) × (option_map (λ (g : Flight). g.version) (find (λ g. g.load == j) flights) ≡ Some v) × (load_version entries j ≡ Some v)
-            → (v : ℕ) × (option_map (λ (g : Flight). g.version) (find (λ g. g.load == j) (f ∷ flights)) ≡ Some v) × (load_version entries j ≡ Some v)
-        pass other rest = (rest.0, rw other rest.1, rest.2)
+        pass : (f.load == j) ≡ false → (o : FlightOf) × (find (λ (g : FlightOf). g.load == j) flights ≡ Some o) × IsFlight entries o × (o.load ≡ j)
+            → (o : FlightOf) × (find (λ (g : FlightOf). g.load == j) (f ∷ flights) ≡ Some o) × IsFlight entries o × (o.load ≡ j)
+        pass other rest = (rest.0, rw other rest.1, rest.2, rest.3)
+
+-- the version of a load that flies
+pub flight_version : (entries : List Entry) (j : ℕ) (f : FlightOf) → IsFlight entries f → f.load ≡ j → load_version entries j ≡ Some f.version
+flight_version entries j f is same = ap (load_version entries) (sym same) ∙ ap (option_map (λ (load : Load). load.version)) is.started ∙ ap Some (sym is.version)
+
+-- the numbers in flight are those of entries
+pub flights_below : (entries : List Entry) (flights : List FlightOf) (j : ℕ) → All (IsFlight entries) flights → among (map (λ f. f.load) flights) j ≡ true → j ≤ length entries
+flights_below entries flights j all h =
+    let found = flight_found entries j flights all h in
+    let within = load_within entries found.0.load found.2.load found.2.started in
+    omega (arith, within.1, found.3)
 
 -- where nothing is in flight, no load flies, and the other way round
-pub idle_from : (entries : List Entry) (flights : List Flight) → ((j : ℕ) → flying entries j ≡ true → among (map (λ f. f.load) flights) j ≡ true) → length flights ≡ 0 → (j : ℕ) → flying entries j ≡ false
+pub idle_from : (entries : List Entry) (flights : List FlightOf) → ((j : ℕ) → flying entries j ≡ true → among (map (λ f. f.load) flights) j ≡ true) → length flights ≡ 0 → (j : ℕ) → flying entries j ≡ false
 idle_from entries [] all none j = false_from_ne_true _ (λ h. both_ways false refl (all j h))
 idle_from entries (f ∷ flights) all none j = absurd (omega (arith, none))
 
-pub idle_to : (entries : List Entry) (flights : List Flight) → All (IsFlight entries) flights → ((j : ℕ) → flying entries j ≡ false) → length flights ≡ 0
+pub idle_to : (entries : List Entry) (flights : List FlightOf) → All (IsFlight entries) flights → ((j : ℕ) → flying entries j ≡ false) → length flights ≡ 0
 idle_to entries [] all none = refl
 idle_to entries (f ∷ flights) all none = let here : IsFlight entries f = All-head (IsFlight entries) f flights all in absurd (both_ways _ (none f.load) here.flies)

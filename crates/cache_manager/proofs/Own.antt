@@ -4,13 +4,13 @@ use Rattle.std.specs.List.{list_any}
 use Rattle.std.proofs.lemmas.Bool.{both_ways, eqb-true, eq-eqb, false_from_ne_true, or_left, or_right}
 use Rattle.olap_meaning.specs.declared.cells.Who.{Who}
 use Rattle.olap_meaning.specs.declared.tables.Setting.{Setting}
-use Rattle.olap_meaning.specs.History.{Entry, Append, Flush, Start, Done, Drop, Answer, Saw, Load, entry_at, load_at, starter, ends, flying}
+use Rattle.olap_meaning.specs.History.{Entry, Append, Agg, Flush, Start, Done, Drop, Evict, Answer, Saw, Load, entry_at, is_some_and, load_at, starter, ends, flying}
 use Rattle.olap_meaning.specs.Legal.{Legal, LegalStep, IsLegalEnd}
 use Rattle.olap_meaning.proofs.Positions.{after_passes, entry_from-take}
 use Rattle.olap_meaning.proofs.Loads.{load_start, start_load}
 use Rattle.history_core.specs.Cache.{CacheOf}
 use Rattle.cache_manager.specs.Jobs.{IsOwn}
-use Rattle.history_core.specs.Seats.{actor}
+use Rattle.history_core.specs.Seats.{actor, is_of_seat}
 use Rattle.cache_manager.proofs.Pushes.{flying_from}
 
 any_filtered : {A : Type 0} (keep test : A → Bool) (xs : List A) (i : ℕ) (x : A) → slice_get xs i ≡ Some x → keep x ≡ true → test x ≡ true → list_any test (filter keep xs) ≡ true
@@ -26,12 +26,14 @@ any_filtered keep test (y ∷ ys) (suc i) x at k t = by (keep y) refl (any_filte
     by false e rest = rw e rest
 
 -- who ends a load in a legal history is who started it
-end_own : (setting : Setting) (history : List Entry) (e : Entry) (j : ℕ) → LegalStep setting history e → ends j e ≡ true → starter history j ≡ Some (actor e)
+end_own : (setting : Setting) (history : List Entry) (e : Entry) (j : ℕ) → LegalStep setting history e → ends j e ≡ true → (w : Who) × (actor e ≡ Some w) × (starter history j ≡ Some w)
 end_own setting history (Append w c v r) j step h = absurd (cc)
+end_own setting history (Agg w t v) j step h = absurd (cc)
 end_own setting history (Flush w r) j step h = absurd (cc)
 end_own setting history (Start l) j step h = absurd (cc)
-end_own setting history (Done w k) j step h = ap (starter history) (sym (eqb-true k j h)) ∙ step.own
-end_own setting history (Drop w k) j step h = ap (starter history) (sym (eqb-true k j h)) ∙ step.own
+end_own setting history (Done w k) j step h = (w, refl, ap (starter history) (sym (eqb-true k j h)) ∙ step.own)
+end_own setting history (Drop w k) j step h = (w, refl, ap (starter history) (sym (eqb-true k j h)) ∙ step.own)
+end_own setting history (Evict k) j step h = absurd (cc)
 end_own setting history (Answer w cs) j step h = absurd (cc)
 end_own setting history (Saw w) j step h = absurd (cc)
 
@@ -45,12 +47,14 @@ own_flies cache who j load legal own = flying_from cache.entries j load own.star
     by : (q : ℕ) (e : Entry) → entry_at cache.entries q ≡ Some e → ends j e ≡ true → ⊥
     by zero e at f = absurd (cc)
     by (suc b) e at f =
-        let started = some_starter (load_at (take b cache.entries) j) (actor e) (end_own cache.setting (take b cache.entries) e j (legal b e at) f) in
+        let ended = end_own cache.setting (take b cache.entries) e j (legal b e at) f in
+        let started = some_starter (load_at (take b cache.entries) j) ended.0 ended.2 in
         let stood = entry_from-take b cache.entries j (Start started.0) (load_start (take b cache.entries) j started.0 started.1) in
         let loads : Some started.0 ≡ Some load = sym (start_load cache.entries j started.0 stood.0) ∙ own.started in
         let same : started.0 ≡ load = cc in
-        let seats : (actor e).seat ≡ who.seat = ap (λ (w : Who). w.seat) (sym started.2 ∙ ap (λ (l : Load). l.who) same ∙ own.own) in
-        both_ways _ own.unended (any_filtered (λ entry. (actor entry).seat == who.seat) (ends j) cache.entries b e at (eq-eqb _ _ seats) f)
+        let seats : ended.0.seat ≡ who.seat = ap (λ (w : Who). w.seat) (sym started.2 ∙ ap (λ (l : Load). l.who) same ∙ own.own) in
+        let mine : is_of_seat who.seat e ≡ true = ap (is_some_and (λ (w : Who). w.seat == who.seat)) ended.1 ∙ eq-eqb ended.0.seat who.seat seats in
+        both_ways _ own.unended (any_filtered (is_of_seat who.seat) (ends j) cache.entries b e at mine f)
 
     none : list_any (ends j) cache.entries ≡ true → ⊥
     none h =

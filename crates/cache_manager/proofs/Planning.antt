@@ -1,33 +1,42 @@
 -- What is prepared for some loads, and the manager and the jobs after they are started.
-use Rattle.std.proofs.Common.{◌≡◌, refl, sym, ◌∙◌, ap, subst, ℕ, suc, ◌+◌, ◌≤◌, List, [], ◌∷◌, ◌++◌, append_assoc, length, map, filter, Bool, true, false, ◌==◌, inl, inr, arith, All}
+use Rattle.std.proofs.Common.{◌≡◌, refl, sym, ◌∙◌, ap, subst, ℕ, suc, ◌+◌, ◌<◌, ◌≤◌, List, [], ◌∷◌, ◌++◌, append_assoc, length, map, filter, Bool, true, false, ◌==◌, inl, inr, arith, All}
 use Rattle.std.specs.List.{list_any}
 use Rattle.std.proofs.lemmas.Bool.{both_ways, false_from_ne_true, or_cases, or_left, or_right}
 use Rattle.std.proofs.lemmas.List.{append-nil, length_push}
 use Rattle.std.proofs.lemmas.List.Elements.{All-push, All-weaker, filter-append}
 use Rattle.olap_meaning.specs.declared.cells.Cell.{Cell}
+use Rattle.olap_meaning.specs.declared.cells.Header.{Header}
 use Rattle.olap_meaning.specs.declared.cells.Who.{Who}
+use Rattle.olap_meaning.specs.Covering.{among}
 use Rattle.olap_meaning.specs.History.{Entry, Start, Load, ends, load_at, rows_of, version}
 use Rattle.olap_meaning.specs.Legal.{Legal}
 use Rattle.olap_meaning.proofs.Growing.{legal_grows, version_grows}
 use Rattle.fact_versions.specs.Facts.{FactsOf}
 use Rattle.history_core.specs.Entries.{entry_of}
 use Rattle.segment_load.specs.Loads.{JobOf, rows_in}
-use Rattle.cache_manager.specs.declared.kept.Flight.{Flight}
-use Rattle.cache_manager.specs.declared.kept.Kept.{Kept}
+use Rattle.cache_flush.specs.Loads.{KeptOf}
+use Rattle.cache_flush.specs.Flights.{FlightOf}
+use Rattle.cache_manager.specs.declared.starts.Flying.{Flying}
 use Rattle.cache_manager.specs.declared.starts.Planned.{Planned}
 use Rattle.history_core.specs.Cache.{CacheOf}
-use Rattle.history_core.specs.Groups.{load_for}
+use Rattle.history_core.specs.Groups.{alike, header_for, load_for}
 use Rattle.cache_manager.specs.Jobs.{IsJobOf, IsOwn}
-use Rattle.history_core.specs.Seats.{actor, entries_of}
+use Rattle.history_core.specs.Seats.{entries_of, is_of_seat}
 use Rattle.history_core.specs.Groups.{numbers_from}
 use Rattle.cache_manager.specs.Kept.{IsManager}
-use Rattle.cache_manager.specs.Plans.{AreLegalSteps, ArePlanned, IsPlanned}
+use Rattle.cache_manager.specs.Plans.{AreLegalSteps, AreNew, ArePlanned, IsPlanned, flight_for}
+use Rattle.cache_manager.proofs.JobFacts.{cost_is}
+use Rattle.cache_manager.proofs.Managing.{among_back}
 use Rattle.cache_manager.proofs.Moves.{starts}
 use Rattle.cache_manager.proofs.Pushes.{any_none, load_last, load_on, recorded, rows_on, unended}
 
 -- the step that was prepared
 abbrev pub step_of : Planned → Entry
 step_of planned = entry_of planned.start
+
+-- places are not asked for
+abbrev pub anywhere : List Header → Type 0
+anywhere headers = Unit {0}
 
 any_of_filter : {A : Type 0} (keep test : A → Bool) (xs : List A) → list_any test (filter keep xs) ≡ true → list_any test xs ≡ true
 any_of_filter keep test [] h = h
@@ -57,22 +66,36 @@ module _ (cache : CacheOf) (who : Who) (wanted : List Cell) where
   planned_numbers n (c ∷ cs) [] are = absurd are
   planned_numbers n (c ∷ cs) (p ∷ ps) are = ap (λ (m : ℕ). m ∷ map (λ job. job.load) (map (λ p. p.job) ps)) are.0.load ∙ ap (λ (ns : List ℕ). n ∷ ns) (planned_numbers (suc n) cs ps are.1)
 
+  -- each of their numbers is new behind those below
+  pub planned_new :
+      (n : ℕ) (cells : List Cell) (plans : List Planned) (before : List ℕ) → ArePlanned cache who wanted n cells plans → ((i : ℕ) → among before i ≡ true → i < n) → AreNew before (map (λ p. p.flight.load) plans)
+  planned_new n [] [] before are below = tt
+  planned_new n [] (p ∷ ps) before are below = absurd are
+  planned_new n (c ∷ cs) [] before are below = absurd are
+  planned_new n (c ∷ cs) (p ∷ ps) before are below =
+      let number : p.flight.load ≡ n = ap (λ (f : Flying). f.load) are.0.flight in (
+        false_from_ne_true _ (λ h. let l : p.flight.load < n = below p.flight.load h in omega (arith, l, number)),
+        planned_new (suc n) cs ps (before ++ p.flight.load ∷ []) are.1
+            (λ i h. elim (among_back before p.flight.load i h) [ inl old ↦ let l : i < n = below i old in omega (arith, l) | inr new ↦ omega (arith, new, number) ]),
+      )
+
   -- the manager after the loads are started
   pub all_started :
-      (facts : FactsOf) (held : List Kept) (places left : ℕ) (plans : List Planned) (entries : List Entry) (flights : List Flight) (n : ℕ) (cells : List Cell) → Legal cache.setting entries → AreLegalSteps cache.setting entries (map step_of plans)
-      → ArePlanned cache who wanted n cells plans → n ≡ suc (length entries) → IsManager cache.setting entries left facts held places flights → length flights + length plans ≤ left → length flights + length plans ≤ places
-      → IsManager cache.setting (entries ++ map step_of plans) left facts held places (flights ++ map (λ p. p.flight) plans)
-  all_started facts held places left [] entries flights n cells legal steps are number is room place = rw (append-nil entries, append-nil flights) is
-  all_started facts held places left (p ∷ ps) entries flights n [] legal steps are number is room place = absurd are
-  all_started facts held places left (p ∷ ps) entries flights n (c ∷ cs) legal steps are number is room place =
-      let first : IsManager cache.setting (entries ++ step_of p ∷ []) left facts held places (flights ++ p.flight ∷ []) =
-      subst (λ (e : Entry). IsManager cache.setting (entries ++ e ∷ []) left facts held places (flights ++ p.flight ∷ [])) (sym are.0.start)
-      (starts cache.setting entries facts held places flights legal left left (load_of c) p.flight is (omega (arith, room)) (omega (arith, place))
-      (ap (λ (f : Flight). f.load) are.0.flight ∙ number) (ap (λ (f : Flight). f.version) are.0.flight)) in
-      rw (← append_assoc entries (step_of p ∷ []) (map step_of ps), ← append_assoc flights (p.flight ∷ []) (map (λ q. q.flight) ps))
-      (all_started facts held places left ps (entries ++ step_of p ∷ []) (flights ++ p.flight ∷ []) (suc n) cs (legal_grows cache.setting entries (step_of p) legal steps.0) steps.1 are.1
+      (facts : FactsOf) (held : List KeptOf) (left : ℕ) (plans : List Planned) (entries : List Entry) (flights : List FlightOf) (n : ℕ) (cells : List Cell) → Legal cache.setting entries → AreLegalSteps cache.setting entries (map step_of plans)
+      → ArePlanned cache who wanted n cells plans → n ≡ suc (length entries) → IsManager cache.setting entries left facts held anywhere flights → length flights + length plans ≤ left
+      → IsManager cache.setting (entries ++ map step_of plans) left facts held anywhere (flights ++ map (λ p. flight_for p.flight) plans)
+  all_started facts held left [] entries flights n cells legal steps are number is room = rw (append-nil entries, append-nil flights) is
+  all_started facts held left (p ∷ ps) entries flights n [] legal steps are number is room = absurd are
+  all_started facts held left (p ∷ ps) entries flights n (c ∷ cs) legal steps are number is room =
+      let made : flight_for p.flight ≡ record { load = suc (length entries); who = who; header = header_for cache.setting.catalog c (filter (alike c) wanted); version = version cache.entries c.cube; shut = [] } =
+      ap flight_for are.0.flight ∙ ap (λ (m : ℕ). flight_for (record { load = m; who = who; header = header_for cache.setting.catalog c (filter (alike c) wanted); version = version cache.entries c.cube })) number in
+      let first : IsManager cache.setting (entries ++ step_of p ∷ []) left facts held anywhere (flights ++ flight_for p.flight ∷ []) =
+      subst (λ (e : Entry). IsManager cache.setting (entries ++ e ∷ []) left facts held anywhere (flights ++ flight_for p.flight ∷ [])) (sym are.0.start)
+      (starts cache.setting entries facts held anywhere flights legal left left (load_of c) (flight_for p.flight) is (omega (arith, room)) tt made) in
+      rw (← append_assoc entries (step_of p ∷ []) (map step_of ps), ← append_assoc flights (flight_for p.flight ∷ []) (map (λ q. flight_for q.flight) ps))
+      (all_started facts held left ps (entries ++ step_of p ∷ []) (flights ++ flight_for p.flight ∷ []) (suc n) cs (legal_grows cache.setting entries (step_of p) legal steps.0) steps.1 are.1
       (let long = length_push entries (step_of p) in omega (arith, long, number)) first
-      (let more = length_push flights p.flight in omega (arith, more, room)) (let more = length_push flights p.flight in omega (arith, more, place)))
+      (let more = length_push flights (flight_for p.flight) in omega (arith, more, room)))
 
   -- the cache at some entries
   abbrev at : List Entry → CacheOf
@@ -86,7 +109,7 @@ module _ (cache : CacheOf) (who : Who) (wanted : List Cell) where
   }
     where
       unended_on : list_any (ends j) (entries_of (entries ++ Start load ∷ []) w.seat) ≡ false
-      unended_on = rw (filter-append (λ entry. (actor entry).seat == w.seat) entries (Start load ∷ [])) (by ((load.who).seat == w.seat) refl)
+      unended_on = rw (filter-append (is_of_seat w.seat) entries (Start load ∷ [])) (by ((load.who).seat == w.seat) refl)
         where
           by : (b : Bool) → (load.who.seat == w.seat) ≡ b → list_any (ends j) (entries_of entries w.seat ++ entries_of (Start load ∷ []) w.seat) ≡ false
           by true e = rw e (any_none (ends j) (entries_of entries w.seat) (Start load) is.unended refl)
@@ -103,7 +126,9 @@ module _ (cache : CacheOf) (who : Who) (wanted : List Cell) where
         flies = own_on entries load job.who job.load is.load is.flies;
         header = is.header;
         rows = is.rows ∙ sym rows;
-        costs = is.costs ∙ sym (ap length rows);
+        costs =
+            is.costs ∙ cost_is cache.setting.catalog entries job.load is.load is.flies.started ∙ sym (ap length rows)
+            ∙ sym (cost_is cache.setting.catalog (entries ++ Start load ∷ []) job.load is.load (load_on entries (Start load) job.load is.load is.flies.started));
       }
 
   -- a job that was prepared is one of the cache's, once its load is started
@@ -124,7 +149,9 @@ module _ (cache : CacheOf) (who : Who) (wanted : List Cell) where
         };
         header = is.header;
         rows = rows;
-        costs = ap length rows;
+        costs =
+            ap length rows
+            ∙ sym (cost_is cache.setting.catalog (entries ++ Start (load_of c) ∷ []) p.job.load (load_of c) (ap (load_at (entries ++ Start (load_of c) ∷ [])) place ∙ load_last entries (Start (load_of c))));
       }
 
   -- the jobs after their loads are started

@@ -1,18 +1,22 @@
 -- One more entry in a history.
-use Rattle.std.proofs.Common.{◌≡◌, refl, sym, ◌∙◌, ap, ℕ, zero, suc, ◌+◌, ◌<◌, ◌≤◌, List, [], ◌∷◌, ◌++◌, length, take, take_all, Bool, true, false, cond, not, ◌||◌, ◌⊎◌, inl, inr, Option, Some, None, arith, is_some, option_and_then, filter_map, flat_map}
+use Rattle.std.proofs.Common.{◌≡◌, refl, sym, ◌∙◌, ap, ℕ, zero, suc, ◌+◌, ◌<◌, ◌≤◌, List, [], ◌∷◌, ◌++◌, length, take, take_all, Bool, true, false, cond, not, ◌||◌, ◌⊎◌, inl, inr, Option, Some, None, arith, is_some, option_and_then, option_to_list, filter_map, flat_map}
 use Rattle.std.specs.List.{list_any}
-use Rattle.std.proofs.lemmas.Bool.{both_ways, and_parts, and_from, or_cases, or_left, or_right, or_from, not-true, not_from_false, false_from_ne_true}
-use Rattle.std.proofs.lemmas.List.{take-append-le}
+use Rattle.std.proofs.lemmas.Bool.{both_ways, and_parts, and_from, eq-eqb, or_cases, or_left, or_right, or_from, not-true, not_from_false, false_from_ne_true}
+use Rattle.std.proofs.lemmas.List.{append-nil, take-append-le}
 use Rattle.std.proofs.lemmas.List.Elements.{filter_map-append}
 use Rattle.std.proofs.lemmas.List.Folds.{list_any-append}
 use Rattle.std.proofs.lemmas.List.Recursion.{is_count_by}
+use Rattle.olap_meaning.specs.declared.cells.Who.{Who}
 use Rattle.olap_meaning.specs.declared.tables.Setting.{Setting}
 use Rattle.olap_meaning.specs.declared.tables.Row.{Row}
-use Rattle.olap_meaning.specs.History.{Entry, Start, Load, entry_at, started, load_at, ends, flying, appended, version, rows_of}
+use Rattle.olap_meaning.specs.declared.regions.Region.{Region}
+use Rattle.olap_meaning.specs.Covering.{concerning}
+use Rattle.olap_meaning.specs.History.{Entry, Append, Agg, Flush, Start, Done, Drop, Evict, Answer, Saw, Load, entry_at, started, load_at, delivered, delivers, ends, evicts, flushed, flying, appended, kept, shutting, version, rows_of}
 use Rattle.olap_meaning.specs.Legal.{Legal}
 use Rattle.olap_meaning.proofs.Positions.{get_last, get_push, entry-append, entry_from-take, entry_within, after_passes}
 use Rattle.olap_meaning.proofs.Loads.{load_start, start_load}
-use Rattle.olap_meaning.proofs.Steps.{ended_flew}
+use Rattle.olap_meaning.proofs.Shutting.{shutting_grows}
+use Rattle.olap_meaning.proofs.Steps.{ended_flew, none_evicted}
 use Rattle.olap_meaning.proofs.Versions.{versions_rise}
 
 -- a load that was started
@@ -84,6 +88,53 @@ flying_back history entry j h =
         | inr new ↦ inr (new.0, ap is_some new.1)
       ],
     )
+
+-- what is kept stays kept, where it is not evicted
+pub kept_stays : (history : List Entry) (entry : Entry) (j : ℕ) → evicts j entry ≡ false → kept history j ≡ true → kept (history ++ entry ∷ []) j ≡ true
+kept_stays history entry j none h =
+    let parts = and_parts (delivered history j) (not (list_any (evicts j) history)) h in
+    and_from (delivered (history ++ entry ∷ []) j) (not (list_any (evicts j) (history ++ entry ∷ []))) (any_on (delivers j) history entry parts.0)
+    (not_from_false _ (any_none (evicts j) history entry (not-true _ parts.1) none))
+
+-- what is kept then was kept before, or was just delivered
+pub kept_back : (history : List Entry) (entry : Entry) (j : ℕ) → kept (history ++ entry ∷ []) j ≡ true → (kept history j ≡ true) ⊎ (delivers j entry ≡ true)
+kept_back history entry j h =
+    let parts = and_parts (delivered (history ++ entry ∷ []) j) (not (list_any (evicts j) (history ++ entry ∷ []))) h in
+    let stays : list_any (evicts j) history ≡ false = false_from_ne_true _ (λ e. both_ways _ (not-true _ parts.1) (any_on (evicts j) history entry e)) in
+    elim (any_back (delivers j) history entry parts.0) [
+      | inl old ↦ inl (and_from (delivered history j) (not (list_any (evicts j) history)) old (not_from_false _ stays))
+      | inr new ↦ inr new
+    ]
+
+-- what is delivered is kept
+pub kept_new : (setting : Setting) (history : List Entry) (who : Who) (j : ℕ) → Legal setting history → kept (history ++ Done who j ∷ []) j ≡ true
+kept_new setting history who j legal =
+    and_from (delivered (history ++ Done who j ∷ []) j) (not (list_any (evicts j) (history ++ Done who j ∷ []))) (any_last (delivers j) history (Done who j) (eq-eqb j j refl))
+    (not_from_false _ (any_none (evicts j) history (Done who j) (none_evicted setting history legal j) refl))
+
+-- what was delivered does not fly
+pub kept_landed : (history : List Entry) (j : ℕ) → kept history j ≡ true → flying history j ≡ false
+kept_landed history j h = false_from_ne_true _ (λ flies. both_ways _ (flying_parts history j flies).2 (ended history ((and_parts (delivered history j) (not (list_any (evicts j) history)) h).0)))
+  where
+    one : (e : Entry) → delivers j e ≡ true → ends j e ≡ true
+    one (Append w c v r) d = absurd (cc)
+    one (Agg w t v) d = absurd (cc)
+    one (Flush w r) d = absurd (cc)
+    one (Start l) d = absurd (cc)
+    one (Done w k) d = d
+    one (Drop w k) d = absurd (cc)
+    one (Evict k) d = absurd (cc)
+    one (Answer w cs) d = absurd (cc)
+    one (Saw w) d = absurd (cc)
+
+    ended : (es : List Entry) → list_any (delivers j) es ≡ true → list_any (ends j) es ≡ true
+    ended [] d = absurd (cc)
+    ended (e ∷ es) d = elim (or_cases (delivers j e) (list_any (delivers j) es) d) [ inl here ↦ or_left _ _ (one e here) | inr there ↦ or_right (ends j e) _ (ended es there) ]
+
+-- what shuts off part of a load, where nothing is flushed
+pub shutting_on : (history : List Entry) (entry : Entry) (j : ℕ) (load : Load) → load_at history j ≡ Some load → flushed entry ≡ None → shutting (history ++ entry ∷ []) j ≡ shutting history j
+shutting_on history entry j load at none =
+    shutting_grows history entry j load at ∙ ap (λ (o : Option Region). shutting history j ++ concerning load.header (option_to_list o)) none ∙ append-nil (shutting history j)
 
 -- in a legal history only loads that were started are ended
 pub unended : (setting : Setting) (history : List Entry) → Legal setting history → list_any (ends (suc (length history))) history ≡ false

@@ -10,7 +10,7 @@ use Rattle.std.proofs.lemmas.Option.{slice_get-map}
 use Rattle.olap_meaning.specs.declared.cells.Cell.{Cell}
 use Rattle.olap_meaning.specs.declared.cells.Who.{Who}
 use Rattle.olap_meaning.specs.Covering.{header_covers, just_covers, names_column}
-use Rattle.olap_meaning.specs.History.{Entry, Start, Load, entry_at, exact_source, flushed_after, flushes, is_some_and, kept, live, load_at, load_covers, load_just_covers}
+use Rattle.olap_meaning.specs.History.{Entry, Start, Load, entry_at, evicts, exact_source, flushed_after, flushes, is_some_and, kept, live, load_at, load_covers, load_just_covers}
 use Rattle.olap_meaning.proofs.Loads.{live_on, load_start, some_and, start_load}
 use Rattle.olap_meaning.proofs.Positions.{after_passes, entry-append, entry_within, latest_bounds, latest_found}
 use Rattle.history_core.specs.Answers.{HasSource}
@@ -33,13 +33,15 @@ serves_source entries j cell load at lives covers =
 load_stays : (entries later : List Entry) (j : ℕ) (load : Load) → load_at entries j ≡ Some load → load_at (entries ++ later) j ≡ Some load
 load_stays entries later j load at = start_load (entries ++ later) j load (entry-append entries later j (Start load) (load_start entries j load at))
 
--- and stay live where nothing flushes the cell
-live_stays : (entries later : List Entry) (j : ℕ) (cell : Cell) → list_any (flushes cell) later ≡ false → live entries j cell ≡ true → live (entries ++ later) j cell ≡ true
-live_stays entries [] j cell none lives = rw (append-nil entries) lives
-live_stays entries (e ∷ es) j cell none lives =
+-- and stay live where nothing flushes the cell or evicts them
+live_stays : (entries later : List Entry) (j : ℕ) (cell : Cell) → list_any (flushes cell) later ≡ false → list_any (evicts j) later ≡ false → live entries j cell ≡ true → live (entries ++ later) j cell ≡ true
+live_stays entries [] j cell none stays lives = rw (append-nil entries) lives
+live_stays entries (e ∷ es) j cell none stays lives =
+    let still : evicts j e ≡ false = false_from_ne_true _ (λ h. both_ways _ stays (or_left _ _ h)) in
+    let remain : list_any (evicts j) es ≡ false = false_from_ne_true _ (λ h. both_ways _ stays (or_right _ _ h)) in
     let here : flushes cell e ≡ false = false_from_ne_true _ (λ h. both_ways _ none (or_left _ _ h)) in
     let rest : list_any (flushes cell) es ≡ false = false_from_ne_true _ (λ h. both_ways _ none (or_right _ _ h)) in
-    rw (← append_assoc entries (e ∷ []) es) (live_stays (entries ++ e ∷ []) es j cell rest (live_on entries e cell j here lives))
+    rw (← append_assoc entries (e ∷ []) es) (live_stays (entries ++ e ∷ []) es j cell rest remain (live_on entries e cell j here still lives))
 
 -- an entry past the front of a history is one of the rest
 get_rest : {A : Type 0} (xs ys : List A) (i : ℕ) (x : A) → length xs ≤ i → slice_get (xs ++ ys) i ≡ Some x → (k : ℕ) × (slice_get ys k ≡ Some x)
@@ -68,6 +70,10 @@ unflushed_rest entries rest j cell l none = false_from_ne_true _ some
 starts_flush_none : (cell : Cell) (loads : List Load) (later : List Entry) → list_any (flushes cell) later ≡ false → list_any (flushes cell) (map Start loads ++ later) ≡ false
 starts_flush_none cell [] later none = none
 starts_flush_none cell (load ∷ loads) later none = starts_flush_none cell loads later none
+
+starts_evict_none : (j : ℕ) (loads : List Load) (later : List Entry) → list_any (evicts j) later ≡ false → list_any (evicts j) (map Start loads ++ later) ≡ false
+starts_evict_none j [] later none = none
+starts_evict_none j (load ∷ loads) later none = starts_evict_none j loads later none
 
 get_of_rest : {A : Type 0} (xs ys : List A) (k : ℕ) (y : A) → slice_get ys k ≡ Some y → slice_get (xs ++ ys) (length xs + k) ≡ Some y
 get_of_rest [] ys k y at = let e : 0 + k ≡ k = omega arith in ap (slice_get ys) e ∙ at
@@ -161,34 +167,34 @@ module _ (cache : CacheOf) (who : Who) (cells : List Cell) (later : List Entry) 
           (and_from (kept final (suc (length cache.entries + k)) && load_covers final (suc (length cache.entries + k)) cell) (not (flushed_after final (suc (length cache.entries + k)) cell)) (and_from _ _ delivered wide) (not_from_false _ open_still)) just
 
   -- a cell that had a source still has one
-  served_still : (cell : Cell) (j : ℕ) → exact_source cache.entries cell ≡ Some j → list_any (flushes cell) later ≡ false → is_some (exact_source final cell) ≡ true
-  served_still cell j source none =
+  served_still : (cell : Cell) (j : ℕ) → exact_source cache.entries cell ≡ Some j → list_any (flushes cell) later ≡ false → list_any (evicts j) later ≡ false → is_some (exact_source final cell) ≡ true
+  served_still cell j source none stays =
       let found = latest_found (length cache.entries) (λ k. live cache.entries k cell && load_just_covers cache.entries k cell) j source in
       let parts = and_parts (live cache.entries j cell) (load_just_covers cache.entries j cell) found.0 in
       let load : (load : Load) × (load_at cache.entries j ≡ Some load) × (just_covers load.header cell ≡ true) = some_and (λ (l : Load). just_covers l.header cell) (load_at cache.entries j) parts.1 in
       let at_final = load_stays cache.entries (map Start loads ++ later) j load.0 load.1 in
-      serves_source final j cell load.0 at_final (live_stays cache.entries (map Start loads ++ later) j cell (starts_flush_none cell loads later none) parts.0)
+      serves_source final j cell load.0 at_final (live_stays cache.entries (map Start loads ++ later) j cell (starts_flush_none cell loads later none) (starts_evict_none j loads later stays) parts.0)
       (ap (is_some_and (λ (l : Load). just_covers l.header cell)) at_final ∙ load.2)
 
   -- each cell, with its place among all
   all_sourced :
       (some : List Cell) → ((i : ℕ) (cell : Cell) → slice_get some i ≡ Some cell → is_some (exact_source cache.entries cell) ≡ false → (k : ℕ) × (slice_get wanted k ≡ Some cell))
-      → list_all (is_cell cache.setting.catalog) some ≡ true → All (λ cell. list_any (flushes cell) later ≡ false) some → All (λ j. IsTrue (kept final j)) (numbers_from (length cache.entries + 1) (length loads))
+      → list_all (is_cell cache.setting.catalog) some ≡ true → All (λ cell. list_any (flushes cell) later ≡ false) some → ((j : ℕ) → list_any (evicts j) later ≡ false) → All (λ j. IsTrue (kept final j)) (numbers_from (length cache.entries + 1) (length loads))
       → All (HasSource (record { setting = cache.setting; entries = final })) some
-  all_sourced [] places known none all = All-nil _
-  all_sourced (cell ∷ others) places known none all =
+  all_sourced [] places known none stays all = All-nil _
+  all_sourced (cell ∷ others) places known none stays all =
       All-cons (HasSource (record { setting = cache.setting; entries = final })) cell others
       (option_to_list (exact_source final cell), source_is cache.setting.catalog final cell (by (exact_source cache.entries cell) refl))
-      (all_sourced others (λ i c at unserved. places (suc i) c at unserved) (and_parts _ _ known).1 (All-tail (λ c. list_any (flushes c) later ≡ false) cell others none) all)
+      (all_sourced others (λ i c at unserved. places (suc i) c at unserved) (and_parts _ _ known).1 (All-tail (λ c. list_any (flushes c) later ≡ false) cell others none) stays all)
     where
       unflushed : list_any (flushes cell) later ≡ false
       unflushed = All-head (λ c. list_any (flushes c) later ≡ false) cell others none
 
       by : (o : Option ℕ) → exact_source cache.entries cell ≡ o → is_some (exact_source final cell) ≡ true
-      by (Some j) e = served_still cell j e unflushed
+      by (Some j) e = served_still cell j e unflushed (stays j)
       by None e = let place = places 0 cell refl (ap is_some e) in wanted_served place.0 cell (and_parts _ _ known).0 place.1 unflushed all
 
 pub delivered_looks_are_ready : DeliveredLooksAreReady
-delivered_looks_are_ready cache who cells later known none all =
+delivered_looks_are_ready cache who cells later known none stays all =
     all_sourced cache who cells later cells
-    (λ i cell at unserved. kept_place (λ c. not (is_some (exact_source cache.entries c))) cells i cell at (not_from_false _ unserved)) known none all
+    (λ i cell at unserved. kept_place (λ c. not (is_some (exact_source cache.entries c))) cells i cell at (not_from_false _ unserved)) known none stays all

@@ -2,7 +2,6 @@
 use Rattle.std.proofs.Common.{◌≡◌, refl, sym, ◌∙◌, ap, subst, ℕ, zero, suc, ◌+◌, ◌<◌, ◌≤◌, drop, take, List, [], ◌∷◌, ◌++◌, length, map, filter, Bool, true, false, not, ◌==◌, inl, inr, Option, Some, None, get_or, arith, All, nat_lt}
 use Rattle.std.specs.Prelude.{insert, option_map, option_to_list, remove}
 use Rattle.std.specs.List.{list_all}
-use Rattle.std.specs.Option.{option_map_or}
 use Rattle.std.proofs.lemmas.Bool.{and_from, and_parts, both_ways, eqb-true, eq-eqb, false_from_ne_true, lt-ltb, ltb-true, not-true, not_from_false, or_cases, or_left, or_right}
 use Rattle.std.proofs.lemmas.List.{append-nil}
 use Rattle.std.proofs.lemmas.List.Elements.{All-cons, All-head, All-tail}
@@ -12,7 +11,6 @@ use Rattle.olap_meaning.specs.declared.tables.Setting.{Setting}
 use Rattle.olap_meaning.specs.Covering.{among}
 use Rattle.olap_meaning.specs.History.{Entry, Start, Load, ends, is_some_and}
 use Rattle.olap_meaning.specs.Legal.{Legal, caller, is_call_below, is_call_of, is_next_call}
-use Rattle.olap_meaning.specs.Worth.{cost}
 use Rattle.segment_load.specs.Loads.{JobOf, rows_in}
 use Rattle.history_core.specs.Cache.{CacheOf}
 use Rattle.cache_manager.specs.Jobs.{IsJobOf}
@@ -168,7 +166,7 @@ pub rows_are : (cache : CacheOf) (jobs : List JobOf) (n i : ℕ) (job : JobOf) �
 rows_are cache [] n i job all l at = absurd (omega (arith, l))
 rows_are cache (x ∷ xs) n zero job all l at =
     let is : IsJobOf cache x = All-head (IsJobOf cache) x xs all in
-    ap (λ (o : Option Load). option_map_or (cost cache.entries) o 0) is.flies.started ∙ sym is.costs ∙ ap (λ (j : JobOf). length (rows_in j.snapshot)) (sym at)
+    sym is.costs ∙ ap (λ (j : JobOf). length (rows_in j.snapshot)) (sym at)
 rows_are cache (x ∷ xs) n (suc i) job all l at = rows_are cache xs n i job (All-tail (IsJobOf cache) x xs all) (omega (arith, l)) at
 
 -- the rows of calls, and those of one more

@@ -34,4 +34,4 @@ pub record IsJobOf (cache : CacheOf) (job : JobOf) : Type 0 where
   pub flies : IsOwn cache job.who job.load load
   pub header : job.header ≡ load.header
   pub rows : rows_in job.snapshot ≡ rows_of cache.entries load.header.cube load.version
-  pub costs : length (rows_in job.snapshot) ≡ cost cache.entries load
+  pub costs : length (rows_in job.snapshot) ≡ cost cache.setting.catalog cache.entries job.load

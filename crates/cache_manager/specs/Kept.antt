@@ -1,17 +1,19 @@
 -- What a manager keeps beside its history, and what that means in the history.
-use Rattle.std.specs.Prelude.{ℕ, ◌≡◌, ◌≤◌, List, Bool, true, false, Some, All, IsTrue, filter_map, length, map}
-use Rattle.std.specs.List.{list_any}
+use Rattle.std.specs.Prelude.{ℕ, ◌≡◌, ◌≤◌, ◌<◌, List, All, IsTrue, Some, filter_map, length, map}
+use Rattle.olap_meaning.specs.declared.cells.Header.{Header}
 use Rattle.olap_meaning.specs.declared.tables.Catalog.{Catalog}
 use Rattle.olap_meaning.specs.declared.tables.Setting.{Setting}
 use Rattle.olap_meaning.specs.Covering.{among}
 use Rattle.olap_meaning.specs.History as history
-use Rattle.olap_meaning.specs.History.{Entry, Append, Flush, Load, appended, flying, load_at, load_version, rows_of, version}
+use Rattle.olap_meaning.specs.History.{Entry, Load, appended, flying, load_at, rows_of, shutting, version}
 use Rattle.olap_meaning.specs.Legal as legal
 use Rattle.fact_versions.specs.Facts.{FactsOf, batches_of, rows_held}
 use Rattle.segment_header.specs.Headers.{is_header}
-use Rattle.segment_load.specs.Loads.{are_batches, body_of}
-use Rattle.cache_manager.specs.declared.kept.Kept.{Kept}
-use Rattle.cache_manager.specs.declared.kept.Flight.{Flight}
+use Rattle.segment_load.specs.Loads.{HoldsRows, are_batches}
+use Rattle.cache_flush.specs.Loads as kept
+use Rattle.cache_flush.specs.Loads.{KeptOf, ShelfOf}
+use Rattle.cache_flush.specs.Flights as flight
+use Rattle.cache_flush.specs.Flights.{FlightOf}
 
 -- the facts are those that the history has appended to each cube, and each batch is one of its cube
 pub record AreFactsOf (setting : Setting) (entries : List Entry) (facts : FactsOf) : Type 0 where
@@ -22,37 +24,52 @@ pub record AreFactsOf (setting : Setting) (entries : List Entry) (facts : FactsO
       → map (λ batch. batch.rows) (batches_of facts cube) ≡ filter_map (appended cube) entries
   pub fit : (cube : ℕ) → IsTrue (are_batches setting.catalog cube (batches_of facts cube))
 
--- a kept load is one that was delivered: of its version, with the body of its header over the rows of that version
-pub record IsKept (catalog : Catalog) (entries : List Entry) (kept : Kept) : Type 0 where
+-- a kept load is one that the history keeps: of its version, its body holds the rows of its header in that version,
+-- and what shuts off part of it is what the history says
+pub record IsKept (catalog : Catalog) (entries : List Entry) (kept : KeptOf) : Type 0 where
   pub load : Load
   pub started : load_at entries kept.load ≡ Some load
   pub delivered : IsTrue (history.kept entries kept.load)
   pub version : kept.version ≡ load.version
   pub formed : IsTrue (is_header load.header)
-  pub whole : body_of catalog load.header (rows_of entries load.header.cube load.version)
-      ≡ Some kept.body
+  pub holds : HoldsRows catalog load.header (rows_of entries load.header.cube load.version)
+      kept.body
+  pub shut : kept.shut ≡ shutting entries kept.load
 
--- a load in flight is one that flies, of its version
-pub record IsFlight (entries : List Entry) (flight : Flight) : Type 0 where
+-- a load in flight is one that flies: by whom, of its header and version, and what shuts off part of it is what the
+-- history says
+pub record IsFlight (entries : List Entry) (flight : FlightOf) : Type 0 where
+  pub load : Load
+  pub started : load_at entries flight.load ≡ Some load
   pub flies : IsTrue (flying entries flight.load)
-  pub version : load_version entries flight.load ≡ Some flight.version
+  pub who : flight.who ≡ load.who
+  pub header : flight.header ≡ load.header
+  pub version : flight.version ≡ load.version
+  pub shut : flight.shut ≡ shutting entries flight.load
 
--- an entry is a flush
-abbrev pub is_flush : Entry → Bool
-is_flush (Flush who region) = true
-is_flush _ = false
+-- a shelf has a place for a load of each of these headers
+abbrev pub has_places : ShelfOf → List Header → Type 0
+has_places shelf headers = length headers ≤ shelf.places
+
+-- a shelf has room for one region more in what shuts off part of each load
+abbrev pub has_rooms : ShelfOf → Type 0
+has_rooms shelf = All (λ room. 0 < room) shelf.rooms
+
+-- the headers of loads in flight
+abbrev pub headers_of : List FlightOf → List Header
+headers_of flights = map (λ flight. flight.header) flights
 
 -- what a manager keeps is what its history says: the facts, each kept load and no other, each load in flight and no
--- other; and there is room for the end of each load in flight
+-- other; and there is room for the end of each load in flight, and a place on the shelf
 pub record IsManager (setting : Setting) (entries : List Entry) (spare : ℕ) (facts : FactsOf)
-    (kept : List Kept) (places : ℕ) (flights : List Flight) : Type 0 where
+    (loads : List KeptOf) (has_places : List Header → Type 0) (flights : List FlightOf)
+    : Type 0 where
   pub facts_are : AreFactsOf setting entries facts
-  pub kept_are : All (IsKept setting.catalog entries) kept
+  pub kept_are : All (IsKept setting.catalog entries) loads
   pub kept_all : (j : ℕ) → IsTrue (history.kept entries j)
-      → IsTrue (among (map (λ k. k.load) kept) j)
+      → IsTrue (among (kept.numbers_of loads) j)
   pub flights_are : All (IsFlight entries) flights
   pub flights_all : (j : ℕ) → IsTrue (flying entries j)
-      → IsTrue (among (map (λ f. f.load) flights) j)
-  pub unflushed : list_any is_flush entries ≡ false
+      → IsTrue (among (flight.numbers_of flights) j)
   pub ends_fit : length flights ≤ spare
-  pub places_fit : length flights ≤ places
+  pub places_fit : has_places (headers_of flights)

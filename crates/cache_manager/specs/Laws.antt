@@ -3,7 +3,7 @@ use Rattle.std.specs.Prelude.{ℕ, ◌≡◌, ◌+◌, List, ◌++◌, All, IsTr
 use Rattle.std.specs.List.{list_all, list_any}
 use Rattle.olap_meaning.specs.declared.cells.Cell.{Cell}
 use Rattle.olap_meaning.specs.declared.cells.Who.{Who}
-use Rattle.olap_meaning.specs.History.{Entry, Load, Start, flushes, flying, kept, starter}
+use Rattle.olap_meaning.specs.History.{Entry, Load, Start, evicts, flushes, flying, kept, starter}
 use Rattle.olap_meaning.specs.Legal.{Legal, is_cell}
 use Rattle.history_core.specs.Answers.{HasSource}
 use Rattle.history_core.specs.Cache.{CacheOf}
@@ -12,12 +12,13 @@ use Rattle.cache_manager.specs.Jobs.{IsOwn}
 use Rattle.history_core.specs.Groups.{numbers_from}
 
 -- a delivered look is ready: where each load that a look started was delivered, in whatever order, and nothing that
--- came after flushes its cells, each of them has a source
+-- came after flushes its cells or evicts a load, each of them has a source
 abbrev pub DeliveredLooksAreReady : Type 0
 DeliveredLooksAreReady =
     (cache : CacheOf) (who : Who) (cells : List Cell) (later : List Entry)
     → IsTrue (list_all (is_cell cache.setting.catalog) cells)
     → All (λ cell. list_any (flushes cell) later ≡ false) cells
+    → ((j : ℕ) → list_any (evicts j) later ≡ false)
     → All
     (λ j. IsTrue (kept (cache.entries ++ (map Start (loads_for cache who cells) ++ later)) j))
     (numbers_from (length cache.entries + 1) (length (loads_for cache who cells)))

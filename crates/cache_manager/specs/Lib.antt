@@ -1,8 +1,8 @@
 pub mod Looks
 pub mod Jobs
 pub mod Kept
-pub mod Search
 pub mod Plans
+pub mod Shown
 pub mod Laws
 pub mod Runs
 pub mod Lent

@@ -1,21 +1,41 @@
 -- What a look prepares before it starts loads.
-use Rattle.std.specs.Prelude.{ℕ, suc, ◌≡◌, ⊤, List, [], ◌∷◌, ◌++◌, filter}
+use Rattle.std.specs.Prelude.{ℕ, suc, ◌≡◌, ⊤, List, [], ◌∷◌, ◌++◌, IsFalse, filter}
 use Rattle.olap_meaning.specs.declared.cells.Cell.{Cell}
 use Rattle.olap_meaning.specs.declared.cells.Who.{Who}
 use Rattle.olap_meaning.specs.declared.tables.Setting.{Setting}
+use Rattle.olap_meaning.specs.Covering.{among}
 use Rattle.olap_meaning.specs.History.{Entry, Start, rows_of, version}
 use Rattle.olap_meaning.specs.Legal.{LegalStep}
 use Rattle.history_core.specs.Entries.{entry_of}
 use Rattle.segment_load.specs.Loads.{rows_in}
 use Rattle.history_core.specs.Cache.{CacheOf}
 use Rattle.history_core.specs.Groups.{alike, header_for, load_for}
+use Rattle.cache_flush.specs.Flights.{FlightOf}
+use Rattle.cache_manager.specs.declared.starts.Flying.{Flying}
 use Rattle.cache_manager.specs.declared.starts.Planned.{Planned}
+
+-- a load that is about to fly, as one in flight of which no part is shut off
+abbrev pub flight_for : Flying → FlightOf
+flight_for flying =
+    record {
+      load = flying.load;
+      who = flying.who;
+      header = flying.header;
+      version = flying.version;
+      shut = [];
+    }
 
 -- what is prepared for the load of a group, which is to have this number: its Start, its flight and its job
 pub record IsPlanned (cache : CacheOf) (who : Who) (wanted : List Cell) (number : ℕ) (first : Cell)
     (planned : Planned) : Type 0 where
   pub start : entry_of planned.start ≡ Start (load_for cache who wanted first)
-  pub flight : planned.flight ≡ record { load = number; version = version cache.entries first.cube }
+  pub flight : planned.flight
+      ≡ record {
+        load = number;
+        who = who;
+        header = header_for cache.setting.catalog first (filter (alike first) wanted);
+        version = version cache.entries first.cube;
+      }
   pub load : planned.job.load ≡ number
   pub who_is : planned.job.who ≡ who
   pub header : planned.job.header
@@ -37,3 +57,9 @@ abbrev pub AreLegalSteps : Setting → List Entry → List Entry → Type 0
 AreLegalSteps setting history [] = ⊤
 AreLegalSteps setting history (entry ∷ entries) =
     LegalStep setting history entry × AreLegalSteps setting (history ++ entry ∷ []) entries
+
+-- numbers are put behind some, one after another, of which each is new
+abbrev pub AreNew : List ℕ → List ℕ → Type 0
+AreNew before [] = ⊤
+AreNew before (number ∷ numbers) =
+    IsFalse (among before number) × AreNew (before ++ number ∷ []) numbers

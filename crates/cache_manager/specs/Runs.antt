@@ -8,15 +8,15 @@ use Rattle.olap_meaning.specs.declared.tables.Setting.{Setting}
 use Rattle.olap_meaning.specs.Covering.{among}
 use Rattle.olap_meaning.specs.History as history
 use Rattle.olap_meaning.specs.History.{Entry, load_at, version}
-use Rattle.olap_meaning.specs.Legal.{caller, is_cell}
+use Rattle.olap_meaning.specs.Legal.{caller, is_cell, is_flushable}
 use Rattle.olap_meaning.specs.Worth.{cost}
 use Rattle.fact_versions.specs.Facts.{append_fault}
 use Rattle.fact_versions.specs.declared.faults.AppendFault.TheVariants as fault
 use Rattle.segment_load.specs.Loads.{JobOf, is_batch}
 use Rattle.cache_manager.specs.declared.calls.Call.{Call}
-use Rattle.cache_manager.specs.declared.calls.Call.TheVariants.{Append, Look, Deliver, Abandon}
+use Rattle.cache_manager.specs.declared.calls.Call.TheVariants.{Append, Look, Deliver, Abandon, Flush, Show}
 use Rattle.cache_manager.specs.declared.calls.Reply.{Reply}
-use Rattle.cache_manager.specs.declared.calls.Reply.TheVariants.{Appended, Refused, Ready, Loading, Busy, Ended, NoJob, OutOfMemory}
+use Rattle.cache_manager.specs.declared.calls.Reply.TheVariants.{Appended, Refused, Ready, Loading, Busy, Ended, NoJob, Flushed, Shown, OutOfMemory}
 use Rattle.history_core.specs.Answers.{HasSource, IsAnswer, SomeWants, source_of}
 use Rattle.history_core.specs.Cache.{CacheOf}
 use Rattle.history_core.specs.Arrivals.{arrival_in}
@@ -24,14 +24,17 @@ use Rattle.history_core.specs.Groups.{loads_for}
 use Rattle.cache_manager.specs.Jobs.{IsJobOf}
 use Rattle.history_core.specs.Seats.{NoneFlies}
 use Rattle.history_core.specs.Groups.{numbers_from}
+use Rattle.cache_manager.specs.Shown.{cache_lines}
 
--- a call may be made on a cache over a catalog: a batch is one of a cube, and cells are known
+-- a call may be made on a cache over a catalog: a batch is one of a cube, cells are known, and a region may be flushed
 abbrev pub MayCall : Catalog → Call → Type 0
 MayCall catalog (Append seat cube batch) =
     (cube < length catalog.cubes) × IsTrue (is_batch catalog cube batch)
 MayCall catalog (Look seat cells) = IsTrue (list_all (is_cell catalog) cells)
 MayCall catalog (Deliver job) = ⊤
 MayCall catalog (Abandon job) = ⊤
+MayCall catalog (Flush seat region) = IsTrue (is_flushable catalog region)
+MayCall catalog (Show seat) = ⊤
 
 -- where a run stands: its cache, the loads whose jobs are out, in order, and the number of the next call
 pub record Stage : Type 0 where
@@ -67,6 +70,9 @@ added stage (Look seat cells) Loading =
     map history.Start (loads_for stage.cache (who_calls stage seat) cells)
 added stage (Deliver job) Ended = ending history.Done stage job
 added stage (Abandon job) Ended = ending history.Drop stage job
+added stage (Flush seat region) (Flushed position) =
+    history.Flush (who_calls stage seat) region ∷ []
+added stage (Show seat) (Shown view) = history.Saw (who_calls stage seat) ∷ []
 added stage call reply = []
 
 -- the loads whose jobs are out after a call that has this reply
@@ -111,6 +117,12 @@ MayReply stage (Deliver job) NoJob = length stage.out ≤ job
 MayReply stage (Deliver job) OutOfMemory = job < length stage.out
 MayReply stage (Abandon job) Ended = job < length stage.out
 MayReply stage (Abandon job) NoJob = length stage.out ≤ job
+MayReply stage (Flush seat region) (Flushed position) = position ≡ length stage.cache.entries + 1
+MayReply stage (Flush seat region) OutOfMemory = ⊤
+MayReply stage (Show seat) (Shown view) =
+    (view.position ≡ length stage.cache.entries + 1)
+    × (view.lines ≡ cache_lines stage.cache.entries)
+MayReply stage (Show seat) OutOfMemory = ⊤
 MayReply stage call reply = ⊥
 
 -- calls may have these replies, one after another
@@ -130,8 +142,7 @@ stage_after stage calls replies = stage
 abbrev pub rows_of_job : Stage → ℕ → ℕ
 rows_of_job stage job =
     option_map_or
-    (cost stage.cache.entries)
-    (option_and_then (load_at stage.cache.entries) (slice_get stage.out job)) 0
+    (cost stage.cache.setting.catalog stage.cache.entries) (slice_get stage.out job) 0
 
 -- the least rows that a call which has this reply has looked at: those of a load that it delivers, each once
 abbrev pub rows_delivered : Stage → Call → Reply → ℕ

@@ -1,7 +1,7 @@
 //! Whole runs of calls on one manager.
 ghost use Rattle.std.specs.Prelude.{◌≡◌, ◌≤◌, ◌<◌, ◌+◌, ℕ, All, IfOk, IsTrue, OnErr, length};
 ghost use Rattle.std.specs.List.{list_all};
-ghost use Rattle.olap_meaning.specs.Legal.{Legal, is_cell};
+ghost use Rattle.olap_meaning.specs.Legal.{Legal, is_cell, is_flushable};
 ghost use Rattle.history_core.specs.History.{setting_of};
 ghost use Rattle.segment_load.specs.Loads.{is_batch};
 ghost use Rattle.cache_manager.specs.Jobs.{IsJobOf};
@@ -11,9 +11,9 @@ use crate::look::next;
 use crate::manager::Manager;
 use crate::outcome::Look;
 use fact_versions::{AppendFault, Batch, Steps};
-use history_core::{Answer, Appended};
+use history_core::{Answer, Appended, CacheView};
 use olap_catalog::Catalog;
-use olap_meaning::{Cell, CubeId, List, OutOfMemory, ROW_LIMIT, Who};
+use olap_meaning::{Cell, CubeId, List, OutOfMemory, ROW_LIMIT, Region, Who};
 use segment_load::{LoadJob, run_load};
 use std::alloc::Global;
 use std::sync::Arc;
@@ -39,6 +39,13 @@ pub enum Call {
     Abandon {
         job: usize,
     },
+    Flush {
+        seat: u32,
+        region: Region,
+    },
+    Show {
+        seat: u32,
+    },
 }
 
 /// What a call is answered.
@@ -55,6 +62,9 @@ pub enum Reply {
     Ended,
     /// No job has this place.
     NoJob,
+    /// The position of the flush.
+    Flushed(u64),
+    Shown(CacheView),
     OutOfMemory,
 }
 
@@ -169,6 +179,39 @@ fn run_abandonment(manager: &mut Manager, jobs: &mut Vec<LoadJob>, job: usize) -
     Reply::Ended
 }
 
+fn run_flush(manager: &mut Manager, jobs: &[LoadJob], who: Who, region: Region) -> Reply
+    requires run { IsRun manager.old jobs.now who.call }
+    requires flushable { IsTrue (is_flushable manager.old.setting.catalog region) }
+    ensures run { IsRun manager.new jobs.now (who.call + 1) }
+    ensures reply { MayReply (stage_of manager.old jobs.now who.call)
+        (Call.Flush who.seat region) result }
+    ensures next { stage_of manager.new jobs.now (who.call + 1)
+        ≡ next_stage (stage_of manager.old jobs.now who.call)
+        (Call.Flush who.seat region) result }
+{
+    let _out = jobs;
+    manager.steps_are_legal();
+    match manager.flush(who, region) {
+        Ok(position) => Reply::Flushed(position),
+        Err(OutOfMemory) => Reply::OutOfMemory,
+    }
+}
+
+fn run_show(manager: &mut Manager, jobs: &[LoadJob], who: Who) -> Reply
+    requires run { IsRun manager.old jobs.now who.call }
+    ensures run { IsRun manager.new jobs.now (who.call + 1) }
+    ensures reply { MayReply (stage_of manager.old jobs.now who.call) (Call.Show who.seat) result }
+    ensures next { stage_of manager.new jobs.now (who.call + 1)
+        ≡ next_stage (stage_of manager.old jobs.now who.call) (Call.Show who.seat) result }
+{
+    let _out = jobs;
+    manager.steps_are_legal();
+    match manager.show(who) {
+        Ok(view) => Reply::Shown(view),
+        Err(OutOfMemory) => Reply::OutOfMemory,
+    }
+}
+
 fn run_call<L: Ledger>(
     alloc: Global,
     manager: &mut Manager,
@@ -199,6 +242,14 @@ fn run_call<L: Ledger>(
         }
         Call::Deliver { job } => run_delivery(alloc, manager, jobs, job, steps),
         Call::Abandon { job } => run_abandonment(manager, jobs, job),
+        Call::Flush { seat, region } => {
+            let who = Who { seat, call: number };
+            run_flush(manager, jobs.as_slice(), who, region)
+        }
+        Call::Show { seat } => {
+            let who = Who { seat, call: number };
+            run_show(manager, jobs.as_slice(), who)
+        }
     }
 }
 

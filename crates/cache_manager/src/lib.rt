@@ -1,17 +1,19 @@
 //! The manager of a cache: it answers cells from the loads that it keeps, and hands out the loads that are missing.
 //!
 //! Contracts see a manager as its history. What it keeps beside that, and what this means in the history, is its
-//! invariant. This is the plainest form, with lists; others may take their place under the same contracts.
+//! invariant. Of the loads that it keeps it knows what their shelf promises, and of those in flight what the list of them
+//! does; other forms of these may take their place under the same contracts.
 #![tactic(auto)]
 
 mod calls;
+mod flush;
 mod groups;
-mod kept;
 pub mod laws;
 mod look;
 mod manager;
 mod outcome;
 mod shared;
+mod show;
 mod starts;
 
 pub use calls::{Call, Reply, Run, run_calls};

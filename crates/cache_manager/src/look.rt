@@ -13,21 +13,22 @@ ghost use Rattle.cache_manager.specs.Lent.{lent};
 ghost use Rattle.cache_manager.specs.Jobs.{IsJobOf};
 ghost use Rattle.history_core.specs.Seats.{NoneFlies};
 ghost use Rattle.history_core.specs.Groups.{numbers_from};
+ghost use Rattle.cache_flush.specs.Loads.{kept_of};
 ghost use Rattle.cache_manager.specs.Kept.{IsKept};
 ghost use Rattle.cache_manager.specs.Plans.{ArePlanned, IsPlanned};
 
 use crate::groups::{first_cells, header_for};
-use crate::kept::{Flight, Kept, place_of_source};
 use crate::manager::Manager;
 use crate::outcome::Look;
-use crate::starts::{Planned, start_all};
+use crate::starts::{Flying, Planned, reserve_places, start_all};
+use cache_flush::{CacheShelf, Kept};
 use history_core::{Answer, Answered, CellSource, Entry};
 use olap_meaning::{Cell, List, OutOfMemory, Who};
 use segment_header::{copy_cell, copy_header};
 use segment_load::LoadJob;
 use std::sync::Arc;
 
-fn sum(one: usize, other: usize) -> Result<usize, OutOfMemory>
+pub(crate) fn sum(one: usize, other: usize) -> Result<usize, OutOfMemory>
     ensures { IfOk result (λ sum. sum ≡ one + other) }
 {
     one.checked_add(other).ok_or(OutOfMemory)
@@ -78,13 +79,10 @@ impl Manager {
         ensures source { exact_source self.now.entries cell.now
             ≡ option_map (λ kept. kept.load) (option_copied result) }
         ensures kept { IfSome result
-            (λ kept. IsKept self.now.setting.catalog self.now.entries kept.now) }
+            (λ kept. IsKept self.now.setting.catalog self.now.entries (kept_of kept.now)) }
         ensures serves { IfSome result (λ kept. just_covers kept.now.body.header cell.now ≡ true) }
     {
-        match place_of_source(self.kept.as_slice(), cell) {
-            None => None,
-            Some(place) => Some(&self.kept[place]),
-        }
+        self.shelf.find(cell)
     }
 
     /// The cells that have no source, in order.
@@ -210,6 +208,7 @@ impl Manager {
     {
         let header = header_for(self.alloc, first, wanted)?;
         let copy = copy_header(self.alloc, &header)?;
+        let other = copy_header(self.alloc, &header)?;
         let snapshot = self.snapshot(first.cube)?;
         let version = snapshot.version();
         let catalog = Arc::try_clone(self.catalog())?;
@@ -220,7 +219,12 @@ impl Manager {
                 version,
                 reason: copy_cell(self.alloc, first)?,
             },
-            flight: Flight { load, version },
+            flight: Flying {
+                load,
+                who,
+                header: other,
+                version,
+            },
             job: LoadJob::new(catalog, load, who, header, snapshot),
         })
     }
@@ -269,7 +273,7 @@ impl Manager {
         let mut jobs = Vec::with_capacity(self.alloc, plans.len())?;
         self.history.steps_are_legal();
         let ends = sum(self.flights.len(), plans.len())?;
-        self.kept.reserve(ends)?;
+        reserve_places(&mut self.shelf, plans.as_slice())?;
         self.flights.reserve(plans.len())?;
         self.history.reserve(sum(ends, plans.len())?)?;
         start_all(&mut self.history, &mut self.flights, &mut jobs, plans);

@@ -1,7 +1,7 @@
 //! The manager of a cache.
 ghost use Rattle.std.specs.Prelude.{◌≡◌, ◌⊎◌, ◌↔◌, ◌<◌, ◌≤◌, ◌+◌, ◌++◌, ◌∷◌, [], IfErr, IfOk, IfSome, IsTrue, None, OnErr, OnOk, Some, length, true};
-ghost use Rattle.olap_meaning.specs.History.{Append, Done, Drop, flying, load_version, rows_of, version};
-ghost use Rattle.olap_meaning.specs.Legal.{Legal, is_next_call};
+ghost use Rattle.olap_meaning.specs.History.{Append, Done, Drop, Flush, flying, load_version, rows_of, version};
+ghost use Rattle.olap_meaning.specs.Legal.{Legal, is_flushable, is_next_call};
 ghost use Rattle.fact_versions.specs.Facts.{append_fault};
 ghost use Rattle.history_core.specs.History.{setting_of};
 ghost use Rattle.segment_load.specs.Loads.{are_batches, is_batch, rows_in};
@@ -9,38 +9,39 @@ ghost use Rattle.history_core.specs.Arrivals.{arrival_in};
 ghost use Rattle.cache_manager.specs.Jobs.{IsOwnBody, IsOwnLoad};
 ghost use Rattle.history_core.specs.Seats.{NoneFlies};
 
-use crate::kept::{Flight, Kept, end_flight, version_of};
+use crate::flush::{make_room, shut_off};
+use crate::look::sum;
+use cache_flush::{CacheShelf, Flights, Kept, PlainShelf};
 use fact_versions::{AppendFault, Batch, Facts, Snapshot};
 use history_core::{Appended, Entry, History};
 use olap_catalog::Catalog;
-use olap_meaning::{CubeId, OutOfMemory, ROW_LIMIT, Version, Who};
+use olap_meaning::{CubeId, OutOfMemory, ROW_LIMIT, Region, Version, Who};
 use segment_load::{Delivery, LoadJob};
 use std::alloc::Global;
 use std::marker::Model;
 use std::sync::Arc;
 
 /// The manager of a cache (Cache Control): it keeps the facts, the loads that were delivered and those in flight, and
-/// writes down each thing that it does as an entry of its history.
+/// writes down each thing that it does as an entry of its history. A flush shuts off the cells of its region in each load
+/// that was started before, whether it is kept or in flight.
 #[derive(Drop)]
 pub struct Manager {
     pub(crate) alloc: Global,
     pub(crate) history: History,
     pub(crate) facts: Facts,
-    pub(crate) kept: Vec<Kept>,
-    pub(crate) flights: Vec<Flight>,
+    pub(crate) shelf: PlainShelf,
+    pub(crate) flights: Flights,
 }
 
 impl Model for Manager {
-    ghost use Rattle.std.specs.Prelude.{◌-◌};
-    ghost use Rattle.std.specs.Vec.{vec_capacity, vec_len};
     ghost use Rattle.history_core.specs.Cache.{CacheOf};
-    ghost use Rattle.cache_manager.specs.Kept.{IsManager};
+    ghost use Rattle.cache_manager.specs.Kept.{IsManager, has_places};
 
     ghost Value = { CacheOf };
 
     ghost view = { λ a. record { setting = a.history.setting; entries = a.history.entries } };
 
-    ghost invariant = { λ a. IsManager a.history.setting a.history.entries a.history.spare a.facts a.kept.items (vec_capacity a.kept - vec_len a.kept) a.flights.items };
+    ghost invariant = { λ a. IsManager a.history.setting a.history.entries a.history.spare a.facts a.shelf.loads (has_places a.shelf) a.flights.flights };
 }
 
 impl Manager {
@@ -62,8 +63,8 @@ impl Manager {
             alloc,
             history: History::new(alloc, catalog, row_limit, budget),
             facts,
-            kept: Vec::new(alloc),
-            flights: Vec::new(alloc),
+            shelf: PlainShelf::new(alloc),
+            flights: Flights::new(alloc),
         })
     }
 
@@ -84,7 +85,7 @@ impl Manager {
         ensures unchanged { OnErr result (self.new ≡ self.old) }
     {
         self.history.steps_are_legal();
-        self.history.reserve(self.flights.len() + 1)?;
+        self.history.reserve(sum(self.flights.len(), 1)?)?;
         let batch = shared(self.alloc, batch)?;
         let version = match self.facts.append(cube, shared_again(&batch)?) {
             Ok(version) => version,
@@ -151,7 +152,7 @@ impl Manager {
     pub fn is_idle(&self) -> bool
         ensures { IsTrue result ↔ NoneFlies self.now.entries }
     {
-        self.flights.as_slice().is_empty()
+        self.flights.is_empty()
     }
 
     /// The version of a load in flight.
@@ -159,7 +160,7 @@ impl Manager {
         requires { flying self.now.entries load ≡ true }
         ensures { load_version self.now.entries load ≡ Some result }
     {
-        version_of(self.flights.as_slice(), load).unwrap()
+        self.flights.version(load).unwrap()
     }
 
     /// Keeps what a load has come to. It takes no memory: the room was made when it was started.
@@ -177,13 +178,13 @@ impl Manager {
             who: delivery.who,
             load,
         });
-        end_flight(&mut self.flights, load);
-        let kept = Kept {
+        let shut = self.flights.end(load);
+        self.shelf.insert(Kept {
             load,
             version,
             body: delivery.body,
-        };
-        self.kept.push_reserved(kept);
+            shut,
+        });
     }
 
     /// Gives a load up. It takes no memory.
@@ -198,7 +199,38 @@ impl Manager {
             who: job.who(),
             load,
         });
-        end_flight(&mut self.flights, load);
+        let _ = self.flights.end(load);
+    }
+
+    /// Flushes the cells of a region (Cache Control): no load that was started before serves them from now on. A load of
+    /// which only some cells are covered serves the others on; that is so also of the loads in flight, once they are
+    /// delivered. It answers the position of its entry. All its room is made first: where memory is wanting, nothing has
+    /// changed.
+    pub fn flush(&mut self, who: Who, region: Region) -> Result<u64, OutOfMemory>
+        requires call { IsTrue (is_next_call self.old.entries who) }
+        requires flushable { IsTrue (is_flushable self.old.setting.catalog region) }
+        ensures setting { self.new.setting ≡ self.old.setting }
+        ensures entry { OnOk result (self.new.entries ≡ self.old.entries ++ Flush who region ∷ []) }
+        ensures position { IfOk result (λ position. position ≡ length self.new.entries) }
+        ensures unchanged { OnErr result (self.new ≡ self.old) }
+    {
+        self.history.steps_are_legal();
+        let region = Arc::new(self.alloc, region)?;
+        let room = make_room(
+            &mut self.history,
+            &mut self.shelf,
+            &mut self.flights,
+            &region,
+        )?;
+        shut_off(
+            &mut self.history,
+            &mut self.shelf,
+            &mut self.flights,
+            who,
+            region,
+            room,
+        );
+        Ok(self.history.len())
     }
 }
 

@@ -1,44 +1,74 @@
 //! Starting loads.
-ghost use Rattle.std.specs.Prelude.{◌≡◌, ◌≤◌, ◌+◌, ◌++◌, length, map};
+ghost use Rattle.std.specs.Prelude.{◌≡◌, ◌≤◌, ◌+◌, ◌++◌, List, OnOk, length, map};
 ghost use Rattle.std.specs.Vec.{vec_len, vec_capacity};
+ghost use Rattle.olap_meaning.specs.declared.cells.Header.{Header};
 ghost use Rattle.history_core.specs.Entries.{entry_of};
-ghost use Rattle.cache_manager.specs.Plans.{AreLegalSteps};
+ghost use Rattle.cache_flush.specs.Flights.{numbers_of};
+ghost use Rattle.cache_manager.specs.Kept.{has_places};
+ghost use Rattle.cache_manager.specs.Plans.{AreLegalSteps, AreNew, flight_for};
 
-use crate::kept::Flight;
+use cache_flush::{CacheShelf, Flights, PlainShelf};
 use history_core::{Entry, History};
+use olap_meaning::{Header, OutOfMemory, Version, Who};
 use segment_load::LoadJob;
+
+/// A load that is about to fly.
+#[derive(Drop)]
+pub(crate) struct Flying {
+    pub(crate) load: u64,
+    pub(crate) who: Who,
+    pub(crate) header: Header,
+    pub(crate) version: Version,
+}
 
 /// A load that a look is about to start.
 #[derive(Drop)]
 pub(crate) struct Planned {
     pub(crate) start: Entry,
-    pub(crate) flight: Flight,
+    pub(crate) flight: Flying,
     pub(crate) job: LoadJob,
+}
+
+/// Makes a place on a shelf for each of the loads, beside the places that are there.
+pub(crate) fn reserve_places(shelf: &mut PlainShelf, plans: &[Planned]) -> Result<(), OutOfMemory>
+    ensures loads { shelf.new.loads ≡ shelf.old.loads }
+    ensures kept { (headers : List Header)
+        → has_places shelf.old headers → has_places shelf.new headers }
+    ensures ok { OnOk result ((headers : List Header) → has_places shelf.old headers
+        → has_places shelf.new (headers ++ map (λ planned. planned.flight.header) plans.now)) }
+{
+    for planned in plans {
+        shelf.reserve(&planned.flight.header)?;
+    }
+    Ok(())
 }
 
 /// Starts loads. It takes no memory: the room is there.
 pub(crate) fn start_all(
     history: &mut History,
-    flights: &mut Vec<Flight>,
+    flights: &mut Flights,
     jobs: &mut Vec<LoadJob>,
     plans: Vec<Planned>,
 )
     requires legal { AreLegalSteps history.old.setting history.old.entries
         (map (λ planned. entry_of planned.start) plans.items) }
     requires room { length plans.items ≤ history.old.spare }
-    requires flights_room { vec_len flights.old + length plans.items ≤ vec_capacity flights.old }
+    requires flights_new { AreNew (numbers_of flights.old.flights)
+        (map (λ planned. planned.flight.load) plans.items) }
+    requires flights_room { length plans.items ≤ flights.old.places }
     requires jobs_room { vec_len jobs.old + length plans.items ≤ vec_capacity jobs.old }
     ensures setting { history.new.setting ≡ history.old.setting }
     ensures entries { history.new.entries ≡ history.old.entries
         ++ map (λ planned. entry_of planned.start) plans.items }
     ensures spare { history.new.spare + length plans.items ≡ history.old.spare }
-    ensures flights { flights.new.items ≡ flights.old.items
-        ++ map (λ planned. planned.flight) plans.items }
+    ensures flights { flights.new.flights ≡ flights.old.flights
+        ++ map (λ planned. flight_for planned.flight) plans.items }
     ensures jobs { jobs.new.items ≡ jobs.old.items ++ map (λ planned. planned.job) plans.items }
 {
     for planned in plans {
         history.push(planned.start);
-        flights.push_reserved(planned.flight);
+        let flight = planned.flight;
+        flights.start(flight.load, flight.who, flight.header, flight.version);
         jobs.push_reserved(planned.job);
     }
 }

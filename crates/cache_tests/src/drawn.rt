@@ -8,7 +8,12 @@ fn a_manager_does_as_the_slow_bodies_say(rt: HostRuntime) -> Result<(), Fail> {
         let counts = play_drawn(rt.alloc(), seed, 100)?;
         // Each kind of outcome comes.
         assert!(rt;
-            counts.answers > 0 && counts.loads > 0 && counts.refused > 0,
+            counts.answers > 0
+                && counts.loads > 0
+                && counts.refused > 0
+                && counts.overtaken > 0
+                && counts.flushed > 0
+                && counts.touched > 0,
             "{counts:?}"
         );
     }

@@ -6,4 +6,6 @@ mod caches;
 #[cfg(test)]
 mod drawn;
 #[cfg(test)]
+mod flushes;
+#[cfg(test)]
 mod runs;

@@ -15,12 +15,19 @@ abandon 0 => no job
 look 2 1:0=0 => loading
 deliver 0 => ended
 look 2 1:0=0 => answer 10: Whole(4) of 2
+flush 3 [Sales]MEMBER([Measures].[Count]) => entry 11
+show 1 => view 12: load 2 of version 1 of measure 0 by 0=0, 0 flushes; load 8 of version 2 of measure 1 by 0=0, 1 flushes;
+look 2 0:0=0 => answer 13: Whole(15) of 1
+look 2 1:0=0 => loading
+flush 3 [Sales]MEASURES => entry 15
+deliver 0 => ended
+look 2 1:0=0 => loading
 ";
 
 #[test]
 fn each_call_of_a_list_has_its_reply(rt: HostRuntime) -> Result<(), Fail> {
     let (told, replies, entries) = tell_calls(rt.alloc(), CALLS)?;
     assert_eq!(rt; told.as_str(), CALLS);
-    assert_eq!(rt; (replies, entries), (13, 10));
+    assert_eq!(rt; (replies, entries), (20, 17));
     Ok(())
 }

@@ -2,7 +2,7 @@
 ghost use Rattle.std.specs.Prelude.{◌<◌};
 ghost use Rattle.olap_meaning.specs.Texts.{CanBeShown};
 
-use olap_meaning::{CellValue, List, Version};
+use olap_meaning::{CellValue, Header, List, Version};
 
 /// What a cell is worth, and in which version of its cube. Each value that is answered can be shown.
 #[derive(Clone, Copy, Debug, PartialEq, Eq)]
@@ -25,6 +25,31 @@ pub struct Answer {
 pub struct Appended {
     pub position: u64,
     pub version: Version,
+}
+
+/// An aggregate table was built: the position of its entry, the version of its cube that it was built over, and how many
+/// groups it has.
+#[derive(Clone, Copy, Debug, PartialEq, Eq)]
+pub struct AggBuilt {
+    pub position: u64,
+    pub version: Version,
+    pub groups: u64,
+}
+
+/// A load that is kept: its number, its version, what it holds, and how many flushes since its Start touch it.
+#[derive(Drop)]
+pub struct CacheLine {
+    pub load: u64,
+    pub version: Version,
+    pub header: Header,
+    pub flushes: u64,
+}
+
+/// What is kept: the position of the look's entry, and a line for each kept load, by rising number.
+#[derive(Drop)]
+pub struct CacheView {
+    pub position: u64,
+    pub lines: List<CacheLine>,
 }
 
 /// A cache does not have so many entries yet: how many were asked for, and how many it had when it was looked at.

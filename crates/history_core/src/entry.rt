@@ -1,6 +1,6 @@
 //! Entries of a history.
 use fact_versions::Batch;
-use olap_meaning::{Cell, CellSource, CubeId, Header, List, Version, Who};
+use olap_meaning::{Cell, CellSource, CubeId, Header, List, Region, Version, Who};
 use std::sync::Arc;
 
 /// One event of the cache. A load is named by the position of its Start.
@@ -12,6 +12,17 @@ pub enum Entry {
         cube: CubeId,
         version: Version,
         batch: Arc<Batch>,
+    },
+    /// An aggregate table stands, built over a version of its cube. It is named by its place in the schema.
+    Agg {
+        who: Who,
+        table: u32,
+        version: Version,
+    },
+    /// The cells of a region are flushed: no load that was started before serves them.
+    Flush {
+        who: Who,
+        region: Arc<Region>,
     },
     /// A load of the cells of a header begins, for the sake of one cell.
     Start {
@@ -30,9 +41,17 @@ pub enum Entry {
         who: Who,
         load: u64,
     },
+    /// A load is no longer kept.
+    Evict {
+        load: u64,
+    },
     /// A call is answered, each cell from some loads.
     Answer {
         who: Who,
         cells: List<CellSource>,
+    },
+    /// A call is shown what is kept.
+    Saw {
+        who: Who,
     },
 }

@@ -8,7 +8,7 @@ mod entry;
 mod history;
 mod shared;
 
-pub use answers::{Answer, Answered, Appended, NotYet};
+pub use answers::{AggBuilt, Answer, Answered, Appended, CacheLine, CacheView, NotYet};
 pub use cells::is_cell;
 pub use entry::Entry;
 pub use history::History;

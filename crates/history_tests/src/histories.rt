@@ -40,15 +40,34 @@ fn told(alloc: Global, entry: Option<&Entry>) -> Result<String, AllocError> {
             header.columns.len(),
             reason.at.len()
         ),
+        Some(
+            Entry::Agg {
+                who,
+                table,
+                version,
+            },
+        ) => format!(in alloc;
+            "aggregate {}/{}: table {table}, version {}",
+            who.seat, who.call, version.0
+        ),
+        Some(Entry::Flush { who, region }) => format!(in alloc;
+            "flush {}/{}: cube {}, boxes {}",
+            who.seat,
+            who.call,
+            region.cube.0,
+            region.boxes.len()
+        ),
         Some(Entry::Done { who, load }) => {
             format!(in alloc; "done {}/{}: load {load}", who.seat, who.call)
         }
         Some(Entry::Drop { who, load }) => {
             format!(in alloc; "drop {}/{}: load {load}", who.seat, who.call)
         }
+        Some(Entry::Evict { load }) => format!(in alloc; "evict: load {load}"),
         Some(Entry::Answer { who, cells }) => {
             format!(in alloc; "answer {}/{}: cells {}", who.seat, who.call, cells.len())
         }
+        Some(Entry::Saw { who }) => format!(in alloc; "saw {}/{}", who.seat, who.call),
     }
 }
 

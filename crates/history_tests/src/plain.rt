@@ -1,9 +1,11 @@
 //! A history over a catalog of one dimension, and what the definitions say of both.
 use olap_meaning::tables::Catalog;
 use olap_meaning::{ColumnId, LeafId, List, OutOfMemory, Text};
+use olap_plain::PlainEntry;
 use olap_plain::catalogs::{
     fact_column_count, leaf_value, match_of, row_in, value_count, value_number,
 };
+use olap_plain::history::{flush_count, kept, shutting};
 use std::alloc::Global;
 use std::process::Abort;
 use std::test::Fail;
@@ -25,6 +27,7 @@ answer 1 2 year 2 => not legal
 done 2 2 => not legal
 done 1 2 => legal
 done 1 2 => not legal
+evict 0 2 => not legal
 start 2 1 year => not legal
 # An answer from it, with a call number that rises.
 answer 1 1 year 2 => not legal
@@ -55,6 +58,12 @@ start 2 2 year => legal
 # No answer from that load of an older version, after a flush of the second quarter.
 flush 7 measures 1 1 => legal
 answer 2 2 second 5 => not legal
+# Aggregate tables of the schema, over versions that their cube has reached.
+agg 7 0 2 => not legal
+agg 8 1 2 => not legal
+agg 8 0 3 => not legal
+agg 8 0 1 => legal
+agg 9 0 2 => legal
 ";
 
 /// After so many entries, the floor of a cell, its exact source, and whether a load of it is awaited and live.
@@ -97,11 +106,43 @@ fn a_small_history_is_legal_step_by_step(rt: HostRuntime) -> Result<(), Fail> {
     let setting = small_setting(alloc)?;
     let (told, history) = tell_steps(alloc, &setting, STEPS)?;
     assert_eq!(rt; told.as_str(), STEPS);
-    assert_eq!(rt; history.len(), 17);
+    assert_eq!(rt; history.len(), 19);
     assert_eq!(rt;
         tell_cells(alloc, history.as_slice(), CELLS)?.as_str(),
         CELLS
     );
+    Ok(())
+}
+
+// How many flushes touch a load, how many regions shut off part of it, and whether it is kept.
+fn shut_off(
+    alloc: Global,
+    history: &[PlainEntry],
+    load: u64,
+) -> Result<(usize, usize, bool), Fail> {
+    let regions = shutting(alloc, history, load)?;
+    Ok((
+        flush_count(history, load),
+        regions.len(),
+        kept(history, load),
+    ))
+}
+
+#[test]
+fn flushes_are_counted_from_a_start(rt: HostRuntime) -> Result<(), Fail> {
+    let alloc = rt.alloc();
+    let setting = small_setting(alloc)?;
+    let (_, history) = tell_steps(alloc, &setting, STEPS)?;
+    for (load, want) in [
+        (2, (3, 3, true)),
+        (10, (2, 2, false)),
+        (12, (2, 2, true)),
+        (16, (1, 1, false)),
+        (3, (0, 0, false)),
+    ] {
+        let told = shut_off(alloc, history.as_slice(), load)?;
+        assert_eq!(rt; told, want);
+    }
     Ok(())
 }
 

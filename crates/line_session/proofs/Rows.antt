@@ -8,12 +8,12 @@ use Rattle.std.proofs.lemmas.List.Sums.{sum_by-append, sum_by-cons}
 use Rattle.std.proofs.Math.Seq.{drop-append_seam}
 use Rattle.olap_meaning.specs.declared.tables.Setting.{Setting}
 use Rattle.olap_meaning.specs.declared.tables.Row.{Row}
-use Rattle.olap_meaning.specs.History.{Entry, Append, Flush, Start, Done, Drop, Answer, Saw, Load, appended, load_at, rows_of, version}
+use Rattle.olap_meaning.specs.History.{Entry, Append, Agg, Flush, Start, Done, Drop, Evict, Answer, Saw, Load, appended, load_at, rows_of, version}
 use Rattle.olap_meaning.specs.Legal.{Legal}
 use Rattle.olap_meaning.proofs.Positions.{entry_within}
 use Rattle.olap_meaning.proofs.Loads.{load_start, start_load}
 use Rattle.olap_meaning.proofs.Versions.{versions_rise}
-use Rattle.history_core.specs.Seats.{actor, entries_of}
+use Rattle.history_core.specs.Seats.{is_of_seat, entries_of}
 use Rattle.history_core.specs.Cache.{CacheOf}
 use Rattle.line_session.specs.Desks.{DeskOf, GoesOn, with_more, rows_between, rows_to_read, rows_started}
 
@@ -49,6 +49,7 @@ get_seam (e ∷ es) rest entry = get_seam es rest entry
 -- what a load reads that was started in a legal history, it reads however it goes on
 rows_here : (setting : Setting) (entries es rest : List Entry) (e this : Entry) → Legal setting (entries ++ e ∷ es) → e ≡ this → rows_to_read (entries ++ e ∷ es) this ≡ rows_to_read ((entries ++ e ∷ es) ++ rest) this
 rows_here setting entries es rest e (Append who cube v rows) legal is = refl
+rows_here setting entries es rest e (Agg who table v) legal is = refl
 rows_here setting entries es rest e (Flush who region) legal is = refl
 rows_here setting entries es rest e (Start load) legal is =
     let whole : List Entry = entries ++ e ∷ es in
@@ -56,6 +57,7 @@ rows_here setting entries es rest e (Start load) legal is =
     ap length (sym (rows_stay whole rest load.header.cube load.version (recorded setting whole (suc (length entries)) load legal place)))
 rows_here setting entries es rest e (Done who j) legal is = refl
 rows_here setting entries es rest e (Drop who j) legal is = refl
+rows_here setting entries es rest e (Evict j) legal is = refl
 rows_here setting entries es rest e (Answer who cells) legal is = refl
 rows_here setting entries es rest e (Saw who) legal is = refl
 
@@ -63,7 +65,7 @@ rows_here setting entries es rest e (Saw who) legal is = refl
 rows_same : (setting : Setting) (seat : ℕ) (entries middle rest : List Entry) → Legal setting (entries ++ middle) → sum_by (rows_to_read (entries ++ middle)) (entries_of middle seat) ≡ sum_by (rows_to_read ((entries ++ middle) ++ rest)) (entries_of middle seat)
 rows_same setting seat entries [] rest legal = refl
 rows_same setting seat entries (e ∷ es) rest legal =
-    by ((actor e).seat == seat) (others (rows_same setting seat (entries ++ e ∷ []) es rest (subst (Legal setting) (sym joined) legal)))
+    by (is_of_seat seat e) (others (rows_same setting seat (entries ++ e ∷ []) es rest (subst (Legal setting) (sym joined) legal)))
   where
     whole : List Entry
     whole = entries ++ e ∷ es

@@ -7,7 +7,7 @@ use Rattle.olap_meaning.specs.declared.tables.Row.{Row}
 use Rattle.olap_meaning.specs.History as history
 use Rattle.olap_meaning.specs.History.{Entry, Start, Done, Drop, Load, awaited_load, flying, load_at, version}
 use Rattle.olap_meaning.specs.Legal.{is_next_call}
-use Rattle.olap_meaning.specs.Worth.{cost}
+use Rattle.olap_meaning.specs.Worth.{load_rows}
 use Rattle.fact_versions.specs.Facts.{append_fault}
 use Rattle.fact_versions.specs.declared.faults.AppendFault.{AppendFault}
 use Rattle.fact_versions.specs.declared.faults.AppendFault.TheVariants as fault
@@ -112,7 +112,7 @@ pub record IsOfLook (cache : CacheOf) (begun : ℕ) (who : Who) (cells : List Ce
 pub record AreLoadsFor (before : CacheOf) (who : Who) (cells : List Cell)
     (more : List Entry) : Type 0 where
   pub parts : list_all is_of_load (entries_of more who.seat) ≡ true
-  pub call : (entry : Entry) → Contains (entries_of more who.seat) entry → actor entry ≡ who
+  pub call : (entry : Entry) → Contains (entries_of more who.seat) entry → actor entry ≡ Some who
   pub starts : (p : ℕ) (load : Load) → length before.entries < p
       → load_at (before.entries ++ more) p ≡ Some load → load.who ≡ who
       → IsOfLook (with_more before more) (length before.entries) who cells p load
@@ -200,7 +200,7 @@ pub record HasReadFront (before after : DeskOf) (front : ℕ) : Type 0 where
 
 -- the rows that an entry asks to read: where it starts a load, those of the load's version
 abbrev pub rows_to_read : List Entry → Entry → ℕ
-rows_to_read history (Start load) = cost history load
+rows_to_read history (Start load) = load_rows history load
 rows_to_read history _ = 0
 
 -- the rows of the loads that a seat has started behind a history

@@ -9,7 +9,7 @@ use Rattle.std.proofs.lemmas.List.Folds.{list_all-append}
 use Rattle.olap_meaning.specs.declared.cells.Cell.{Cell}
 use Rattle.olap_meaning.specs.declared.cells.Who.{Who}
 use Rattle.olap_meaning.specs.declared.tables.Row.{Row}
-use Rattle.olap_meaning.specs.History.{Entry, Append, Flush, Start, Done, Drop, Answer, Saw, version}
+use Rattle.olap_meaning.specs.History.{Entry, Append, Agg, Flush, Start, Done, Drop, Evict, Answer, Saw, version}
 use Rattle.olap_meaning.specs.Legal.{is_call_below, is_call_of, is_next_call, Legal}
 use Rattle.fact_versions.specs.Facts.{append_fault}
 use Rattle.history_core.specs.declared.answers.Answer.{Answer as Told}
@@ -18,7 +18,7 @@ use Rattle.history_core.specs.Arrivals.{arrival_in}
 use Rattle.history_core.specs.Answers.{source_of}
 use Rattle.history_core.specs.Cache.{CacheOf}
 use Rattle.history_core.specs.Groups.{loads_for}
-use Rattle.history_core.specs.Seats.{NoneFlies, actor, entries_of}
+use Rattle.history_core.specs.Seats.{NoneFlies, is_of_seat, entries_of}
 use Rattle.line_session.specs.Desks.{AddsCall, AreLoadsFor, DeskOf, GoesOnBy, HasAppended, HasAsked, HasNotAsked, is_start_or_done, load_numbers, loads_delivered, none_behind_drops, with_more}
 use Rattle.manager_desk.specs.Ends.{AddsAnswer, AddsEnded}
 use Rattle.manager_desk.specs.Keeping.{IsDesk}
@@ -32,7 +32,7 @@ abbrev pub desk_of : CacheOf → DeskOf
 desk_of cache = record { cache = cache; seat = 1; alone = true; fronts = None }
 
 -- what is seen goes on by entries of the seat
-pub goes_on : (before after : CacheOf) (more : List Entry) → after.setting ≡ before.setting → after.entries ≡ before.entries ++ more → All (λ e. (actor e).seat ≡ 1) more → GoesOnBy (desk_of before) (desk_of after) more
+pub goes_on : (before after : CacheOf) (more : List Entry) → after.setting ≡ before.setting → after.entries ≡ before.entries ++ more → All (λ e. is_of_seat 1 e ≡ true) more → GoesOnBy (desk_of before) (desk_of after) more
 goes_on before after more setting entries own = record {
   cache = same_cache after (with_more before more) setting entries;
   seat = refl;
@@ -42,12 +42,12 @@ goes_on before after more setting entries own = record {
 
 -- a call behind entries of the seat
 pub adds_call :
-    (before after : CacheOf) (more : List Entry) (call : Entry) → after.setting ≡ before.setting → after.entries ≡ (before.entries ++ more) ++ call ∷ [] → All (λ e. (actor e).seat ≡ 1) more → (actor call).seat ≡ 1
+    (before after : CacheOf) (more : List Entry) (call : Entry) → after.setting ≡ before.setting → after.entries ≡ (before.entries ++ more) ++ call ∷ [] → All (λ e. is_of_seat 1 e ≡ true) more → is_of_seat 1 call ≡ true
     → AddsCall (desk_of before) (desk_of after) more call
 adds_call before after more call setting entries own last = record {
   goes_on =
       goes_on before after (more ++ call ∷ []) setting (entries ∙ append_assoc before.entries more (call ∷ []))
-      (All-append (λ e. (actor e).seat ≡ 1) more (call ∷ []) own (All-cons (λ e. (actor e).seat ≡ 1) call [] last (All-nil (λ e. (actor e).seat ≡ 1))));
+      (All-append (λ e. is_of_seat 1 e ≡ true) more (call ∷ []) own (All-cons (λ e. is_of_seat 1 e ≡ true) call [] last (All-nil (λ e. is_of_seat 1 e ≡ true))));
   fronts = refl;
 }
 
@@ -58,12 +58,12 @@ module _ (before : CacheOf) (who : Who) (cells : List Cell) where
   -- cells that were answered
   pub has_asked : (after : CacheOf) (answer : Told) → NoneFlies before.entries → NoneFlies after.entries → who.seat ≡ 1 → AddsAnswer before after who cells answer → HasAsked (desk_of before) (desk_of after) cells answer
   has_asked after answer idle quiet seat adds =
-      let own : All (λ e. (actor e).seat ≡ 1) (loads_delivered before who cells) = parts_seat who 1 (loads_delivered before who cells) seat delivered_parts in
+      let own : All (λ e. is_of_seat 1 e ≡ true) (loads_delivered before who cells) = parts_seat who 1 (loads_delivered before who cells) seat delivered_parts in
       record {
         who = who;
         own = seat;
         more = loads_delivered before who cells;
-        adds = adds_call before after (loads_delivered before who cells) (Answer who (map (source_of (before.entries ++ loads_delivered before who cells)) cells)) adds.setting adds.entries own seat;
+        adds = adds_call before after (loads_delivered before who cells) (Answer who (map (source_of (before.entries ++ loads_delivered before who cells)) cells)) adds.setting adds.entries own (eq-eqb who.seat 1 seat);
         loads = are_loads_for before who cells (map (Done who) (load_numbers before who cells)) idle (dones_are_ends who (load_numbers before who cells));
         delivered = ap (list_all is_start_or_done) (own_entries 1 (loads_delivered before who cells) own) ∙ delivered_all who (loads_for before who cells) (load_numbers before who cells);
         alone = λ _. refl;
@@ -93,7 +93,7 @@ module _ (before : CacheOf) (who : Who) (cells : List Cell) where
   pub has_not_asked : (after : CacheOf) → NoneFlies before.entries → NoneFlies after.entries → who.seat ≡ 1 → is_next_call before.entries who ≡ true → AddsEnded before after who cells → HasNotAsked (desk_of before) (desk_of after) cells
   has_not_asked after idle quiet seat next adds =
       let parts = ended_parts after adds in
-      let own : All (λ e. (actor e).seat ≡ 1) adds.more = parts_seat who 1 adds.more seat parts in
+      let own : All (λ e. is_of_seat 1 e ≡ true) adds.more = parts_seat who 1 adds.more seat parts in
       record {
         who = who;
         own = seat;
@@ -114,10 +114,12 @@ nothing_asked cache who cells idle seat next = has_not_asked cache who cells cac
 -- calls below a number are below a greater one
 below_rises : (n m : ℕ) (entry : Entry) → n ≤ m → is_call_below n entry ≡ true → is_call_below m entry ≡ true
 below_rises n m (Append who cube version rows) le below = lt-ltb who.call m (let l = ltb-true who.call n below in omega (arith, l, le))
+below_rises n m (Agg who table v) le below = lt-ltb who.call m (let l = ltb-true who.call n below in omega (arith, l, le))
 below_rises n m (Flush who region) le below = lt-ltb who.call m (let l = ltb-true who.call n below in omega (arith, l, le))
 below_rises n m (Start load) le below = absurd (cc)
 below_rises n m (Done who j) le below = absurd (cc)
 below_rises n m (Drop who j) le below = absurd (cc)
+below_rises n m (Evict j) le below = absurd (cc)
 below_rises n m (Answer who cells) le below = lt-ltb who.call m (let l = ltb-true who.call n below in omega (arith, l, le))
 below_rises n m (Saw who) le below = lt-ltb who.call m (let l = ltb-true who.call n below in omega (arith, l, le))
 
@@ -163,20 +165,22 @@ next_refused before after who cells last is adds next =
 pub unused_next : (entries : List Entry) (call : ℕ) → entries_of entries 1 ≡ [] → is_next_call entries (record { seat = 1; call = call }) ≡ true
 unused_next entries call unused = ap (list_all (is_call_below call)) (uncalled entries unused)
   where
-    call_own : (e : Entry) → ((actor e).seat == 1) ≡ false → is_call_of 1 e ≡ false
+    call_own : (e : Entry) → is_of_seat 1 e ≡ false → is_call_of 1 e ≡ false
     call_own (Append who cube version rows) other = other
+    call_own (Agg who table v) other = other
     call_own (Flush who region) other = other
     call_own (Start load) other = refl
     call_own (Done who j) other = refl
     call_own (Drop who j) other = refl
+    call_own (Evict j) other = refl
     call_own (Answer who cells) other = other
     call_own (Saw who) other = other
 
     uncalled : (es : List Entry) → entries_of es 1 ≡ [] → filter (is_call_of 1) es ≡ []
     uncalled [] none = refl
-    uncalled (e ∷ es) none = by ((actor e).seat == 1) refl none (uncalled es)
+    uncalled (e ∷ es) none = by (is_of_seat 1 e) refl none (uncalled es)
       where
-        by : (b : Bool) → ((actor e).seat == 1) ≡ b → entries_of (e ∷ es) 1 ≡ [] → (entries_of es 1 ≡ [] → filter (is_call_of 1) es ≡ []) → filter (is_call_of 1) (e ∷ es) ≡ []
+        by : (b : Bool) → is_of_seat 1 e ≡ b → entries_of (e ∷ es) 1 ≡ [] → (entries_of es 1 ≡ [] → filter (is_call_of 1) es ≡ []) → filter (is_call_of 1) (e ∷ es) ≡ []
         by true at some rest = let has : e ∷ entries_of es 1 ≡ [] = rw at at some in absurd (cc)
         by false at some rest = rw (call_own e at) (rest (rw at at some))
 
@@ -216,7 +220,7 @@ has_appended before after who cube rows told seat setting grown admitted positio
       others = refl;
       adds =
           adds_call before after [] (Append who cube (version (before.entries ++ []) cube + 1) rows) setting (grown ∙ ap (λ (es : List Entry). es ++ Append who cube (version es cube + 1) rows ∷ []) (sym (append-nil before.entries)))
-          (All-nil (λ e. (actor e).seat ≡ 1)) seat;
+          (All-nil (λ e. is_of_seat 1 e ≡ true)) (eq-eqb who.seat 1 seat);
       admitted = ap (λ (cache : CacheOf). append_fault (arrival_in cache cube rows)) (sym same) ∙ admitted;
       position = position;
       version_is = version_is;

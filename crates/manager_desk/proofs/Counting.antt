@@ -10,14 +10,14 @@ use Rattle.olap_meaning.specs.declared.cells.Who.{Who}
 use Rattle.olap_meaning.specs.declared.tables.Row.{Row}
 use Rattle.olap_meaning.specs.declared.tables.Setting.{Setting}
 use Rattle.olap_meaning.specs.declared.TheConstants.{ROW_LIMIT}
-use Rattle.olap_meaning.specs.History.{Entry, Append, Flush, Start, Done, Drop, Answer, Saw, Load, appended, load_at, rows_of, version}
+use Rattle.olap_meaning.specs.History.{Entry, Append, Agg, Flush, Start, Done, Drop, Evict, Answer, Saw, Load, appended, load_at, rows_of, version}
 use Rattle.olap_meaning.specs.Legal.{Legal}
-use Rattle.olap_meaning.specs.Worth.{cost}
+use Rattle.olap_meaning.specs.Worth.{load_rows}
 use Rattle.olap_meaning.proofs.Loads.{load_start, start_load}
 use Rattle.olap_meaning.proofs.Positions.{entry-append, entry_from-take}
 use Rattle.segment_load.specs.Loads.{JobOf, rows_in}
 use Rattle.history_core.specs.Cache.{CacheOf}
-use Rattle.history_core.specs.Seats.{actor, entries_of}
+use Rattle.history_core.specs.Seats.{is_of_seat, entries_of}
 use Rattle.cache_manager.specs.Jobs.{IsJobOf}
 use Rattle.cache_manager.proofs.Pushes.{flying_parts, load_on, recorded, version-length}
 use Rattle.manager_desk.specs.Delivered.{rows_by, rows_delivered}
@@ -29,9 +29,13 @@ rows_stay entries more cube v l =
     ap (λ (batches : List (List Row)). flat_map (λ rows. rows) (take v batches)) (filter_map-append (appended cube) entries more)
     ∙ ap (λ (batches : List (List Row)). flat_map (λ rows. rows) batches) (take-append-le v (filter_map (appended cube) entries) (filter_map (appended cube) more) (let long = version-length entries cube in omega (arith, l, long)))
 
--- the cost of a load stays as it is
-pub cost_stays : (setting : Setting) (entries more : List Entry) (j : ℕ) (load : Load) → Legal setting entries → load_at entries j ≡ Some load → cost (entries ++ more) load ≡ cost entries load
+-- the rows of a load's version stay as they are
+pub cost_stays : (setting : Setting) (entries more : List Entry) (j : ℕ) (load : Load) → Legal setting entries → load_at entries j ≡ Some load → load_rows (entries ++ more) load ≡ load_rows entries load
 cost_stays setting entries more j load legal at = ap length (rows_stay entries more load.header.cube load.version (recorded setting entries j load legal at))
+
+-- a job of a cache costs the rows of its load's version
+pub job_costs : (cache : CacheOf) (job : JobOf) (is : IsJobOf cache job) → length (rows_in job.snapshot) ≡ load_rows cache.entries is.load
+job_costs cache job is = is.costs ∙ ap (λ (o : Option Load). option_map_or (load_rows cache.entries) o 0) is.flies.started
 
 -- a delivered load was started
 done_started : (setting : Setting) (entries : List Entry) (i : ℕ) (who : Who) (j : ℕ) → Legal setting entries → slice_get entries i ≡ Some (Done who j) → (load : Load) × (load_at entries j ≡ Some load)
@@ -46,15 +50,17 @@ load_stays entries more j load at = start_load (entries ++ more) j load (entry-a
 -- the rows that an entry delivers stay as they are
 rows_by_stay : (setting : Setting) (entries more : List Entry) (seat : ℕ) → Legal setting entries → (i : ℕ) (e : Entry) → slice_get entries i ≡ Some e → rows_by (entries ++ more) seat e ≡ rows_by entries seat e
 rows_by_stay setting entries more seat legal i (Append who cube version rows) at = refl
+rows_by_stay setting entries more seat legal i (Agg who table v) at = refl
 rows_by_stay setting entries more seat legal i (Flush who region) at = refl
 rows_by_stay setting entries more seat legal i (Start load) at = refl
 rows_by_stay setting entries more seat legal i (Drop who j) at = refl
+rows_by_stay setting entries more seat legal i (Evict j) at = refl
 rows_by_stay setting entries more seat legal i (Answer who cells) at = refl
 rows_by_stay setting entries more seat legal i (Saw who) at = refl
 rows_by_stay setting entries more seat legal i (Done who j) at =
     let load = done_started setting entries i who j legal at in
-    let later : option_map_or (cost (entries ++ more)) (load_at (entries ++ more) j) 0 ≡ cost (entries ++ more) load.0 = ap (λ (o : Option Load). option_map_or (cost (entries ++ more)) o 0) (load_stays entries more j load.0 load.1) in
-    let before : option_map_or (cost entries) (load_at entries j) 0 ≡ cost entries load.0 = ap (λ (o : Option Load). option_map_or (cost entries) o 0) load.1 in
+    let later : option_map_or (load_rows (entries ++ more)) (load_at (entries ++ more) j) 0 ≡ load_rows (entries ++ more) load.0 = ap (λ (o : Option Load). option_map_or (load_rows (entries ++ more)) o 0) (load_stays entries more j load.0 load.1) in
+    let before : option_map_or (load_rows entries) (load_at entries j) 0 ≡ load_rows entries load.0 = ap (λ (o : Option Load). option_map_or (load_rows entries) o 0) load.1 in
     ap (λ (n : ℕ). if who.seat == seat then n else 0) (later ∙ cost_stays setting entries more j load.0 legal load.1 ∙ sym before)
 
 -- the delivered rows of a history that goes on
@@ -92,10 +98,10 @@ count_done before after job read legal is seat small grown count =
     let own : (job.who.seat == 1) ≡ true = eq-eqb job.who.seat 1 seat in
     let found : load_at (before.entries ++ Done job.who job.load ∷ []) job.load ≡ Some is.load = load_on before.entries (Done job.who job.load) job.load is.load is.flies.started in
     let here : rows_by (before.entries ++ Done job.who job.load ∷ []) 1 (Done job.who job.load) ≡ length (rows_in job.snapshot) =
-    ap (λ (b : Bool). if b then option_map_or (cost (before.entries ++ Done job.who job.load ∷ [])) (load_at (before.entries ++ Done job.who job.load ∷ []) job.load) 0 else 0) own
-    ∙ ap (λ (o : Option Load). option_map_or (cost (before.entries ++ Done job.who job.load ∷ [])) o 0) found
+    ap (λ (b : Bool). if b then option_map_or (load_rows (before.entries ++ Done job.who job.load ∷ [])) (load_at (before.entries ++ Done job.who job.load ∷ []) job.load) 0 else 0) own
+    ∙ ap (λ (o : Option Load). option_map_or (load_rows (before.entries ++ Done job.who job.load ∷ [])) o 0) found
     ∙ cost_stays before.setting before.entries (Done job.who job.load ∷ []) job.load is.load legal is.flies.started
-    ∙ sym is.costs in
+    ∙ sym (job_costs before job is) in
     let one : sum_by (rows_by (before.entries ++ Done job.who job.load ∷ []) 1) (Done job.who job.load ∷ []) ≡ rows_by (before.entries ++ Done job.who job.load ∷ []) 1 (Done job.who job.load) + 0 =
     sum_by-cons (rows_by (before.entries ++ Done job.who job.load ∷ []) 1) (Done job.who job.load) [] in
     let whole = delivered_on before.setting before.entries (Done job.who job.load ∷ []) 1 legal in
@@ -107,20 +113,22 @@ count_done before after job read legal is seat small grown count =
     } in
     subst (λ (es : List Entry). IsCount es (read + length (rows_in job.snapshot))) (sym grown) next
 
-idle_rows : (entries : List Entry) (e : Entry) → ((actor e).seat == 1) ≡ false → rows_by entries 1 e ≡ 0
+idle_rows : (entries : List Entry) (e : Entry) → is_of_seat 1 e ≡ false → rows_by entries 1 e ≡ 0
 idle_rows entries (Append who cube version rows) other = refl
+idle_rows entries (Agg who table v) other = refl
 idle_rows entries (Flush who region) other = refl
 idle_rows entries (Start load) other = refl
 idle_rows entries (Drop who j) other = refl
+idle_rows entries (Evict j) other = refl
 idle_rows entries (Answer who cells) other = refl
 idle_rows entries (Saw who) other = refl
-idle_rows entries (Done who j) other = ap (λ (b : Bool). if b then option_map_or (cost entries) (load_at entries j) 0 else 0) other
+idle_rows entries (Done who j) other = ap (λ (b : Bool). if b then option_map_or (load_rows entries) (load_at entries j) 0 else 0) other
 
 none_delivered : (entries es : List Entry) → entries_of es 1 ≡ [] → All (λ e. rows_by entries 1 e ≡ 0) es
 none_delivered entries [] unused = All-nil (λ e. rows_by entries 1 e ≡ 0)
-none_delivered entries (e ∷ es) unused = by ((actor e).seat == 1) refl unused (none_delivered entries es)
+none_delivered entries (e ∷ es) unused = by (is_of_seat 1 e) refl unused (none_delivered entries es)
   where
-    by : (b : Bool) → ((actor e).seat == 1) ≡ b → entries_of (e ∷ es) 1 ≡ [] → (entries_of es 1 ≡ [] → All (λ o. rows_by entries 1 o ≡ 0) es) → All (λ o. rows_by entries 1 o ≡ 0) (e ∷ es)
+    by : (b : Bool) → is_of_seat 1 e ≡ b → entries_of (e ∷ es) 1 ≡ [] → (entries_of es 1 ≡ [] → All (λ o. rows_by entries 1 o ≡ 0) es) → All (λ o. rows_by entries 1 o ≡ 0) (e ∷ es)
     by true at some rest = let has : e ∷ entries_of es 1 ≡ [] = rw at at some in absurd (cc)
     by false at some rest = All-cons (λ o. rows_by entries 1 o ≡ 0) e es (idle_rows entries e at) (rest (rw at at some))
 

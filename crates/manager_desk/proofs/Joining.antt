@@ -11,14 +11,16 @@ use Rattle.olap_meaning.specs.declared.cells.Cell.{Cell}
 use Rattle.olap_meaning.specs.declared.cells.Who.{Who}
 use Rattle.olap_meaning.specs.declared.tables.Setting.{Setting}
 use Rattle.olap_meaning.specs.Covering.{among}
-use Rattle.olap_meaning.specs.History.{Entry, Append, Flush, Start, Done, Drop, Answer, Saw, Load, delivers, exact_source, flushes, flying, kept, started}
+use Rattle.olap_meaning.specs.History.{Entry, Append, Agg, Flush, Start, Done, Drop, Evict, Answer, Saw, Load, delivers, evicts, exact_source, flushes, flying, is_some_and, kept, started}
 use Rattle.olap_meaning.specs.Legal.{Legal, is_call_below, is_call_of, is_cell, is_next_call}
 use Rattle.segment_load.specs.Loads.{JobOf}
+use Rattle.olap_meaning.proofs.Loads.{kept_from}
+use Rattle.olap_meaning.proofs.Steps.{none_evicted}
 use Rattle.history_core.specs.declared.answers.Answer.{Answer as Told}
 use Rattle.history_core.specs.Answers.{HasSource, IsAnswer, SomeWants, source_of}
 use Rattle.history_core.specs.Cache.{CacheOf}
 use Rattle.history_core.specs.Groups.{loads_for, numbers_from, wanting}
-use Rattle.history_core.specs.Seats.{NoneFlies, actor}
+use Rattle.history_core.specs.Seats.{NoneFlies, actor, is_of_seat}
 use Rattle.cache_manager.specs.Jobs.{IsJobOf}
 use Rattle.cache_manager.proofs.Pushes.{flying_back}
 use Rattle.cache_manager.proofs.Ready.{delivered_looks_are_ready}
@@ -50,10 +52,12 @@ only_started entries after loads jobs idle grown numbers j h =
 -- parts of loads are no calls
 part_uncalled : (e : Entry) (seat : ℕ) → is_of_load e ≡ true → is_call_of seat e ≡ false
 part_uncalled (Append w c v r) seat h = absurd (cc)
+part_uncalled (Agg w t v) seat h = absurd (cc)
 part_uncalled (Flush w r) seat h = absurd (cc)
 part_uncalled (Start l) seat h = refl
 part_uncalled (Done w j) seat h = refl
 part_uncalled (Drop w j) seat h = refl
+part_uncalled (Evict j) seat h = absurd (cc)
 part_uncalled (Answer w cs) seat h = absurd (cc)
 part_uncalled (Saw w) seat h = absurd (cc)
 
@@ -136,20 +140,26 @@ dones_deliver : (who : Who) (ns : List ℕ) (j : ℕ) → among ns j ≡ true �
 dones_deliver who [] j h = h
 dones_deliver who (n ∷ ns) j h = elim (or_cases (n == j) (among ns j) h) [ inl here ↦ or_left _ _ here | inr there ↦ or_right _ _ (dones_deliver who ns j there) ]
 
-dones_keep : (before starts : List Entry) (who : Who) (all ns : List ℕ) → ((j : ℕ) → among ns j ≡ true → among all j ≡ true) → All (λ j. IsTrue (kept (before ++ (starts ++ map (Done who) all)) j)) ns
-dones_keep before starts who all [] into = All-nil _
-dones_keep before starts who all (n ∷ ns) into =
+dones_evict_none : (j : ℕ) (who : Who) (ns : List ℕ) → list_any (evicts j) (map (Done who) ns) ≡ false
+dones_evict_none j who [] = refl
+dones_evict_none j who (n ∷ ns) = dones_evict_none j who ns
+
+dones_keep : (before starts : List Entry) (who : Who) (all ns : List ℕ) → ((j : ℕ) → list_any (evicts j) (before ++ (starts ++ map (Done who) all)) ≡ false) → ((j : ℕ) → among ns j ≡ true → among all j ≡ true) → All (λ j. IsTrue (kept (before ++ (starts ++ map (Done who) all)) j)) ns
+dones_keep before starts who all [] stays into = All-nil _
+dones_keep before starts who all (n ∷ ns) stays into =
     All-cons (λ j. IsTrue (kept (before ++ (starts ++ map (Done who) all)) j)) n ns
+    (kept_from (before ++ (starts ++ map (Done who) all)) n
     (list_any-append (delivers n) before (starts ++ map (Done who) all)
     ∙ or_right _ _ (list_any-append (delivers n) starts (map (Done who) all) ∙ or_right _ _ (dones_deliver who all n (into n (or_left _ _ (eq-eqb n n refl))))))
-    (dones_keep before starts who all ns (λ j h. into j (or_right (n == j) (among ns j) h)))
+    (stays n))
+    (dones_keep before starts who all ns stays (λ j h. into j (or_right (n == j) (among ns j) h)))
 
 -- where the loads of a look were all delivered, each of its cells has a source
-pub ready_again : (before after : CacheOf) (who : Who) (cells : List Cell) → list_all (is_cell before.setting.catalog) cells ≡ true → after.setting ≡ before.setting → after.entries ≡ before.entries ++ loads_delivered before who cells → All (HasSource after) cells
-ready_again before after who cells known same grown =
+pub ready_again : (before after : CacheOf) (who : Who) (cells : List Cell) → Legal after.setting after.entries → list_all (is_cell before.setting.catalog) cells ≡ true → after.setting ≡ before.setting → after.entries ≡ before.entries ++ loads_delivered before who cells → All (HasSource after) cells
+ready_again before after who cells legal known same grown =
     subst (λ (cache : CacheOf). All (HasSource cache) cells) (sym (same_cache after (with_more before (loads_delivered before who cells)) same grown))
-    (delivered_looks_are_ready before who cells (map (Done who) (load_numbers before who cells)) known (none cells)
-    (dones_keep before.entries (map Start (loads_for before who cells)) who (load_numbers before who cells) (load_numbers before who cells) (λ j h. h)))
+    (delivered_looks_are_ready before who cells (map (Done who) (load_numbers before who cells)) known (none cells) (λ j. dones_evict_none j who (load_numbers before who cells))
+    (dones_keep before.entries (map Start (loads_for before who cells)) who (load_numbers before who cells) (load_numbers before who cells) (λ j. ap (list_any (evicts j)) (sym grown) ∙ none_evicted after.setting after.entries legal j) (λ j h. h)))
   where
     none : (some : List Cell) → All (λ cell. list_any (flushes cell) (map (Done who) (load_numbers before who cells)) ≡ false) some
     none [] = All-nil _
@@ -204,7 +214,7 @@ module _ (before middle : CacheOf) (who : Who) (cells : List Cell) (jobs : List 
 
   -- what the jobs read, beside the rows of what came after the Starts
   pub read_by_starts :
-      (after rest : List Entry) → after ≡ middle.entries ++ rest → All (λ e. (actor e).seat ≡ 1) (map Start (loads_for before who cells) ++ rest)
+      (after rest : List Entry) → after ≡ middle.entries ++ rest → All (λ e. is_of_seat 1 e ≡ true) (map Start (loads_for before who cells) ++ rest)
       → rows_started 1 before.entries after ≡ sum_by rows_of_job jobs + sum_by (rows_to_read after) rest
   read_by_starts after rest grown own =
       let joined : after ≡ (before.entries ++ map Start (loads_for before who cells)) ++ rest = grown ∙ ap (λ (es : List Entry). es ++ rest) look.entries in
@@ -217,19 +227,19 @@ module _ (before middle : CacheOf) (who : Who) (cells : List Cell) (jobs : List 
 
   -- where they were all delivered and the cells were answered, just the jobs' rows were read
   pub read_in_all :
-      (after : List Entry) (answer : Entry) → who.seat ≡ 1 → actor answer ≡ who → ((es : List Entry) → rows_to_read es answer ≡ 0) → after ≡ (middle.entries ++ map done_of jobs) ++ answer ∷ []
+      (after : List Entry) (answer : Entry) → who.seat ≡ 1 → actor answer ≡ Some who → ((es : List Entry) → rows_to_read es answer ≡ 0) → after ≡ (middle.entries ++ map done_of jobs) ++ answer ∷ []
       → rows_started 1 before.entries after ≡ sum_by rows_of_job jobs
   read_in_all after answer seat own none grown =
       let dones : map done_of jobs ≡ map (Done who) (load_numbers before who cells) = dones_of_call who jobs jobs_own ∙ ap (map (Done who)) look.numbers in
       let parts : All (IsPartOf who) (map Start (loads_for before who cells) ++ map done_of jobs) =
       subst (λ (es : List Entry). All (IsPartOf who) (map Start (loads_for before who cells) ++ es)) (sym dones)
       (look_parts before who cells (map (Done who) (load_numbers before who cells)) (dones_are_ends who (load_numbers before who cells))) in
-      let last : All (λ e. (actor e).seat ≡ 1) (answer ∷ []) =
-      All-cons (λ e. (actor e).seat ≡ 1) answer [] (ap (λ (w : Who). w.seat) own ∙ seat) (All-nil (λ e. (actor e).seat ≡ 1)) in
-      let all : All (λ e. (actor e).seat ≡ 1) ((map Start (loads_for before who cells) ++ map done_of jobs) ++ answer ∷ []) =
-      All-append (λ e. (actor e).seat ≡ 1) (map Start (loads_for before who cells) ++ map done_of jobs) (answer ∷ []) (parts_seat who 1 (map Start (loads_for before who cells) ++ map done_of jobs) seat parts) last in
+      let last : All (λ e. is_of_seat 1 e ≡ true) (answer ∷ []) =
+      All-cons (λ e. is_of_seat 1 e ≡ true) answer [] (ap (is_some_and (λ (w : Who). w.seat == 1)) own ∙ eq-eqb who.seat 1 seat) (All-nil (λ e. is_of_seat 1 e ≡ true)) in
+      let all : All (λ e. is_of_seat 1 e ≡ true) ((map Start (loads_for before who cells) ++ map done_of jobs) ++ answer ∷ []) =
+      All-append (λ e. is_of_seat 1 e ≡ true) (map Start (loads_for before who cells) ++ map done_of jobs) (answer ∷ []) (parts_seat who 1 (map Start (loads_for before who cells) ++ map done_of jobs) seat parts) last in
       let read = read_by_starts after (map done_of jobs ++ answer ∷ []) (grown ∙ append_assoc middle.entries (map done_of jobs) (answer ∷ []))
-      (subst (λ (es : List Entry). All (λ e. (actor e).seat ≡ 1) es) (append_assoc (map Start (loads_for before who cells)) (map done_of jobs) (answer ∷ [])) all) in
+      (subst (λ (es : List Entry). All (λ e. is_of_seat 1 e ≡ true) es) (append_assoc (map Start (loads_for before who cells)) (map done_of jobs) (answer ∷ [])) all) in
       let split = sum_by-append (rows_to_read after) (map done_of jobs) (answer ∷ []) in
       let one : sum_by (rows_to_read after) (answer ∷ []) ≡ rows_to_read after answer + 0 = sum_by-cons (rows_to_read after) answer [] in
       let nothing : rows_to_read after answer ≡ 0 = none after in

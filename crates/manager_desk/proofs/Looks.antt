@@ -118,7 +118,7 @@ are_loads_for before who cells ends idle are =
 pub no_loads_for : (before : CacheOf) (who : Who) (cells : List Cell) → AreLoadsFor before who cells []
 no_loads_for before who cells = record {
   parts = refl;
-  call = λ entry has. All-contains (λ e. actor e ≡ who) [] entry (All-nil (λ e. actor e ≡ who)) has;
+  call = λ entry has. All-contains (λ e. actor e ≡ Some who) [] entry (All-nil (λ e. actor e ≡ Some who)) has;
   starts = λ p load late at _.
       let within = load_within before.entries p load (ap (λ (es : List Entry). load_at es p) (sym (append-nil before.entries)) ∙ at) in
       absurd (omega (arith, late, within.1));

@@ -1,32 +1,32 @@
 -- The parts of the loads of one call are all of its seat.
-use Rattle.std.proofs.Common.{◌≡◌, refl, sym, ◌∙◌, ap, subst, ℕ, List, [], ◌∷◌, ◌++◌, map, true, ◌==◌, inl, inr, None, All}
+use Rattle.std.proofs.Common.{◌≡◌, refl, sym, ◌∙◌, ap, subst, ℕ, List, [], ◌∷◌, ◌++◌, map, true, ◌==◌, inl, inr, None, Some, All}
 use Rattle.std.specs.List.{list_all}
 use Rattle.std.proofs.lemmas.Bool.{and_from, eq-eqb}
 use Rattle.std.proofs.lemmas.List.Elements.{All-cons, All-head, All-map, All-nil, All-tail, All-weaker}
 use Rattle.olap_meaning.specs.declared.cells.Cell.{Cell}
 use Rattle.olap_meaning.specs.declared.cells.Who.{Who}
-use Rattle.olap_meaning.specs.History.{Entry, Load, Start, Done, Drop, started}
+use Rattle.olap_meaning.specs.History.{Entry, Load, Start, Done, Drop, started, is_some_and}
 use Rattle.segment_load.specs.Loads.{JobOf}
 use Rattle.history_core.specs.Cache.{CacheOf}
 use Rattle.history_core.specs.Groups.{firsts, load_for, loads_for, wanting}
-use Rattle.history_core.specs.Seats.{actor, entries_of}
+use Rattle.history_core.specs.Seats.{actor, is_of_seat, entries_of}
 use Rattle.line_session.specs.Desks.{AreEnds, is_start_or_done, is_of_load}
 use Rattle.manager_desk.specs.Ends.{AreEndsOf, done_of}
 
 -- an entry is a part of a load of a call
 pub record IsPartOf (who : Who) (entry : Entry) : Type 0 where
   pub part : is_of_load entry ≡ true
-  pub own : actor entry ≡ who
+  pub own : actor entry ≡ Some who
 
 -- the entries of a seat, where all are
-pub own_entries : (seat : ℕ) (es : List Entry) → All (λ e. (actor e).seat ≡ seat) es → entries_of es seat ≡ es
+pub own_entries : (seat : ℕ) (es : List Entry) → All (λ e. is_of_seat seat e ≡ true) es → entries_of es seat ≡ es
 own_entries seat [] all = refl
 own_entries seat (e ∷ es) all =
-    let here : ((actor e).seat == seat) ≡ true = eq-eqb _ _ (All-head (λ o. (actor o).seat ≡ seat) e es all) in
-    rw here (ap (λ (xs : List Entry). e ∷ xs) (own_entries seat es (All-tail (λ o. (actor o).seat ≡ seat) e es all)))
+    let here : is_of_seat seat e ≡ true = All-head (λ o. is_of_seat seat o ≡ true) e es all in
+    rw here (ap (λ (xs : List Entry). e ∷ xs) (own_entries seat es (All-tail (λ o. is_of_seat seat o ≡ true) e es all)))
 
-pub parts_seat : (who : Who) (seat : ℕ) (es : List Entry) → who.seat ≡ seat → All (IsPartOf who) es → All (λ e. (actor e).seat ≡ seat) es
-parts_seat who seat es at all = All-weaker (IsPartOf who) (λ e. (actor e).seat ≡ seat) (λ e is. ap (λ (w : Who). w.seat) is.own ∙ at) es all
+pub parts_seat : (who : Who) (seat : ℕ) (es : List Entry) → who.seat ≡ seat → All (IsPartOf who) es → All (λ e. is_of_seat seat e ≡ true) es
+parts_seat who seat es at all = All-weaker (IsPartOf who) (λ e. is_of_seat seat e ≡ true) (λ e is. ap (is_some_and (λ (w : Who). w.seat == seat)) is.own ∙ eq-eqb who.seat seat at) es all
 
 pub parts_all : (who : Who) (es : List Entry) → All (IsPartOf who) es → list_all is_of_load es ≡ true
 parts_all who [] all = refl
@@ -41,7 +41,7 @@ pub loads_own : (cache : CacheOf) (who : Who) (cells : List Cell) → All (λ lo
 loads_own cache who cells = for_call cache who (wanting cache.entries cells) (firsts [] (wanting cache.entries cells))
 
 pub starts_parts : (who : Who) (loads : List Load) → All (λ load. load.who ≡ who) loads → All (IsPartOf who) (map Start loads)
-starts_parts who loads own = All-map (IsPartOf who) Start loads (All-weaker (λ load. load.who ≡ who) (λ load. IsPartOf who (Start load)) (λ load is. record { part = refl; own = is }) loads own)
+starts_parts who loads own = All-map (IsPartOf who) Start loads (All-weaker (λ load. load.who ≡ who) (λ load. IsPartOf who (Start load)) (λ load is. record { part = refl; own = ap (λ (w : Who). Some w) is }) loads own)
 
 pub ends_parts : (who : Who) (ns : List ℕ) (es : List Entry) → AreEnds who ns es → All (IsPartOf who) es
 ends_parts who [] [] are = All-nil (IsPartOf who)

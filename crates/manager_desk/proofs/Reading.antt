@@ -1,5 +1,5 @@
 -- What the jobs of a look read is what its loads cost, and each job is of its call.
-use Rattle.std.proofs.Common.{◌≡◌, refl, sym, ◌∙◌, ap, subst, ℕ, suc, ◌+◌, List, [], ◌∷◌, ◌++◌, append_assoc, length, map, drop, Some, slice_get, arith, All}
+use Rattle.std.proofs.Common.{◌≡◌, refl, sym, ◌∙◌, ap, subst, ℕ, suc, ◌+◌, List, [], ◌∷◌, ◌++◌, append_assoc, length, map, drop, true, Some, slice_get, arith, All}
 use Rattle.std.specs.Prelude.{sum_by}
 use Rattle.std.proofs.lemmas.List.{length-append}
 use Rattle.std.proofs.lemmas.List.Elements.{All-cons, All-head, All-nil, All-tail}
@@ -9,15 +9,15 @@ use Rattle.olap_meaning.specs.declared.cells.Who.{Who}
 use Rattle.olap_meaning.specs.declared.tables.Setting.{Setting}
 use Rattle.olap_meaning.specs.History.{Entry, Start, Load, load_at}
 use Rattle.olap_meaning.specs.Legal.{Legal}
-use Rattle.olap_meaning.specs.Worth.{cost}
+use Rattle.olap_meaning.specs.Worth.{load_rows}
 use Rattle.olap_meaning.proofs.Loads.{start_load}
 use Rattle.segment_load.specs.Loads.{JobOf}
 use Rattle.history_core.specs.Groups.{numbers_from}
-use Rattle.history_core.specs.Seats.{actor, entries_of}
+use Rattle.history_core.specs.Seats.{is_of_seat, entries_of}
 use Rattle.cache_manager.specs.Jobs.{IsJobOf}
 use Rattle.line_session.specs.Desks.{rows_to_read, rows_started}
 use Rattle.manager_desk.specs.Ends.{done_of, rows_of_job}
-use Rattle.manager_desk.proofs.Counting.{cost_stays}
+use Rattle.manager_desk.proofs.Counting.{cost_stays, job_costs}
 use Rattle.manager_desk.proofs.Own.{own_entries}
 
 get_seam : (entries rest : List Entry) (entry : Entry) → slice_get (entries ++ entry ∷ rest) (length entries) ≡ Some entry
@@ -61,8 +61,8 @@ jobs_are setting entries (load ∷ loads) (job ∷ jobs) who rest n legal at num
     same : is.load ≡ load
     same = job_load setting entries load (map Start loads) job is (number ∙ at)
 
-    here : rows_of_job job ≡ cost final load
-    here = is.costs ∙ sym (cost_stays setting whole rest job.load is.load legal is.flies.started) ∙ ap (cost final) same
+    here : rows_of_job job ≡ load_rows final load
+    here = job_costs (record { setting = setting; entries = whole }) job is ∙ sym (cost_stays setting whole rest job.load is.load legal is.flies.started) ∙ ap (load_rows final) same
 
     whose : job.who ≡ who
     whose = sym is.flies.own ∙ ap (λ (l : Load). l.who) same ∙ All-head (λ l. l.who ≡ who) load loads own
@@ -82,12 +82,12 @@ jobs_are setting entries (load ∷ loads) (job ∷ jobs) who rest n legal at num
         (All-tail (λ l. l.who ≡ who) load loads own) in (
           All-cons (λ j. j.who ≡ who) job jobs whose others.0,
           sum_by-cons rows_of_job job jobs ∙ ap (λ (m : ℕ). m + sum_by rows_of_job jobs) here
-              ∙ ap (λ (m : ℕ). cost final load + m) (others.1 ∙ ap (λ (es : List Entry). sum_by (rows_to_read (es ++ rest)) (map Start loads)) joined)
+              ∙ ap (λ (m : ℕ). load_rows final load + m) (others.1 ∙ ap (λ (es : List Entry). sum_by (rows_to_read (es ++ rest)) (map Start loads)) joined)
               ∙ sym (sum_by-cons (rows_to_read final) (Start load) (map Start loads)),
         )
 
 -- the rows of the loads that a seat has started, where all that was added is its own
-pub rows_started_are : (before final : List Entry) (starts rest : List Entry) → final ≡ before ++ (starts ++ rest) → All (λ e. (actor e).seat ≡ 1) (starts ++ rest) → rows_started 1 before final ≡ sum_by (rows_to_read final) starts + sum_by (rows_to_read final) rest
+pub rows_started_are : (before final : List Entry) (starts rest : List Entry) → final ≡ before ++ (starts ++ rest) → All (λ e. is_of_seat 1 e ≡ true) (starts ++ rest) → rows_started 1 before final ≡ sum_by (rows_to_read final) starts + sum_by (rows_to_read final) rest
 rows_started_are before final starts rest grown own =
     ap (λ (es : List Entry). sum_by (rows_to_read final) (entries_of (drop (length before) es) 1)) grown
     ∙ ap (λ (es : List Entry). sum_by (rows_to_read final) (entries_of es 1)) (drop-append_seam before (starts ++ rest))

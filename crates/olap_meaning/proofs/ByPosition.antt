@@ -5,18 +5,20 @@ use Rattle.std.proofs.lemmas.Bool.{both_ways, and_parts, and_from, not_from_fals
 use Rattle.olap_meaning.specs.declared.cells.Who.{Who}
 use Rattle.olap_meaning.specs.declared.cells.Cell.{Cell}
 use Rattle.olap_meaning.specs.Covering.{header_covers, just_covers}
-use Rattle.olap_meaning.specs.History.{Entry, Append, Flush, Start, Done, Drop, Answer, Saw, Load, entry_at, is_some_and, load_at, flushes, flushed_after, live, kept, delivers, awaited, flying, ends, load_covers, version, latest, exact_source, load_just_covers}
+use Rattle.olap_meaning.specs.History.{Entry, Append, Agg, Flush, Start, Done, Drop, Evict, Answer, Saw, Load, entry_at, is_some_and, load_at, flushes, flushed_after, live, kept, delivered, delivers, evicts, awaited, flying, ends, load_covers, version, latest, exact_source, load_just_covers}
 use Rattle.olap_meaning.specs.Equivalents.{IsGreatestFlushed, FloorIsGreatest, IsLive, LiveIsByPosition, IsAwaited, AwaitedIsByPosition, IsExactSource, ExactSourceIsGreatest}
 use Rattle.olap_meaning.proofs.Positions.{passes_after, after_passes, latest_found, latest_bounds, entry_within}
-use Rattle.olap_meaning.proofs.Loads.{some_and, live_parts, live_load, load_start, start_load}
+use Rattle.olap_meaning.proofs.Loads.{some_and, kept_parts, kept_from, live_parts, live_load, load_start, start_load}
 use Rattle.olap_meaning.proofs.Versions.{versions_rise}
 
 delivery : (entry : Entry) (j : ℕ) → delivers j entry ≡ true → (who : Who) × (entry ≡ Done who j)
 delivery (Append w c v r) j h = absurd (cc)
+delivery (Agg w t v) j h = absurd (cc)
 delivery (Flush w r) j h = absurd (cc)
 delivery (Start l) j h = absurd (cc)
 delivery (Done w k) j h = (w, ap (λ n. Done w n) (eqb-true k j h))
 delivery (Drop w k) j h = absurd (cc)
+delivery (Evict k) j h = absurd (cc)
 delivery (Answer w cs) j h = absurd (cc)
 delivery (Saw w) j h = absurd (cc)
 
@@ -26,7 +28,8 @@ from_live history j cell h =
     record {
       load = load.0;
       starts = load_start history j load.0 load.1;
-      delivered = done (after_passes (delivers j) 0 history (live_parts history j cell h).0);
+      delivered = done (after_passes (delivers j) 0 history (kept_parts history j (live_parts history j cell h).0).0);
+      unevicted = λ p entry at. false_from_ne_true _ (λ e. both_ways _ (kept_parts history j (live_parts history j cell h).0).1 (passes_after (evicts j) 0 history p entry at (omega (arith, (entry_within history p entry at).0)) e));
       covers = load.2;
       unflushed = λ p entry l at. false_from_ne_true _ (λ f. both_ways _ (live_parts history j cell h).2 (passes_after (flushes cell) j history p entry at l f));
     }
@@ -38,10 +41,18 @@ to_live : (history : List Entry) (j : ℕ) (cell : Cell) → IsLive history j ce
 to_live history j cell is =
     and_from (kept history j && load_covers history j cell) (not (flushed_after history j cell))
     (and_from (kept history j) (load_covers history j cell)
-    (passes_after (delivers j) 0 history is.delivered.0 (Done is.delivered.1 j) is.delivered.2 (omega (arith, (entry_within history is.delivered.0 (Done is.delivered.1 j) is.delivered.2).0)) (eq-eqb j j refl))
+    (kept_from history j came (false_from_ne_true _ stays))
     (ap (is_some_and (λ load. header_covers load.header cell)) (start_load history j is.load is.starts) ∙ is.covers))
     (not_from_false (flushed_after history j cell) (false_from_ne_true _ none))
   where
+    came : delivered history j ≡ true
+    came = passes_after (delivers j) 0 history is.delivered.0 (Done is.delivered.1 j) is.delivered.2 (omega (arith, (entry_within history is.delivered.0 (Done is.delivered.1 j) is.delivered.2).0)) (eq-eqb j j refl)
+
+    stays : list_any (evicts j) history ≡ true → ⊥
+    stays f =
+        let found : (q : ℕ) × (e : Entry) × (entry_at history q ≡ Some e) × (0 < q) × (evicts j e ≡ true) = after_passes (evicts j) 0 history f in
+        both_ways _ (is.unevicted found.0 found.1 found.2) found.4
+
     none : flushed_after history j cell ≡ true → ⊥
     none f =
         let found : (q : ℕ) × (e : Entry) × (entry_at history q ≡ Some e) × (j < q) × (flushes cell e ≡ true) = after_passes (flushes cell) j history f in

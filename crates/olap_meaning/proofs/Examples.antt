@@ -1,5 +1,5 @@
 -- Cases worked by hand: what the definitions say of a small history and a small catalog.
-use Rattle.std.proofs.Common.{Ok, Err, ◌≡◌, refl, ℕ, List, [], ◌∷◌, true, false, Some, None, take, codes, pos, negsuc}
+use Rattle.std.proofs.Common.{Ok, Err, ◌≡◌, refl, ℕ, List, [], ◌∷◌, ◌++◌, true, false, Some, None, take, codes, pos, negsuc}
 use Rattle.olap_meaning.specs.declared.cells.Who.{Who}
 use Rattle.olap_meaning.specs.declared.cells.Cell.{Cell}
 use Rattle.olap_meaning.specs.declared.cells.Allowed.{Allowed}
@@ -10,7 +10,7 @@ use Rattle.olap_meaning.specs.declared.Aggregator.TheVariants.{Sum, Avg}
 use Rattle.olap_meaning.specs.declared.CellValue.TheVariants.{Empty, Whole, Hundredths}
 use Rattle.olap_meaning.specs.declared.tables.Row.{Row}
 use Rattle.olap_meaning.specs.Values.{aggregate, rounded}
-use Rattle.olap_meaning.specs.History.{Entry, Append, Flush, Start, Done, floor, live, awaited, exact_source}
+use Rattle.olap_meaning.specs.History.{Entry, Append, Flush, Start, Done, Evict, floor, kept, live, awaited, exact_source, shutting, flush_count}
 use Rattle.olap_meaning.specs.Worth.{value}
 use Rattle.olap_meaning.specs.Legal.{is_row, is_cell, is_flushable}
 use Rattle.olap_meaning.specs.declared.tables.Catalog.{Catalog}
@@ -80,6 +80,22 @@ floor_of_year = refl
 
 floor_of_q2 : floor history q2 ≡ 0
 floor_of_q2 = refl
+
+-- the flush of a quarter concerns the load of another quarter, and does not touch it
+shut_q2 : shutting history 6 ≡ first_quarter ∷ []
+shut_q2 = refl
+
+untouched_q2 : flush_count history 6 ≡ 0
+untouched_q2 = refl
+
+touched_year : flush_count history 2 ≡ 1
+touched_year = refl
+
+evicted : kept (history ++ Evict 4 ∷ []) 4 ≡ false
+evicted = refl
+
+evicted_q2 : exact_source (history ++ Evict 6 ∷ []) q2 ≡ Some 4
+evicted_q2 = refl
 
 abbrev pub leaf : List ℕ → List ℕ → List ℕ → Record
 leaf key year quarter = record { key = key; fields = year ∷ quarter ∷ [] }

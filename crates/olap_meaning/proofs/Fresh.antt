@@ -155,7 +155,7 @@ served_at :
 served_at setting history legal i who cells at answered among k in_loads =
     let from : Serve (take i history) answered.cell answered.loads = taken_from setting history legal i who cells at answered among in
     let longer : take (suc i) history ≡ take i history ++ Answer who cells ∷ [] = take-push history i (Answer who cells) at in (
-      ap (λ xs. live xs k answered.cell) longer ∙ live_on (take i history) (Answer who cells) answered.cell k refl (from.each_lives k in_loads),
+      ap (λ xs. live xs k answered.cell) longer ∙ live_on (take i history) (Answer who cells) answered.cell k refl refl (from.each_lives k in_loads),
       ap (λ xs. load_version xs k) longer ∙ version_on (take i history) (Answer who cells ∷ []) k answered.cell (from.each_lives k in_loads) ∙ from.one_version k in_loads
           ∙ sym (ap (option_and_then (load_version (take (suc i) history))) from.is_first ∙ ap (λ xs. load_version xs from.first) longer ∙ version_on (take i history) (Answer who cells ∷ []) from.first answered.cell from.first_lives),
     )

@@ -10,3 +10,4 @@ pub mod Sources
 pub mod Examples
 pub mod Legality
 pub mod Appearances
+pub mod Shutting

@@ -9,7 +9,7 @@ use Rattle.olap_meaning.specs.declared.cells.Header.{Header}
 use Rattle.olap_meaning.specs.declared.cells.Who.{Who}
 use Rattle.olap_meaning.specs.declared.regions.Region.{Region}
 use Rattle.olap_meaning.specs.Covering.{header_covers, region_covers}
-use Rattle.olap_meaning.specs.History.{Entry, Append, Flush, Start, Done, Drop, Answer, Saw, Load, entry_at, is_some_and, started, load_at, load_covers, flushes, flushed_after, kept, live, delivers}
+use Rattle.olap_meaning.specs.History.{Entry, Append, Agg, Flush, Start, Done, Drop, Evict, Answer, Saw, Load, entry_at, is_some_and, started, load_at, load_covers, flushes, flushed_after, kept, live, delivered, delivers, evicts}
 use Rattle.olap_meaning.specs.Laws.{FlushesShutOff, OthersServeOn}
 use Rattle.olap_meaning.proofs.Positions.{entry-append, entry_within, passes_after, get_last}
 
@@ -19,10 +19,12 @@ some_and test (Some x) h = (x, refl, h)
 
 started_is : (e : Entry) (load : Load) → started e ≡ Some load → e ≡ Start load
 started_is (Append w c v r) load h = absurd (cc)
+started_is (Agg w t v) load h = absurd (cc)
 started_is (Flush w r) load h = absurd (cc)
 started_is (Start l) load h = cc
 started_is (Done w j) load h = absurd (cc)
 started_is (Drop w j) load h = absurd (cc)
+started_is (Evict j) load h = absurd (cc)
 started_is (Answer w cs) load h = absurd (cc)
 started_is (Saw w) load h = absurd (cc)
 
@@ -36,6 +38,13 @@ load_start history j load h = start_of (entry_at history j) load h
 
 pub start_load : (history : List Entry) (j : ℕ) (load : Load) → entry_at history j ≡ Some (Start load) → load_at history j ≡ Some load
 start_load history j load h = ap (option_and_then started) h
+
+-- the parts of kept
+pub kept_parts : (history : List Entry) (j : ℕ) → kept history j ≡ true → (delivered history j ≡ true) × (list_any (evicts j) history ≡ false)
+kept_parts history j h = let both : (delivered history j ≡ true) × (not (list_any (evicts j) history) ≡ true) = and_parts (delivered history j) (not (list_any (evicts j) history)) h in (both.0, not-true (list_any (evicts j) history) both.1)
+
+pub kept_from : (history : List Entry) (j : ℕ) → delivered history j ≡ true → list_any (evicts j) history ≡ false → kept history j ≡ true
+kept_from history j came stays = and_from (delivered history j) (not (list_any (evicts j) history)) came (not_from_false (list_any (evicts j) history) stays)
 
 -- the parts of live
 pub live_parts : (history : List Entry) (j : ℕ) (cell : Cell) → live history j cell ≡ true → (kept history j ≡ true) × (load_covers history j cell ≡ true) × (flushed_after history j cell ≡ false)
@@ -80,9 +89,9 @@ flush_shuts_off history who region cell j covers = false_from_ne_true (live (his
         let l : (load : Load) × (load_at (history ++ Flush who region ∷ []) j ≡ Some load) × (header_covers load.header cell ≡ true) = live_load (history ++ Flush who region ∷ []) j cell h in
         both_ways (flushed_after (history ++ Flush who region ∷ []) j cell) (live_parts (history ++ Flush who region ∷ []) j cell h).2 (flushed_last history who region cell j l.0 covers l.1)
 
--- an entry that flushes nothing of a cell leaves each load live for it that was
-pub live_on : (history : List Entry) (entry : Entry) (cell : Cell) (j : ℕ) → flushes cell entry ≡ false → live history j cell ≡ true → live (history ++ entry ∷ []) j cell ≡ true
-live_on history entry cell j misses h =
+-- an entry that flushes nothing of a cell and does not evict a load leaves the load live for it, if it was
+pub live_on : (history : List Entry) (entry : Entry) (cell : Cell) (j : ℕ) → flushes cell entry ≡ false → evicts j entry ≡ false → live history j cell ≡ true → live (history ++ entry ∷ []) j cell ≡ true
+live_on history entry cell j misses stays h =
     and_from (kept after j && load_covers after j cell) (not (flushed_after after j cell))
     (and_from (kept after j) (load_covers after j cell) kept_on covers_on)
     (not_from_false (flushed_after after j cell) not_flushed)
@@ -100,7 +109,9 @@ live_on history entry cell j misses h =
     start = load_start history j load.0 load.1
 
     kept_on : kept after j ≡ true
-    kept_on = list_any-append (delivers j) history (entry ∷ []) ∙ or_left _ _ parts.0
+    kept_on =
+        let both : (delivered history j ≡ true) × (list_any (evicts j) history ≡ false) = kept_parts history j parts.0 in
+        kept_from after j (list_any-append (delivers j) history (entry ∷ []) ∙ or_left _ _ both.0) (list_any-append (evicts j) history (entry ∷ []) ∙ or_from _ _ both.1 (or_from _ _ stays refl))
 
     covers_on : load_covers after j cell ≡ true
     covers_on = ap (is_some_and (λ l. header_covers l.header cell)) (start_load after j load.0 (entry-append history (entry ∷ []) j (Start load.0) start)) ∙ load.2
@@ -112,4 +123,4 @@ live_on history entry cell j misses h =
         ∙ or_from _ _ parts.2 (or_from _ _ misses refl)
 
 pub others_serve_on : OthersServeOn
-others_serve_on history who region cell j misses h = live_on history (Flush who region) cell j misses h
+others_serve_on history who region cell j misses h = live_on history (Flush who region) cell j misses refl h

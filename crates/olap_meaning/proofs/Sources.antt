@@ -7,13 +7,13 @@ use Rattle.std.proofs.lemmas.List.Folds.{list_any-append}
 use Rattle.olap_meaning.specs.declared.cells.Cell.{Cell}
 use Rattle.olap_meaning.specs.declared.tables.Setting.{Setting}
 use Rattle.olap_meaning.specs.Covering.{header_covers, just_covers}
-use Rattle.olap_meaning.specs.History.{Entry, Append, Flush, Start, Done, Drop, Answer, Saw, Load, entry_at, latest, is_some_and, started, load_at, load_covers, load_just_covers, flushes, flushed_after, kept, live, delivers, ends, flying, awaited, awaited_load, exact_source}
+use Rattle.olap_meaning.specs.History.{Entry, Append, Agg, Flush, Start, Done, Drop, Evict, Answer, Saw, Load, entry_at, latest, is_some_and, started, load_at, load_covers, load_just_covers, flushes, flushed_after, delivered, live, delivers, evicts, ends, flying, awaited, awaited_load, exact_source}
 use Rattle.olap_meaning.specs.Legal.{Legal}
-use Rattle.olap_meaning.specs.Growth.{ExactSourceGrows, AwaitedLoadGrows, greater, delivered_for, starts_for}
+use Rattle.olap_meaning.specs.Growth.{ExactSourceGrows, AwaitedLoadGrows, greater, delivered_for, left_for, starts_for}
 use Rattle.olap_meaning.proofs.Positions.{entry_within, entry_from-take, after_passes, get_last, latest_found, latest_bounds, latest_none}
-use Rattle.olap_meaning.proofs.Loads.{some_and, load_start, live_parts, flushed_last, flush_shuts_off}
+use Rattle.olap_meaning.proofs.Loads.{some_and, load_start, kept_parts, live_parts, flushed_last, flush_shuts_off}
 use Rattle.olap_meaning.proofs.Growing.{latest_agree, entry-append-le}
-use Rattle.olap_meaning.proofs.Steps.{ended_flew}
+use Rattle.olap_meaning.proofs.Steps.{ended_flew, none_evicted}
 use Rattle.olap_meaning.proofs.ReachUp.{any_weaker}
 
 -- the latest position that passes, by its two facts
@@ -84,11 +84,15 @@ latest_with n test more j within = by (more j) (latest n test) refl refl
     by true (Some k) m e = by_order (nat_lt j k) k refl m e
 
 -- what one more entry that flushes nothing does to the tests of a load
-live_parts_grow : (del kep cov flu jus : Bool) → (jus ≡ true → cov ≡ true) → ((kep || (del || false)) && cov && not (flu || (false || false)) && jus) ≡ ((del && (jus && not flu)) || ((kep && cov && not flu) && jus))
-live_parts_grow del kep cov flu jus h = grind arith
+live_parts_grow : (del kep cov flu jus out : Bool) → (jus ≡ true → cov ≡ true) → ((((kep || (del || false)) && not (false || (out || false))) && cov && not (flu || (false || false))) && jus) ≡ (((del && (jus && not flu && not false)) || (((kep && not false) && cov && not flu) && jus)) && not out)
+live_parts_grow del kep cov flu jus out h = grind arith
 
 awaited_parts_grow : (ld en x jus flu : Bool) → ((ld && not (en || (x || false))) && jus && not (flu || (false || false))) ≡ (((ld && not en) && jus && not flu) && not x)
 awaited_parts_grow ld en x jus flu = grind arith
+
+and_with : (a b c : Bool) → ((a && b) && c) ≡ (a && b && c)
+and_with true b c = refl
+and_with false b c = refl
 
 and_true : (b : Bool) → (b && true) ≡ b
 and_true true = refl
@@ -96,10 +100,12 @@ and_true false = refl
 
 delivery_ends : (j : ℕ) (e : Entry) → delivers j e ≡ true → ends j e ≡ true
 delivery_ends j (Append w c v r) h = absurd (cc)
+delivery_ends j (Agg w t v) h = absurd (cc)
 delivery_ends j (Flush w r) h = absurd (cc)
 delivery_ends j (Start l) h = absurd (cc)
 delivery_ends j (Done w k) h = h
 delivery_ends j (Drop w k) h = absurd (cc)
+delivery_ends j (Evict k) h = absurd (cc)
 delivery_ends j (Answer w cs) h = absurd (cc)
 delivery_ends j (Saw w) h = absurd (cc)
 
@@ -136,9 +142,9 @@ module _ (history : List Entry) (entry : Entry) (cell : Cell) where
   abbrev serves : List Entry → ℕ → Bool
   serves h k = live h k cell && load_just_covers h k cell
 
-  -- the load covers the cell with just its columns, and no flush since its Start covers the cell
+  -- the load covers the cell with just its columns, no flush since its Start covers the cell, and it was not evicted
   abbrev open_for : ℕ → Bool
-  open_for k = load_just_covers history k cell && not (flushed_after history k cell)
+  open_for k = load_just_covers history k cell && not (flushed_after history k cell) && not (list_any (evicts k) history)
 
   load_stays : (k : ℕ) → k ≤ length history → load_at after k ≡ load_at history k
   load_stays k l = ap (option_and_then started) (entry-append-le history (entry ∷ []) k l)
@@ -151,14 +157,18 @@ module _ (history : List Entry) (entry : Entry) (cell : Cell) where
       ap (list_any (flushes cell)) (drop-append-le k history (entry ∷ []) l) ∙ list_any-append (flushes cell) (drop k history) (entry ∷ [])
       ∙ ap (λ b. flushed_after history k cell || (b || false)) misses
 
-  serves_on : (k : ℕ) → k ≤ length history → flushes cell entry ≡ false → serves after k ≡ ((delivers k entry && open_for k) || serves history k)
-  serves_on k l misses =
-      ap (λ b. b && load_covers after k cell && not (flushed_after after k cell) && load_just_covers after k cell) (any_more (delivers k))
+  serves_on : (k : ℕ) → k ≤ length history → flushes cell entry ≡ false → list_any (evicts k) history ≡ false → serves after k ≡ (((delivers k entry && open_for k) || serves history k) && not (evicts k entry))
+  serves_on k l misses stays =
+      ap (λ b. (b && not (list_any (evicts k) after)) && load_covers after k cell && not (flushed_after after k cell) && load_just_covers after k cell) (any_more (delivers k))
       ∙ ap
-      (λ o. (kept history k || (delivers k entry || false)) && is_some_and (λ load. header_covers load.header cell) o && not (flushed_after after k cell) && is_some_and (λ load. just_covers load.header cell) o)
+      (λ b. ((delivered history k || (delivers k entry || false)) && not b) && load_covers after k cell && not (flushed_after after k cell) && load_just_covers after k cell)
+      (any_more (evicts k) ∙ ap (λ b. b || (evicts k entry || false)) stays)
+      ∙ ap
+      (λ o. ((delivered history k || (delivers k entry || false)) && not (false || (evicts k entry || false))) && is_some_and (λ load. header_covers load.header cell) o && not (flushed_after after k cell) && is_some_and (λ load. just_covers load.header cell) o)
       (load_stays k l)
-      ∙ ap (λ b. (kept history k || (delivers k entry || false)) && load_covers history k cell && not b && load_just_covers history k cell) (flushed_more k l misses)
-      ∙ live_parts_grow (delivers k entry) (kept history k) (load_covers history k cell) (flushed_after history k cell) (load_just_covers history k cell) (just_is_covered cell (load_at history k))
+      ∙ ap (λ b. ((delivered history k || (delivers k entry || false)) && not (false || (evicts k entry || false))) && load_covers history k cell && not b && load_just_covers history k cell) (flushed_more k l misses)
+      ∙ live_parts_grow (delivers k entry) (delivered history k) (load_covers history k cell) (flushed_after history k cell) (load_just_covers history k cell) (evicts k entry) (just_is_covered cell (load_at history k))
+      ∙ ap (λ b. ((delivers k entry && (load_just_covers history k cell && not (flushed_after history k cell) && not b)) || ((delivered history k && not b) && load_covers history k cell && not (flushed_after history k cell) && load_just_covers history k cell)) && not (evicts k entry)) (sym stays)
 
   awaited_on : (k : ℕ) → k ≤ length history → flushes cell entry ≡ false → awaited after k cell ≡ (awaited history k cell && not (ends k entry))
   awaited_on k l misses =
@@ -195,6 +205,7 @@ awaited_parts history k cell h =
 -- a covering flush leaves nothing live or awaited
 flushed_all : (history : List Entry) (e : Entry) (cell : Cell) → flushes cell e ≡ true → (k : ℕ) → (live (history ++ e ∷ []) k cell ≡ false) × (awaited (history ++ e ∷ []) k cell ≡ false)
 flushed_all history (Append w c v r) cell f k = absurd (cc)
+flushed_all history (Agg w t v) cell f k = absurd (cc)
 flushed_all history (Flush w r) cell f k = (flush_shuts_off history w r cell k f, false_from_ne_true (awaited (history ++ Flush w r ∷ []) k cell) none)
   where
     none : awaited (history ++ Flush w r ∷ []) k cell ≡ true → ⊥
@@ -204,6 +215,7 @@ flushed_all history (Flush w r) cell f k = (flush_shuts_off history w r cell k f
 flushed_all history (Start l) cell f k = absurd (cc)
 flushed_all history (Done w j) cell f k = absurd (cc)
 flushed_all history (Drop w j) cell f k = absurd (cc)
+flushed_all history (Evict j) cell f k = absurd (cc)
 flushed_all history (Answer w cs) cell f k = absurd (cc)
 flushed_all history (Saw w) cell f k = absurd (cc)
 
@@ -222,30 +234,40 @@ unserved_last setting history entry cell legal = false_from_ne_true _ (no_load e
 
     no_load : (e : Entry) → load_at (history ++ e ∷ []) n ≡ started e → (live (history ++ e ∷ []) n cell && load_just_covers (history ++ e ∷ []) n cell) ≡ true → ⊥
     no_load (Append w c v r) last h = unloaded (Append w c v r) last h
+    no_load (Agg w t v) last h = unloaded (Agg w t v) last h
     no_load (Flush w r) last h = unloaded (Flush w r) last h
     no_load (Start l) last h =
-        both_ways (kept (history ++ Start l ∷ []) n)
+        both_ways (delivered (history ++ Start l ∷ []) n)
         (any_more history (Start l) cell (delivers n) ∙ or_from _ _ undelivered refl)
-        (live_parts (history ++ Start l ∷ []) n cell (and_parts (live (history ++ Start l ∷ []) n cell) (load_just_covers (history ++ Start l ∷ []) n cell) h).0).0
+        (kept_parts (history ++ Start l ∷ []) n (live_parts (history ++ Start l ∷ []) n cell (and_parts (live (history ++ Start l ∷ []) n cell) (load_just_covers (history ++ Start l ∷ []) n cell) h).0).0).0
     no_load (Done w j) last h = unloaded (Done w j) last h
     no_load (Drop w j) last h = unloaded (Drop w j) last h
+    no_load (Evict j) last h = unloaded (Evict j) last h
     no_load (Answer w cs) last h = unloaded (Answer w cs) last h
     no_load (Saw w) last h = unloaded (Saw w) last h
 
--- the load that an entry delivers, among those that serve a cell
-delivered_among : (history : List Entry) (e : Entry) (cell : Cell) → latest (length history) (λ k. (delivers k e && open_for history e cell k) || serves history e cell history k) ≡ greater (delivered_for history cell e) (exact_source history cell)
-delivered_among history (Append w c v r) cell = refl
-delivered_among history (Flush w r) cell = refl
-delivered_among history (Start l) cell = refl
-delivered_among history (Done w j) cell = latest_with (length history) (serves history (Done w j) cell history) (open_for history (Done w j) cell) j within
+-- the loads that serve a cell behind an entry, by what it delivers and evicts
+abbrev serving : List Entry → Entry → Cell → ℕ → Bool
+serving history e cell k = ((delivers k e && open_for history e cell k) || serves history e cell history k) && not (evicts k e)
+
+-- what an entry delivers or evicts, among the loads that serve a cell
+served_among : (history : List Entry) (e : Entry) (cell : Cell) → latest (length history) (serving history e cell) ≡ greater (delivered_for history cell e) (left_for history cell e)
+served_among history (Append w c v r) cell = latest_agree (length history) _ _ (λ k l. and_true _)
+served_among history (Agg w t v) cell = latest_agree (length history) _ _ (λ k l. and_true _)
+served_among history (Flush w r) cell = latest_agree (length history) _ _ (λ k l. and_true _)
+served_among history (Start l) cell = latest_agree (length history) _ _ (λ k l. and_true _)
+served_among history (Done w j) cell =
+    latest_agree (length history) (serving history (Done w j) cell) (λ k. ((j == k) && open_for history (Done w j) cell k) || serves history (Done w j) cell history k) (λ k l. and_true _)
+    ∙ latest_with (length history) (serves history (Done w j) cell history) (open_for history (Done w j) cell) j within
   where
     within : open_for history (Done w j) cell j ≡ true → (1 ≤ j) × (j ≤ length history)
     within o =
-        let load : (load : Load) × (load_at history j ≡ Some load) × (just_covers load.header cell ≡ true) = some_and (λ load. just_covers load.header cell) (load_at history j) (and_parts _ _ o).0 in
+        let load : (load : Load) × (load_at history j ≡ Some load) × (just_covers load.header cell ≡ true) = some_and (λ load. just_covers load.header cell) (load_at history j) (and_parts _ _ (and_parts _ _ o).0).0 in
         entry_within history j (Start load.0) (load_start history j load.0 load.1)
-delivered_among history (Drop w j) cell = refl
-delivered_among history (Answer w cs) cell = refl
-delivered_among history (Saw w) cell = refl
+served_among history (Drop w j) cell = latest_agree (length history) _ _ (λ k l. and_true _)
+served_among history (Evict j) cell = latest_agree (length history) _ _ (λ k l. and_with (live history k cell) (load_just_covers history k cell) (not (j == k)))
+served_among history (Answer w cs) cell = latest_agree (length history) _ _ (λ k l. and_true _)
+served_among history (Saw w) cell = latest_agree (length history) _ _ (λ k l. and_true _)
 
 pub exact_source_grows : ExactSourceGrows
 exact_source_grows setting history entry cell legal = by (flushes cell entry) refl
@@ -253,13 +275,13 @@ exact_source_grows setting history entry cell legal = by (flushes cell entry) re
     n : ℕ
     n = length history
 
-    by : (b : Bool) → flushes cell entry ≡ b → exact_source (history ++ entry ∷ []) cell ≡ cond b None (greater (delivered_for history cell entry) (exact_source history cell))
+    by : (b : Bool) → flushes cell entry ≡ b → exact_source (history ++ entry ∷ []) cell ≡ cond b None (greater (delivered_for history cell entry) (left_for history cell entry))
     by true f = none_latest (length (history ++ entry ∷ [])) _ (λ k l. ap (λ b. b && load_just_covers (history ++ entry ∷ []) k cell) (flushed_all history entry cell f k).0)
     by false f =
         ap (λ m. latest m (serves history entry cell (history ++ entry ∷ []))) (long history entry cell)
         ∙ ap (λ b. cond b (Some (suc n)) (latest n (serves history entry cell (history ++ entry ∷ [])))) (unserved_last setting history entry cell legal)
-        ∙ latest_agree n (serves history entry cell (history ++ entry ∷ [])) (λ k. (delivers k entry && open_for history entry cell k) || serves history entry cell history k) (λ k l. serves_on history entry cell k l f)
-        ∙ delivered_among history entry cell
+        ∙ latest_agree n (serves history entry cell (history ++ entry ∷ [])) (serving history entry cell) (λ k l. serves_on history entry cell k l f (none_evicted setting history legal k))
+        ∙ served_among history entry cell
 
 -- a load is awaited from its Start on
 awaited_last : (setting : Setting) (history : List Entry) (entry : Entry) (cell : Cell) → Legal setting history → awaited (history ++ entry ∷ []) (suc (length history)) cell ≡ starts_for cell entry
@@ -277,10 +299,12 @@ awaited_last setting history entry cell legal =
 
     by_entry : (e : Entry) → (is_some (started e) && not (false || (ends n e || false)) && is_some_and (λ load. just_covers load.header cell) (started e) && not false) ≡ starts_for cell e
     by_entry (Append w c v r) = refl
+    by_entry (Agg w t v) = refl
     by_entry (Flush w r) = refl
     by_entry (Start l) = and_true (just_covers l.header cell)
     by_entry (Done w j) = refl
     by_entry (Drop w j) = refl
+    by_entry (Evict j) = refl
     by_entry (Answer w cs) = refl
     by_entry (Saw w) = refl
 

@@ -1,12 +1,12 @@
 -- What a legal step tells of loads and calls.
-use Rattle.std.proofs.Common.{◌≡◌, sym, ◌∙◌, ap, subst, ℕ, zero, suc, ◌<◌, ◌≤◌, List, [], ◌∷◌, length, take, Bool, true, false, cond, not, ◌&&◌, ◌==◌, inl, inr, Some, slice_get, arith, is_some, filter, nat_lt}
+use Rattle.std.proofs.Common.{◌≡◌, sym, ◌∙◌, ap, subst, ℕ, zero, suc, refl, ◌<◌, ◌≤◌, List, [], ◌∷◌, length, take, Bool, true, false, cond, not, ◌&&◌, ◌==◌, inl, inr, Some, slice_get, arith, is_some, filter, nat_lt}
 use Rattle.std.specs.List.{list_any, list_all}
 use Rattle.std.proofs.lemmas.Bool.{both_ways, and_parts, and_from, not-true, not_from_false, eqb-true, eq-eqb, ltb-true, cases_order, false_from_ne_true, true_from_ne_false}
 use Rattle.std.proofs.lemmas.List.{take-append-le}
 use Rattle.olap_meaning.specs.declared.cells.Who.{Who}
 use Rattle.olap_meaning.specs.declared.cells.Cell.{Cell}
 use Rattle.olap_meaning.specs.Covering.{just_covers}
-use Rattle.olap_meaning.specs.History.{Entry, Append, Flush, Start, Done, Drop, Answer, Saw, Load, entry_at, is_some_and, load_at, load_just_covers, flushes, flushed_after, flying, awaited, ends}
+use Rattle.olap_meaning.specs.History.{Entry, Append, Agg, Flush, Start, Done, Drop, Evict, Answer, Saw, Load, entry_at, is_some_and, load_at, load_just_covers, flushes, flushed_after, flying, awaited, ends, evicts}
 use Rattle.olap_meaning.specs.declared.tables.Setting.{Setting}
 use Rattle.olap_meaning.specs.Legal.{Legal, LegalStep, is_next_call, is_call_of, is_call_below, caller}
 use Rattle.olap_meaning.specs.Laws.{PrefixesAreLegal, LoadsAreNotDoubled, LoadsEndOnce, CallsRise}
@@ -21,12 +21,37 @@ prefixes_are_legal setting history later legal before entry at =
 -- who ends a load found it flying
 pub ended_flew : (setting : Setting) (history : List Entry) (e : Entry) (j : ℕ) → LegalStep setting history e → ends j e ≡ true → flying history j ≡ true
 ended_flew setting history (Append w c v r) j step h = absurd (cc)
+ended_flew setting history (Agg w t v) j step h = absurd (cc)
 ended_flew setting history (Flush w r) j step h = absurd (cc)
 ended_flew setting history (Start l) j step h = absurd (cc)
 ended_flew setting history (Done w k) j step h = ap (flying history) (sym (eqb-true k j h)) ∙ step.flies
 ended_flew setting history (Drop w k) j step h = ap (flying history) (sym (eqb-true k j h)) ∙ step.flies
+ended_flew setting history (Evict k) j step h = absurd (cc)
 ended_flew setting history (Answer w cs) j step h = absurd (cc)
 ended_flew setting history (Saw w) j step h = absurd (cc)
+
+-- a legal step evicts nothing
+stays_kept : (setting : Setting) (history : List Entry) (e : Entry) (j : ℕ) → LegalStep setting history e → evicts j e ≡ false
+stays_kept setting history (Append w c v r) j step = refl
+stays_kept setting history (Agg w t v) j step = refl
+stays_kept setting history (Flush w r) j step = refl
+stays_kept setting history (Start l) j step = refl
+stays_kept setting history (Done w k) j step = refl
+stays_kept setting history (Drop w k) j step = refl
+stays_kept setting history (Evict k) j step = absurd step
+stays_kept setting history (Answer w cs) j step = refl
+stays_kept setting history (Saw w) j step = refl
+
+-- so in a legal history no load is evicted
+pub none_evicted : (setting : Setting) (history : List Entry) → Legal setting history → (j : ℕ) → list_any (evicts j) history ≡ false
+none_evicted setting history legal j = false_from_ne_true _ none
+  where
+    at : (q : ℕ) (e : Entry) → entry_at history q ≡ Some e → evicts j e ≡ true → ⊥
+    at zero e here h = cc
+    at (suc b) e here h = both_ways (evicts j e) (stays_kept setting (take b history) e j (legal b e here)) h
+
+    none : list_any (evicts j) history ≡ true → ⊥
+    none h = let found : (q : ℕ) × (e : Entry) × (entry_at history q ≡ Some e) × (0 < q) × (evicts j e ≡ true) = after_passes (evicts j) 0 history h in at found.0 found.1 found.2 found.4
 
 flying_open : (history : List Entry) (j : ℕ) → flying history j ≡ true → list_any (ends j) history ≡ false
 flying_open history j h = not-true _ (and_parts (is_some (load_at history j)) (not (list_any (ends j) history)) h).1
@@ -106,10 +131,12 @@ moved history w who h next = ap (is_next_call history) (sym (the_caller w who h)
 
 next_call : (setting : Setting) (history : List Entry) (e : Entry) (who : Who) → LegalStep setting history e → caller e ≡ Some who → is_next_call history who ≡ true
 next_call setting history (Append w c v r) who step h = moved history w who h step.call
+next_call setting history (Agg w t v) who step h = moved history w who h step.call
 next_call setting history (Flush w r) who step h = moved history w who h step.0
 next_call setting history (Start l) who step h = absurd (cc)
 next_call setting history (Done w k) who step h = absurd (cc)
 next_call setting history (Drop w k) who step h = absurd (cc)
+next_call setting history (Evict k) who step h = absurd (cc)
 next_call setting history (Answer w cs) who step h = moved history w who h step.0
 next_call setting history (Saw w) who step h = moved history w who h step
 

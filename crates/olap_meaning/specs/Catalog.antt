@@ -188,6 +188,13 @@ abbrev pub find_agg : Catalog → List ℕ → Option ℕ
 find_agg catalog name =
     match_of name (map (λ table. table.name) catalog.schema.aggregates)
 
+-- the cube of an aggregate table, by the table's place in the schema
+abbrev pub table_cube : Catalog → ℕ → Option ℕ
+table_cube catalog table =
+    option_and_then
+    (λ declared. position (λ cube. bytes_eq declared.cube cube.name) catalog.cubes)
+    (slice_get catalog.schema.aggregates table)
+
 -- the leaf with exactly this primary key
 abbrev pub find_leaf : Catalog → ℕ → List ℕ → Option ℕ
 find_leaf catalog dimension key =

@@ -1,5 +1,5 @@
 -- Which cells a header, a box and a region cover.
-use Rattle.std.specs.Prelude.{ℕ, List, Bool, true, ◌==◌, ◌&&◌, ◌||◌, not, Option, Some, None, ◌≡◌, Contains}
+use Rattle.std.specs.Prelude.{ℕ, List, Bool, true, ◌==◌, ◌&&◌, ◌||◌, not, Option, Some, None, ◌≡◌, Contains, filter, count_by}
 use Rattle.std.specs.List.{list_any, list_all}
 use Rattle.olap_meaning.specs.declared.cells.Cell.{Cell}
 use Rattle.olap_meaning.specs.declared.cells.Header.{Header}
@@ -68,6 +68,20 @@ box_touches box header =
 abbrev pub region_touches : Region → Header → Bool
 region_touches region header =
     (region.cube == header.cube) && list_any (λ box. box_touches box header) region.boxes
+
+-- a region concerns a header: the cube is the header's, and one of its boxes is of the header's measure
+abbrev pub region_concerns : Region → Header → Bool
+region_concerns region header =
+    (region.cube == header.cube)
+    && list_any (λ box. of_measure box.measures header.measure) region.boxes
+
+-- those of some regions that concern a header, in order
+abbrev pub concerning : Header → List Region → List Region
+concerning header regions = filter (λ region. region_concerns region header) regions
+
+-- how many of some regions touch a header
+abbrev pub touching : Header → List Region → ℕ
+touching header regions = count_by (λ region. region_touches region header) regions
 
 -- one cell has fewer columns than another: each of its pairs of column and value is a pair of the other
 pub record HasFewerColumns (fewer more : Cell) : Type 0 where

@@ -3,7 +3,7 @@ use Rattle.std.specs.Prelude.{ℕ, ◌≤◌, ◌<◌, ◌≡◌, ◌⊎◌, ◌
 use Rattle.olap_meaning.specs.declared.cells.Who.{Who}
 use Rattle.olap_meaning.specs.declared.cells.Cell.{Cell}
 use Rattle.olap_meaning.specs.Covering.{header_covers, just_covers}
-use Rattle.olap_meaning.specs.History.{Entry, Start, Done, Load, entry_at, version, live, awaited, floor, flushes, ends, load_just_covers, exact_source}
+use Rattle.olap_meaning.specs.History.{Entry, Start, Done, Load, entry_at, version, live, awaited, floor, flushes, ends, evicts, load_just_covers, exact_source}
 
 -- the greatest version at a flush that covers the cell, and 0 where there is none
 pub record IsGreatestFlushed (history : List Entry) (cell : Cell) (n : ℕ) : Type 0 where
@@ -18,12 +18,14 @@ abbrev pub FloorIsGreatest : Type 0
 FloorIsGreatest =
     (history : List Entry) (cell : Cell) → IsGreatestFlushed history cell (floor history cell)
 
--- position j starts a load that is delivered somewhere, whose header covers the cell, and no later entry is a flush
--- that covers it
+-- position j starts a load that is delivered somewhere and that no entry evicts, whose header covers the cell, and no
+-- later entry is a flush that covers it
 pub record IsLive (history : List Entry) (j : ℕ) (cell : Cell) : Type 0 where
   pub load : Load
   pub starts : entry_at history j ≡ Some (Start load)
   pub delivered : (p : ℕ) × (who : Who) × (entry_at history p ≡ Some (Done who j))
+  pub unevicted : (p : ℕ) (entry : Entry) → entry_at history p ≡ Some entry
+      → IsFalse (evicts j entry)
   pub covers : IsTrue (header_covers load.header cell)
   pub unflushed : (p : ℕ) (entry : Entry) → j < p → entry_at history p ≡ Some entry
       → IsFalse (flushes cell entry)

@@ -1,10 +1,11 @@
 -- How the meanings change with one more entry.
-use Rattle.std.specs.Prelude.{ℕ, suc, ◌+◌, ◌≡◌, List, [], ◌∷◌, ◌++◌, if◌then◌else◌, is_some, Option, Some, None, Bool, not, ◌&&◌, nat_lt, length}
+use Rattle.std.specs.Prelude.{ℕ, suc, ◌+◌, ◌≡◌, List, [], ◌∷◌, ◌++◌, if◌then◌else◌, is_some, Option, Some, None, Bool, not, ◌&&◌, ◌==◌, ◌≤◌, nat_lt, length, option_to_list}
+use Rattle.std.specs.List.{list_any}
 use Rattle.olap_meaning.specs.declared.cells.Cell.{Cell}
 use Rattle.olap_meaning.specs.declared.tables.Setting.{Setting}
-use Rattle.olap_meaning.specs.Covering.{just_covers}
+use Rattle.olap_meaning.specs.Covering.{just_covers, concerning}
 use Rattle.olap_meaning.specs.Legal.{Legal, LegalStep}
-use Rattle.olap_meaning.specs.History.{Entry, Done, version, floor, flushes, flushed_after, appended, started, ends, latest, is_some_and, load_just_covers, exact_source, awaited, awaited_load}
+use Rattle.olap_meaning.specs.History.{Entry, Done, Evict, Load, version, floor, flushes, flushed, flushed_after, evicts, regions_after, shutting, appended, started, ends, latest, is_some_and, load_at, load_just_covers, live, exact_source, awaited, awaited_load}
 
 -- a legal history goes on by a legal step
 abbrev pub LegalGrows : Type 0
@@ -27,10 +28,11 @@ FloorGrows =
     ≡ (if flushes cell entry then version history cell.cube else floor history cell)
 
 -- the load that an entry adds to those that may be the exact source of a cell: one that it delivers, that covers the
--- cell with just its columns, and that was not shut off for it while it flew
+-- cell with just its columns, and that was neither shut off for it while it flew nor evicted
 abbrev pub delivered_for : List Entry → Cell → Entry → Option ℕ
 delivered_for history cell (Done who j) =
-    if load_just_covers history j cell && not (flushed_after history j cell) then Some j else None
+    if load_just_covers history j cell && not (flushed_after history j cell)
+    && not (list_any (evicts j) history) then Some j else None
 delivered_for history cell _ = None
 
 -- the greater of two loads, where there are two
@@ -39,14 +41,21 @@ greater None other = other
 greater (Some j) None = Some j
 greater (Some j) (Some k) = if nat_lt j k then Some k else Some j
 
--- a flush that covers a cell leaves it no exact source; a delivery gives it the load, where that is the greater; no
--- other entry changes its exact source
+-- the exact source that an entry leaves a cell: where it evicts a load, the greatest of the others
+abbrev pub left_for : List Entry → Cell → Entry → Option ℕ
+left_for history cell (Evict j) =
+    latest (length history)
+    (λ k. live history k cell && load_just_covers history k cell && not (j == k))
+left_for history cell _ = exact_source history cell
+
+-- a flush that covers a cell leaves it no exact source; a delivery gives it the load, where that is the greater; an
+-- eviction leaves it the greatest of the others; no other entry changes its exact source
 abbrev pub ExactSourceGrows : Type 0
 ExactSourceGrows =
     (setting : Setting) (history : List Entry) (entry : Entry) (cell : Cell) → Legal setting history
     → exact_source (history ++ entry ∷ []) cell
     ≡ (if flushes cell entry then None
-    else greater (delivered_for history cell entry) (exact_source history cell))
+    else greater (delivered_for history cell entry) (left_for history cell entry))
 
 -- an entry starts a load that covers a cell with just its columns
 abbrev pub starts_for : Cell → Entry → Bool
@@ -61,3 +70,23 @@ AwaitedLoadGrows =
     ≡ (if flushes cell entry then None else if starts_for cell entry
     then Some (suc (length history))
     else latest (length history) (λ j. awaited history j cell && not (ends j entry)))
+
+-- a flush adds its region to those that were flushed after a position, and no other entry adds one
+abbrev pub RegionsGrow : Type 0
+RegionsGrow =
+    (history : List Entry) (entry : Entry) (position : ℕ) → position ≤ length history
+    → regions_after (history ++ entry ∷ []) position
+    ≡ regions_after history position ++ option_to_list (flushed entry)
+
+-- a flush adds its region to those that shut off part of a load, where it concerns the load's header
+abbrev pub ShuttingGrows : Type 0
+ShuttingGrows =
+    (history : List Entry) (entry : Entry) (j : ℕ) (load : Load) → load_at history j ≡ Some load
+    → shutting (history ++ entry ∷ []) j
+    ≡ shutting history j ++ concerning load.header (option_to_list (flushed entry))
+
+-- nothing shuts off part of the load that an entry starts
+abbrev pub LoadsStartWhole : Type 0
+LoadsStartWhole =
+    (history : List Entry) (entry : Entry)
+    → shutting (history ++ entry ∷ []) (suc (length history)) ≡ []

@@ -1,12 +1,13 @@
 -- The history of the cache, and what it says of versions, loads and sources.
-use Rattle.std.specs.Prelude.{ℕ, zero, suc, List, Bool, false, not, ◌&&◌, ◌==◌, Option, Some, None, if◌then◌else◌, length, take, drop, count_by, filter_map, flat_map, option_and_then, option_map, unwrap_or, slice_get, is_some}
+use Rattle.std.specs.Prelude.{ℕ, zero, suc, List, [], Bool, false, not, ◌&&◌, ◌==◌, Option, Some, None, if◌then◌else◌, length, take, drop, count_by, filter_map, flat_map, option_and_then, option_map, unwrap_or, slice_get, is_some}
 use Rattle.std.specs.List.{list_any}
+use Rattle.std.specs.Option.{option_map_or}
 use Rattle.olap_meaning.specs.declared.cells.Who.{Who}
 use Rattle.olap_meaning.specs.declared.cells.Cell.{Cell}
 use Rattle.olap_meaning.specs.declared.cells.Header.{Header}
 use Rattle.olap_meaning.specs.declared.regions.Region.{Region}
 use Rattle.olap_meaning.specs.declared.cells.CellSource.{CellSource}
-use Rattle.olap_meaning.specs.Covering.{header_covers, just_covers, region_covers}
+use Rattle.olap_meaning.specs.Covering.{header_covers, just_covers, region_covers, concerning, touching}
 use Rattle.olap_meaning.specs.declared.tables.Row.{Row}
 
 -- what a load is started with; it is named by the position of its Start
@@ -16,13 +17,16 @@ pub record Load : Type 0 where
   pub version : ℕ
   pub reason : Cell
 
--- one event of the cache. An append has its cube, version and rows; an end has its load; an answer has its cells
+-- one event of the cache. An append has its cube, version and rows; an aggregate table has its number in the catalog
+-- and the version that it was built over; an end and an eviction have their load; an answer has its cells
 pub data Entry : Type 0 where
   Append : Who → ℕ → ℕ → List Row → Entry
+  Agg : Who → ℕ → ℕ → Entry
   Flush : Who → Region → Entry
   Start : Load → Entry
   Done : Who → ℕ → Entry
   Drop : Who → ℕ → Entry
+  Evict : ℕ → Entry
   Answer : Who → List CellSource → Entry
   Saw : Who → Entry
 
@@ -104,9 +108,18 @@ ends j _ = false
 abbrev pub flying : List Entry → ℕ → Bool
 flying history j = is_some (load_at history j) && not (list_any (ends j) history)
 
--- load j is kept: it was delivered (and, once there are evictions, not evicted)
+-- an entry evicts load j
+abbrev pub evicts : ℕ → Entry → Bool
+evicts j (Evict load) = load == j
+evicts j _ = false
+
+-- load j was delivered
+abbrev pub delivered : List Entry → ℕ → Bool
+delivered history j = list_any (delivers j) history
+
+-- load j is kept: it was delivered, and not evicted
 abbrev pub kept : List Entry → ℕ → Bool
-kept history j = list_any (delivers j) history
+kept history j = delivered history j && not (list_any (evicts j) history)
 
 -- the header of load j covers a cell
 abbrev pub load_covers : List Entry → ℕ → Cell → Bool
@@ -137,3 +150,22 @@ live history j cell =
 abbrev pub exact_source : List Entry → Cell → Option ℕ
 exact_source history cell =
     latest (length history) (λ j. live history j cell && load_just_covers history j cell)
+
+-- the region that an entry flushes
+abbrev pub flushed : Entry → Option Region
+flushed (Flush who region) = Some region
+flushed _ = None
+
+-- the regions that were flushed after a position, in order
+abbrev pub regions_after : List Entry → ℕ → List Region
+regions_after history position = filter_map flushed (drop position history)
+
+-- the regions that shut off part of load j: those flushed after its Start that concern its header, in order
+abbrev pub shutting : List Entry → ℕ → List Region
+shutting history j =
+    option_map_or (λ load. concerning load.header (regions_after history j)) (load_at history j) []
+
+-- how many flushes after the Start of load j touch its header
+abbrev pub flush_count : List Entry → ℕ → ℕ
+flush_count history j =
+    option_map_or (λ load. touching load.header (regions_after history j)) (load_at history j) 0

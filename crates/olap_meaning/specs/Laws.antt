@@ -1,11 +1,13 @@
 -- The laws that follow from the definitions alone.
+use Rattle.std.specs.List.{list_any}
 use Rattle.std.specs.Prelude.{ℕ, ◌≤◌, ◌<◌, ◌≡◌, List, [], ◌∷◌, ◌++◌, Some, IsTrue, IsFalse, Contains, take, length}
 use Rattle.olap_meaning.specs.declared.cells.Who.{Who}
 use Rattle.olap_meaning.specs.declared.cells.Cell.{Cell}
 use Rattle.olap_meaning.specs.declared.cells.CellSource.{CellSource}
+use Rattle.olap_meaning.specs.declared.cells.Header.{Header}
 use Rattle.olap_meaning.specs.declared.regions.Region.{Region}
-use Rattle.olap_meaning.specs.Covering.{region_covers, HasFewerColumns}
-use Rattle.olap_meaning.specs.History.{Entry, Answer, Flush, Load, entry_at, version, load_at, load_version, flying, live, floor, flushes, ends}
+use Rattle.olap_meaning.specs.Covering.{header_covers, region_concerns, region_covers, touching, HasFewerColumns}
+use Rattle.olap_meaning.specs.History.{Entry, Answer, Flush, Load, entry_at, version, load_at, load_version, flying, delivered, kept, live, floor, flushes, flushed_after, flush_count, shutting, ends, evicts}
 use Rattle.olap_meaning.specs.declared.tables.Setting.{Setting}
 use Rattle.olap_meaning.specs.Legal.{Legal, caller}
 use Rattle.olap_meaning.specs.Worth.{value, answered_version, worth}
@@ -69,6 +71,32 @@ abbrev pub RegionsReachUp : Type 0
 RegionsReachUp =
     (region : Region) (fewer more : Cell) → HasFewerColumns fewer more
     → IsTrue (region_covers region more) → IsTrue (region_covers region fewer)
+
+-- which cells of a load were flushed since its Start is told by the regions that shut off part of it
+abbrev pub RegionsShutOff : Type 0
+RegionsShutOff =
+    (history : List Entry) (j : ℕ) (load : Load) (cell : Cell) → load_at history j ≡ Some load
+    → IsTrue (header_covers load.header cell)
+    → flushed_after history j cell ≡ list_any (λ region. region_covers region cell) (shutting history j)
+
+-- a region concerns a header just where it covers the cell of the header's cube and measure that names no column
+abbrev pub RegionsConcern : Type 0
+RegionsConcern =
+    (region : Region) (header : Header)
+    → region_concerns region header
+    ≡ region_covers region (record { cube = header.cube; measure = header.measure; at = [] })
+
+-- how many flushes touch a load is counted over the regions that shut off part of it
+abbrev pub TouchingAreCounted : Type 0
+TouchingAreCounted =
+    (history : List Entry) (j : ℕ) (load : Load) → load_at history j ≡ Some load
+    → flush_count history j ≡ touching load.header (shutting history j)
+
+-- a load that is not evicted is kept where it was delivered
+abbrev pub DeliveredAreKept : Type 0
+DeliveredAreKept =
+    (history : List Entry) (j : ℕ) → IsFalse (list_any (evicts j) history)
+    → kept history j ≡ delivered history j
 
 -- of two loads with one reason, the first of which still flies, a flush between their Starts covers it
 abbrev pub LoadsAreNotDoubled : Type 0

@@ -13,17 +13,19 @@ use Rattle.olap_meaning.specs.declared.regions.RegionBox.{RegionBox}
 use Rattle.olap_meaning.specs.declared.regions.RegionDim.{RegionDim}
 use Rattle.olap_meaning.specs.declared.regions.RegionDim.TheVariants.{Measures, Dimension}
 use Rattle.olap_meaning.specs.Covering.{among, just_covers}
-use Rattle.olap_meaning.specs.Catalog.{records, values, fact_columns}
-use Rattle.olap_meaning.specs.History.{Entry, Append, Flush, Start, Done, Drop, Answer, Saw, Load, entry_at, version, flying, awaited_load, starter, exact_source, is_some_and}
+use Rattle.olap_meaning.specs.Catalog.{records, values, fact_columns, table_cube}
+use Rattle.olap_meaning.specs.History.{Entry, Append, Agg, Flush, Start, Done, Drop, Evict, Answer, Saw, Load, entry_at, version, flying, awaited_load, starter, exact_source, is_some_and}
 use Rattle.olap_meaning.specs.Worth.{measure_of}
 
--- whose call an entry is; the parts of a load are no calls
+-- whose call an entry is; the parts of a load and evictions are no calls
 abbrev pub caller : Entry → Option Who
 caller (Append who cube version rows) = Some who
+caller (Agg who table version) = Some who
 caller (Flush who region) = Some who
 caller (Start load) = None
 caller (Done who load) = None
 caller (Drop who load) = None
+caller (Evict load) = None
 caller (Answer who cells) = Some who
 caller (Saw who) = Some who
 
@@ -141,6 +143,14 @@ pub record IsLegalAppend (setting : Setting) (history : List Entry) (who : Who) 
   pub fit : IsTrue (list_all (is_row setting.catalog cube) rows)
   pub room : rows_held history + length rows ≤ setting.row_limit
 
+-- an aggregate table is legal: it is one of the catalog's, and its cube has reached the version that it was built over
+pub record IsLegalAgg (setting : Setting) (history : List Entry) (who : Who) (table v : ℕ)
+    : Type 0 where
+  pub call : IsTrue (is_next_call history who)
+  pub cube : ℕ
+  pub known : table_cube setting.catalog table ≡ Some cube
+  pub reached : v ≤ version history cube
+
 -- a Start is legal: its load is of the present version, covers its reason with just the reason's columns, and the
 -- reason is a cell of the catalog that has no source and that no load is awaited for
 pub record IsLegalStart (setting : Setting) (history : List Entry) (load : Load) : Type 0 where
@@ -162,14 +172,16 @@ pub record IsAnswered (setting : Setting) (history : List Entry)
   pub known : IsTrue (is_cell setting.catalog answered.cell)
   pub source : IsSource setting.catalog history answered.cell answered.loads
 
--- an entry is a legal step after a history
+-- an entry is a legal step after a history (no eviction is, before there is a budget)
 abbrev pub LegalStep : Setting → List Entry → Entry → Type 0
 LegalStep setting history (Append who cube v rows) = IsLegalAppend setting history who cube v rows
+LegalStep setting history (Agg who table v) = IsLegalAgg setting history who table v
 LegalStep setting history (Flush who region) =
     IsTrue (is_next_call history who) × IsTrue (is_flushable setting.catalog region)
 LegalStep setting history (Start load) = IsLegalStart setting history load
 LegalStep setting history (Done who j) = IsLegalEnd history who j
 LegalStep setting history (Drop who j) = IsLegalEnd history who j
+LegalStep setting history (Evict j) = ⊥
 LegalStep setting history (Answer who cells) =
     IsTrue (is_next_call history who) × Each (IsAnswered setting history) cells
 LegalStep setting history (Saw who) = IsTrue (is_next_call history who)

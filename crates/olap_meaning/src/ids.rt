@@ -46,7 +46,7 @@ impl Model for ColumnId {
 }
 
 /// A value of a column, by its number: values are numbered from 0 by first appearance.
-#[derive(Clone, Copy, Debug, PartialEq, Eq, PartialOrd, Ord, Hash)]
+#[derive(Clone, Copy, Debug, Default, PartialEq, Eq, PartialOrd, Ord, Hash)]
 pub struct ValueId(pub u32);
 
 impl Model for ValueId {

@@ -1,9 +1,9 @@
 //! Laws of the definitions alone: each is the contract of a function with an empty body.
 
 ghost use Rattle.olap_meaning.specs.Equivalents.{FloorIsGreatest, LiveIsByPosition, AwaitedIsByPosition, ExactSourceIsGreatest};
-ghost use Rattle.olap_meaning.specs.Growth.{LegalGrows, VersionGrows, FloorGrows, ExactSourceGrows, AwaitedLoadGrows};
+ghost use Rattle.olap_meaning.specs.Growth.{LegalGrows, VersionGrows, FloorGrows, ExactSourceGrows, AwaitedLoadGrows, RegionsGrow, ShuttingGrows, LoadsStartWhole};
 ghost use Rattle.olap_meaning.specs.Limits.{LimitsAreStated};
-ghost use Rattle.olap_meaning.specs.Laws.{PrefixesAreLegal, VersionsRise, AnswersAreFresh, AnswersAreServed, FlushesShutOff, OthersServeOn, RegionsReachUp, LoadsAreNotDoubled, LoadsEndOnce, CallsRise, SomeAnswerIsLegal};
+ghost use Rattle.olap_meaning.specs.Laws.{PrefixesAreLegal, VersionsRise, AnswersAreFresh, AnswersAreServed, FlushesShutOff, OthersServeOn, RegionsReachUp, RegionsConcern, RegionsShutOff, TouchingAreCounted, DeliveredAreKept, LoadsAreNotDoubled, LoadsEndOnce, CallsRise, SomeAnswerIsLegal};
 
 /// The limits of the code are the numbers of the definitions.
 pub fn limits_are_stated()
@@ -43,6 +43,26 @@ pub fn others_serve_on()
 /// A flush reaches the cells above it.
 pub fn regions_reach_up()
     ensures { RegionsReachUp }
+{}
+
+/// A region concerns a header just where it covers the cell of its cube and measure that names no column.
+pub fn regions_concern()
+    ensures { RegionsConcern }
+{}
+
+/// Which cells of a load were flushed is told by the regions that shut off part of it.
+pub fn regions_shut_off()
+    ensures { RegionsShutOff }
+{}
+
+/// How many flushes touch a load is counted over these regions alone.
+pub fn touching_are_counted()
+    ensures { TouchingAreCounted }
+{}
+
+/// What was delivered is kept, unless it was evicted.
+pub fn delivered_are_kept()
+    ensures { DeliveredAreKept }
 {}
 
 /// No cell is loaded a second time while a load for it flies, unless it was flushed.
@@ -98,6 +118,21 @@ pub fn exact_source_grows()
 /// One more entry, and the load that is awaited for a cell.
 pub fn awaited_load_grows()
     ensures { AwaitedLoadGrows }
+{}
+
+/// One more entry, and the regions that were flushed after a position.
+pub fn regions_grow()
+    ensures { RegionsGrow }
+{}
+
+/// One more entry, and the regions that shut off part of a load.
+pub fn shutting_grows()
+    ensures { ShuttingGrows }
+{}
+
+/// Nothing shuts off part of a load that was only just started.
+pub fn loads_start_whole()
+    ensures { LoadsStartWhole }
 {}
 
 /// A legal history goes on by a legal step.

@@ -1,16 +1,19 @@
 -- Plain entries as entries, for legal steps.
-use Rattle.std.proofs.Common.{◌≡◌, refl, sym, ◌∙◌, ap, ℕ, List, [], ◌∷◌, Bool, true, false, cond, ◌&&◌, map, filter, Option, Some, None, is_none, ◌==◌, ◌↔◌, subst, ◌+◌, ◌<◌, ◌≤◌, suc, take, length, get_or, option_map, inl, inr, arith}
-use Rattle.std.proofs.lemmas.Bool.{and_parts, and_from, eqb-true, eq-eqb, cases_order}
+use Rattle.std.proofs.Common.{◌≡◌, refl, sym, ◌∙◌, ap, ℕ, List, [], ◌∷◌, Bool, true, false, cond, ◌&&◌, map, filter, Option, Some, None, is_none, nat_le, ◌==◌, ◌↔◌, IsTrue, subst, ◌+◌, ◌<◌, ◌≤◌, suc, take, length, get_or, option_map, inl, inr, arith}
+use Rattle.std.proofs.lemmas.Bool.{and_parts, and_from, leb-true, le-leb, eqb-true, eq-eqb, cases_order}
 use Rattle.std.proofs.lemmas.List.{take-map, length-map}
 use Rattle.std.proofs.lemmas.Option.{slice_get-map, slice_get_read}
 use Rattle.olap_meaning.proofs.Positions.{entry_within}
 use Rattle.olap_meaning.specs.declared.tables.Setting.{Setting}
+use Rattle.olap_meaning.specs.declared.cells.Who.{Who}
+use Rattle.olap_meaning.specs.Catalog.{table_cube}
+use Rattle.olap_meaning.proofs.Loads.{some_and}
 use Rattle.olap_meaning.specs.Covering.{just_covers}
-use Rattle.olap_plain.specs.StepTests.{start_test}
+use Rattle.olap_plain.specs.StepTests.{agg_test, start_test}
 use Rattle.std.specs.List.{list_all}
 use Rattle.olap_plain.specs.declared.entries.PlainEntry.{PlainEntry}
-use Rattle.olap_meaning.specs.History.{Entry, Load, entry_at, version, exact_source, awaited_load}
-use Rattle.olap_meaning.specs.Legal.{IsLegalStart, Legal, LegalStep, is_cell, rise}
+use Rattle.olap_meaning.specs.History.{Entry, Load, entry_at, version, exact_source, awaited_load, is_some_and}
+use Rattle.olap_meaning.specs.Legal.{IsLegalAgg, IsLegalStart, Legal, LegalStep, is_cell, is_next_call, rise}
 use Rattle.olap_plain.specs.Entries.{entry_of, entries}
 
 pub all_kept : (test keep : Entry → Bool) (plain : List PlainEntry) → list_all test (filter keep (entries plain)) ≡ list_all (λ e. test (entry_of e)) (filter (λ e. keep (entry_of e)) plain)
@@ -99,3 +102,19 @@ steps_all setting history i l all before entry at = all before entry (omega (ari
   where
     within : suc before ≤ length history
     within = let w : (1 ≤ suc before) × (suc before ≤ length (entries history)) = entry_within (entries history) (suc before) entry at in let same : length (entries history) ≡ length history = length-map history entry_of in omega (arith, w.1, same)
+
+-- the test of an aggregate table decides its legal step
+pub agg_decided : (setting : Setting) (history : List Entry) (who : Who) (table v : ℕ) (result : Bool) → result ≡ agg_test setting history who table v → (IsTrue result) ↔ (IsLegalAgg setting history who table v)
+agg_decided setting history who table v result is = (there, back)
+  where
+    test : ℕ → Bool
+    test cube = nat_le v (version history cube)
+
+    there : result ≡ true → IsLegalAgg setting history who table v
+    there h =
+        let parts : (is_next_call history who ≡ true) × (is_some_and test (table_cube setting.catalog table) ≡ true) = and_parts _ _ (sym is ∙ h) in
+        let found : (cube : ℕ) × (table_cube setting.catalog table ≡ Some cube) × (test cube ≡ true) = some_and test (table_cube setting.catalog table) parts.1 in
+        record { call = parts.0; cube = found.0; known = found.1; reached = leb-true _ _ found.2 }
+
+    back : IsLegalAgg setting history who table v → result ≡ true
+    back legal = is ∙ and_from _ _ legal.call (ap (is_some_and test) legal.known ∙ le-leb _ _ legal.reached)

@@ -1,4 +1,4 @@
--- The conditions of two legal steps as tests, for the plain code that decides them.
+-- The conditions of three legal steps as tests, for the plain code that decides them.
 use Rattle.std.specs.Prelude.{ℕ, ◌+◌, List, Bool, ◌==◌, ◌&&◌, length, map, nat_lt, nat_le, is_none}
 use Rattle.std.specs.List.{list_all}
 use Rattle.olap_meaning.specs.declared.TheConstants.{VERSION_LIMIT}
@@ -8,7 +8,8 @@ use Rattle.olap_meaning.specs.declared.cells.Cell.{Cell}
 use Rattle.olap_meaning.specs.declared.cells.Header.{Header}
 use Rattle.olap_meaning.specs.declared.tables.Row.{Row}
 use Rattle.olap_meaning.specs.Covering.{just_covers}
-use Rattle.olap_meaning.specs.History.{Entry, version, exact_source, awaited_load}
+use Rattle.olap_meaning.specs.History.{Entry, version, exact_source, awaited_load, is_some_and}
+use Rattle.olap_meaning.specs.Catalog.{table_cube}
 use Rattle.olap_meaning.specs.Legal.{is_next_call, is_row, is_cell, rise, rows_held}
 
 -- the six conditions of a legal append, in their order
@@ -18,6 +19,12 @@ append_test setting history who cube v rows =
     && (v == version history cube + 1) && nat_le v VERSION_LIMIT
     && list_all (is_row setting.catalog cube) rows
     && nat_le (rows_held history + length rows) setting.row_limit
+
+-- the two conditions of a legal aggregate table: the call is the next, and the table's cube has reached the version
+abbrev pub agg_test : Setting → List Entry → Who → ℕ → ℕ → Bool
+agg_test setting history who table v =
+    is_next_call history who
+    && is_some_and (λ cube. nat_le v (version history cube)) (table_cube setting.catalog table)
 
 -- the six conditions of a legal Start, in their order
 abbrev pub start_test : Setting → List Entry → Header → ℕ → Cell → Bool

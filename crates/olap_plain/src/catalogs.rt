@@ -6,6 +6,7 @@ ghost use Rattle.olap_meaning.specs.History.{is_some_and};
 ghost use Rattle.olap_meaning.specs.Catalog as meaning;
 ghost use Rattle.olap_meaning.specs.Worth as worth;
 
+use olap_meaning::schema::SchemaAggregate;
 use olap_meaning::tables::{Catalog, Column, Cube, Measure, Record, Row};
 use olap_meaning::{Cell, ColumnId, CubeId, LeafId, Text, ValueId};
 
@@ -262,6 +263,29 @@ fn match_but_case(name: &str, names: &[Text]) -> Option<usize>
     names
         .iter()
         .position(|other| is_same_but_case(name, other.as_str()))
+}
+
+fn cube_place(cubes: &[Cube], name: &str) -> Option<usize>
+    ensures { result ≡ position (λ cube. bytes_eq name.now cube.name) cubes.now }
+{
+    cubes.iter().position(|cube| name == cube.name.as_str())
+}
+
+fn cube_of(catalog: &Catalog, declared: &SchemaAggregate) -> Option<usize>
+    ensures { result
+        ≡ position (λ cube. bytes_eq declared.now.cube cube.name) catalog.now.cubes }
+{
+    cube_place(catalog.cubes.as_slice(), declared.cube.as_str())
+}
+
+/// The cube of an aggregate table, by the table's place in the schema.
+pub fn table_cube(catalog: &Catalog, table: u32) -> Option<usize>
+    ensures { result ≡ meaning.table_cube catalog.now table }
+{
+    match catalog.schema.aggregates.get(table as usize) {
+        None => None,
+        Some(declared) => cube_of(catalog, declared),
+    }
 }
 
 /// The place of the name that a name means: its first exact match, or else its first match but for the case of

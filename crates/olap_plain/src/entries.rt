@@ -13,6 +13,11 @@ pub enum PlainEntry {
         version: Version,
         rows: List<Row>,
     },
+    Agg {
+        who: Who,
+        table: u32,
+        version: Version,
+    },
     Flush {
         who: Who,
         region: Region,
@@ -29,6 +34,9 @@ pub enum PlainEntry {
     },
     Drop {
         who: Who,
+        load: u64,
+    },
+    Evict {
         load: u64,
     },
     Answer {

@@ -1,6 +1,6 @@
 //! The meanings of regions, headers and histories as plain, slow code: each walks the whole list each time. Tests
 //! compare faster bodies with it.
-ghost use Rattle.std.specs.Prelude.{◌≡◌, ◌≤◌, ◌<◌, ◌+◌, ◌&&◌, ◌||◌, option_map, option_copied, ◌==◌, not, length, unwrap_or, is_some, Option};
+ghost use Rattle.std.specs.Prelude.{count_by, filter_map, drop, map, IfOk, OnOk, ◌++◌, option_to_list, ◌≡◌, ◌≤◌, ◌<◌, ◌+◌, ◌&&◌, ◌||◌, option_map, option_copied, ◌==◌, not, length, unwrap_or, is_some, Option};
 ghost use Rattle.std.specs.List.{list_any, list_all};
 ghost use Rattle.olap_meaning.specs.Covering as covering;
 ghost use Rattle.olap_meaning.specs.History as meaning;
@@ -8,8 +8,10 @@ ghost use Rattle.olap_plain.specs.Entries as plain_view;
 
 use crate::PlainEntry;
 use olap_meaning::{
-    Allowed, Cell, ColumnId, CubeId, Header, MeasureId, Region, RegionBox, ValueId, Who,
+    Allowed, Cell, ColumnId, CubeId, Header, MeasureId, OutOfMemory, Region, RegionBox, ValueId,
+    Who,
 };
+use std::alloc::Global;
 
 /// Whether a value is one of a list.
 pub fn among(values: &[ValueId], value: ValueId) -> bool
@@ -124,6 +126,67 @@ pub fn region_covers(region: &Region, cell: &Cell) -> bool
     region.cube == cell.cube && some_box_covers(region.boxes.as_slice(), cell)
 }
 
+fn some_allowed(allowed: &Allowed, values: &[ValueId]) -> bool
+    ensures { result ≡ list_any (covering.allows allowed.now) values.now }
+{
+    values.iter().any(|v| allows(allowed, *v))
+}
+
+fn box_allows(region_box: &RegionBox, column: ColumnId, allowed: &Allowed) -> bool
+    ensures { result
+        ≡ list_all
+        (λ c. not (c.0 == column) || list_any (covering.allows allowed.now) c.1) region_box.now.columns }
+{
+    region_box
+        .columns
+        .as_slice()
+        .iter()
+        .all(|c| c.0 != column || some_allowed(allowed, c.1.as_slice()))
+}
+
+fn box_allows_all(region_box: &RegionBox, columns: &[(ColumnId, Allowed)]) -> bool
+    ensures { result
+        ≡ list_all
+        (λ own. list_all
+        (λ c. not (c.0 == own.0) || list_any (covering.allows own.1) c.1) region_box.now.columns) columns.now }
+{
+    columns
+        .iter()
+        .all(|own| box_allows(region_box, own.0, &own.1))
+}
+
+fn box_touches(region_box: &RegionBox, header: &Header) -> bool
+    ensures { result ≡ covering.box_touches region_box.now header.now }
+{
+    of_measure(region_box, header.measure) && box_allows_all(region_box, header.columns.as_slice())
+}
+
+fn some_box_touches(boxes: &[RegionBox], header: &Header) -> bool
+    ensures { result ≡ list_any (λ b. covering.box_touches b header.now) boxes.now }
+{
+    boxes.iter().any(|b| box_touches(b, header))
+}
+
+/// Whether a region touches a header.
+pub fn region_touches(region: &Region, header: &Header) -> bool
+    ensures { result ≡ covering.region_touches region.now header.now }
+{
+    region.cube == header.cube && some_box_touches(region.boxes.as_slice(), header)
+}
+
+fn some_box_of(boxes: &[RegionBox], measure: MeasureId) -> bool
+    ensures { result ≡ list_any (λ b. covering.of_measure b.measures measure) boxes.now }
+{
+    boxes.iter().any(|b| of_measure(b, measure))
+}
+
+/// Whether a region concerns a header.
+pub fn region_concerns(region: &Region, header: &Header) -> bool
+    ensures { result ≡ covering.region_concerns region.now header.now }
+{
+    region.cube == header.cube && some_box_of(region.boxes.as_slice(), header.measure)
+}
+
 fn flushes(cell: &Cell, entry: &PlainEntry) -> bool
     ensures { result ≡ meaning.flushes cell.now (plain_view.entry_of entry.now) }
 {
@@ -142,6 +205,15 @@ fn delivers(j: u64, entry: &PlainEntry) -> bool
     }
 }
 
+fn evicts(j: u64, entry: &PlainEntry) -> bool
+    ensures { result ≡ meaning.evicts j (plain_view.entry_of entry.now) }
+{
+    match entry {
+        PlainEntry::Evict { load } => *load == j,
+        _ => false,
+    }
+}
+
 fn ends(j: u64, entry: &PlainEntry) -> bool
     ensures { result ≡ meaning.ends j (plain_view.entry_of entry.now) }
 {
@@ -152,7 +224,7 @@ fn ends(j: u64, entry: &PlainEntry) -> bool
     }
 }
 
-fn appends(cube: CubeId, entry: &PlainEntry) -> bool
+fn appends(cube: usize, entry: &PlainEntry) -> bool
     ensures { result ≡ is_some (meaning.appended cube (plain_view.entry_of entry.now)) }
 {
     match entry {
@@ -161,13 +233,20 @@ fn appends(cube: CubeId, entry: &PlainEntry) -> bool
             cube: c,
             version: _,
             rows: _,
-        } => *c == cube,
+        } => c.0 as usize == cube,
         _ => false,
     }
 }
 
 /// The version of a cube.
 pub fn version(entries: &[PlainEntry], cube: CubeId) -> usize
+    ensures { result ≡ meaning.version (plain_view.entries entries.now) cube }
+{
+    version_at(entries, cube.0 as usize)
+}
+
+/// The version of a cube, by the cube's place.
+pub fn version_at(entries: &[PlainEntry], cube: usize) -> usize
     ensures { result ≡ meaning.version (plain_view.entries entries.now) cube }
 {
     entries.iter().filter(|e| appends(cube, e)).count()
@@ -186,6 +265,12 @@ fn some_delivers(entries: &[PlainEntry], j: u64) -> bool
     entries.iter().any(|e| delivers(j, e))
 }
 
+fn some_evicts(entries: &[PlainEntry], j: u64) -> bool
+    ensures { result ≡ list_any (λ e. meaning.evicts j (plain_view.entry_of e)) entries.now }
+{
+    entries.iter().any(|e| evicts(j, e))
+}
+
 fn some_ends(entries: &[PlainEntry], j: u64) -> bool
     ensures { result ≡ list_any (λ e. meaning.ends j (plain_view.entry_of e)) entries.now }
 {
@@ -199,10 +284,23 @@ fn flushed_after(entries: &[PlainEntry], position: u64, cell: &Cell) -> bool
     some_flushes(cell, &entries[position as usize..])
 }
 
-fn kept(entries: &[PlainEntry], j: u64) -> bool
-    ensures { result ≡ meaning.kept (plain_view.entries entries.now) j }
+fn delivered(entries: &[PlainEntry], j: u64) -> bool
+    ensures { result ≡ meaning.delivered (plain_view.entries entries.now) j }
 {
     some_delivers(entries, j)
+}
+
+fn evicted(entries: &[PlainEntry], j: u64) -> bool
+    ensures { result ≡ list_any (meaning.evicts j) (plain_view.entries entries.now) }
+{
+    some_evicts(entries, j)
+}
+
+/// Whether a load is kept.
+pub fn kept(entries: &[PlainEntry], j: u64) -> bool
+    ensures { result ≡ meaning.kept (plain_view.entries entries.now) j }
+{
+    delivered(entries, j) && !evicted(entries, j)
 }
 
 fn ended(entries: &[PlainEntry], j: u64) -> bool
@@ -279,6 +377,120 @@ pub fn flying(entries: &[PlainEntry], j: u64) -> bool
         None => false,
         Some(_) => !ended(entries, j),
     }
+}
+
+fn region_of(entry: &PlainEntry) -> Option<&Region>
+    ensures { option_copied result ≡ meaning.flushed (plain_view.entry_of entry.now) }
+{
+    match entry {
+        PlainEntry::Flush { who: _, region } => Some(region),
+        _ => None,
+    }
+}
+
+fn touches_header(header: &Header, entry: &PlainEntry) -> bool
+    ensures { result
+        ≡ meaning.is_some_and
+        (λ r. covering.region_touches r header.now)
+        (meaning.flushed (plain_view.entry_of entry.now)) }
+{
+    match region_of(entry) {
+        None => false,
+        Some(region) => region_touches(region, header),
+    }
+}
+
+fn count_touching(entries: &[PlainEntry], header: &Header) -> usize
+    ensures { result
+        ≡ count_by
+        (λ e. meaning.is_some_and
+        (λ r. covering.region_touches r header.now) (meaning.flushed (plain_view.entry_of e)))
+        entries.now }
+{
+    entries.iter().filter(|e| touches_header(header, e)).count()
+}
+
+fn touching_after(entries: &[PlainEntry], position: u64, header: &Header) -> usize
+    requires { position ≤ length entries.now }
+    ensures { result
+        ≡ covering.touching header.now
+        (meaning.regions_after (plain_view.entries entries.now) position) }
+{
+    count_touching(&entries[position as usize..], header)
+}
+
+/// How many flushes since its Start touch a load.
+pub fn flush_count(entries: &[PlainEntry], j: u64) -> usize
+    ensures { result ≡ meaning.flush_count (plain_view.entries entries.now) j }
+{
+    match load_header(entries, j) {
+        None => 0,
+        Some(header) => touching_after(entries, j, header),
+    }
+}
+
+/// The regions that shut off part of a load.
+pub fn shutting(alloc: Global, entries: &[PlainEntry], j: u64) -> Result<Vec<&Region>, OutOfMemory>
+    ensures { IfOk result
+        (λ regions. map (λ region. region.now) regions.items
+        ≡ meaning.shutting (plain_view.entries entries.now) j) }
+{
+    match load_header(entries, j) {
+        None => Ok(Vec::new(alloc)),
+        Some(header) => shutting_after(alloc, entries, j, header),
+    }
+}
+
+fn shutting_after<'a>(
+    alloc: Global,
+    entries: &'a [PlainEntry],
+    position: u64,
+    header: &Header,
+) -> Result<Vec<&'a Region>, OutOfMemory>
+    requires { position ≤ length entries.now }
+    ensures { IfOk result
+        (λ regions. map (λ region. region.now) regions.items
+        ≡ covering.concerning header.now
+        (meaning.regions_after (plain_view.entries entries.now) position)) }
+{
+    concerning(alloc, &entries[position as usize..], header)
+}
+
+fn concerning<'a>(
+    alloc: Global,
+    entries: &'a [PlainEntry],
+    header: &Header,
+) -> Result<Vec<&'a Region>, OutOfMemory>
+    ensures { IfOk result
+        (λ regions. map (λ region. region.now) regions.items
+        ≡ covering.concerning header.now
+        (filter_map meaning.flushed (plain_view.entries entries.now))) }
+{
+    let mut regions = Vec::new(alloc);
+    for i in 0..entries.len() {
+        add_concerning(&mut regions, &entries[i], header)?;
+    }
+    Ok(regions)
+}
+
+fn add_concerning<'a>(
+    regions: &mut Vec<&'a Region>,
+    entry: &'a PlainEntry,
+    header: &Header,
+) -> Result<(), OutOfMemory>
+    ensures { OnOk result
+        (map (λ region. region.now) regions.new.items
+        ≡ map (λ region. region.now) regions.old.items
+        ++ covering.concerning header.now
+        (option_to_list (meaning.flushed (plain_view.entry_of entry.now)))) }
+{
+    let Some(region) = region_of(entry) else {
+        return Ok(());
+    };
+    if region_concerns(region, header) {
+        regions.push(region)?;
+    }
+    Ok(())
 }
 
 /// Whether a load is awaited for a cell.

@@ -6,13 +6,15 @@ ghost use Rattle.olap_meaning.specs.Covering as covering;
 ghost use Rattle.olap_meaning.specs.History as meaning;
 ghost use Rattle.olap_meaning.specs.Worth as worth;
 ghost use Rattle.olap_meaning.specs.Legal as legal;
-ghost use Rattle.olap_meaning.specs.Catalog.{fact_columns};
+ghost use Rattle.olap_meaning.specs.Catalog.{fact_columns, table_cube as cube_of_table};
 ghost use Rattle.olap_plain.specs.Entries.{entries, entry_of};
-ghost use Rattle.olap_plain.specs.StepTests.{append_test, start_test};
+ghost use Rattle.olap_plain.specs.StepTests.{agg_test, append_test, start_test};
 
 use crate::PlainEntry;
-use crate::catalogs::{fact_column_count, records, value_count};
-use crate::history::{awaited_load, exact_source, flying, just_covers, starter, version};
+use crate::catalogs::{fact_column_count, records, table_cube, value_count};
+use crate::history::{
+    awaited_load, exact_source, flying, just_covers, starter, version, version_at,
+};
 use olap_meaning::tables::{Catalog, Cube, Row, Setting};
 use olap_meaning::{
     Cell, CellSource, ColumnId, CubeId, Header, LeafId, List, Region, RegionBox, RegionDim,
@@ -28,6 +30,11 @@ fn caller(entry: &PlainEntry) -> Option<Who>
             cube: _,
             version: _,
             rows: _,
+        } => Some(*who),
+        PlainEntry::Agg {
+            who,
+            table: _,
+            version: _,
         } => Some(*who),
         PlainEntry::Flush { who, region: _ } => Some(*who),
         PlainEntry::Answer { who, cells: _ } => Some(*who),
@@ -332,6 +339,49 @@ fn is_legal_append(
     append_passes(setting, history, who, cube, next, rows)
 }
 
+fn has_reached(history: &[PlainEntry], cube: usize, reached: Version) -> bool
+    ensures { result ≡ nat_le reached (meaning.version (entries history.now) cube) }
+{
+    reached.0 as usize <= version_at(history, cube)
+}
+
+fn is_built(setting: &Setting, history: &[PlainEntry], table: u32, built: Version) -> bool
+    ensures { result
+        ≡ meaning.is_some_and
+        (λ cube. nat_le built (meaning.version (entries history.now) cube))
+        (cube_of_table setting.now.catalog table) }
+{
+    match table_cube(&setting.catalog, table) {
+        None => false,
+        Some(cube) => has_reached(history, cube, built),
+    }
+}
+
+fn agg_passes(
+    setting: &Setting,
+    history: &[PlainEntry],
+    who: Who,
+    table: u32,
+    built: Version,
+) -> bool
+    ensures { result ≡ agg_test setting.now (entries history.now) who table built }
+{
+    is_next_call(history, who) && is_built(setting, history, table, built)
+}
+
+fn is_legal_agg(
+    setting: &Setting,
+    history: &[PlainEntry],
+    who: Who,
+    table: u32,
+    built: Version,
+) -> bool
+    ensures { IsTrue result
+        ↔ legal.IsLegalAgg setting.now (entries history.now) who table built }
+{
+    agg_passes(setting, history, who, table, built)
+}
+
 fn is_present(history: &[PlainEntry], cube: CubeId, present: Version) -> bool
     ensures { result ≡ (present == meaning.version (entries history.now) cube) }
 {
@@ -431,6 +481,11 @@ pub fn legal_step(setting: &Setting, history: &[PlainEntry], entry: &PlainEntry)
             version,
             rows,
         } => is_legal_append(setting, history, *who, *cube, *version, rows),
+        PlainEntry::Agg {
+            who,
+            table,
+            version,
+        } => is_legal_agg(setting, history, *who, *table, *version),
         PlainEntry::Flush { who, region } => is_next_call(history, *who)
             && is_flushable(&setting.catalog, region),
         PlainEntry::Start {
@@ -443,6 +498,7 @@ pub fn legal_step(setting: &Setting, history: &[PlainEntry], entry: &PlainEntry)
         PlainEntry::Drop { who, load } => is_legal_end(history, *who, *load),
         PlainEntry::Answer { who, cells } => is_next_call(history, *who)
             && are_answered(setting, history, cells.as_slice()),
+        PlainEntry::Evict { load: _ } => false,
         PlainEntry::Saw { who } => is_next_call(history, *who),
     }
 }

@@ -26,11 +26,26 @@ crossed_more firsts seconds i first within is =
     ∙ ap (λ bs. crossed_boxes (take i firsts) seconds ++ bs) (append-nil (map (together first) seconds))
 
 -- the boxes of one more part
-pub all_crossed_more : (parts : List Region) (i : ℕ) (part : Region) → i < length parts → part ≡ get_or parts i part → all_crossed (take (i + 1) parts) ≡ crossed_boxes (all_crossed (take i parts)) part.boxes
-all_crossed_more parts i part within is =
-    ap (λ ps. fold crossed_boxes (whole_box ∷ []) (map (λ (p : Region). p.boxes) ps)) (take_more parts i part within ∙ ap (λ p. take i parts ++ p ∷ []) (sym is))
-    ∙ ap (fold crossed_boxes (whole_box ∷ [])) (map-append (λ (p : Region). p.boxes) (take i parts) (part ∷ []))
-    ∙ fold-append crossed_boxes (whole_box ∷ []) (map (λ (p : Region). p.boxes) (take i parts)) (part.boxes ∷ [])
+pub all_crossed_more : (parts : List Region) (part : Region) → all_crossed (parts ++ part ∷ []) ≡ crossed_boxes (all_crossed parts) part.boxes
+all_crossed_more parts part =
+    ap (fold crossed_boxes (whole_box ∷ [])) (map-append (λ (p : Region). p.boxes) parts (part ∷ []))
+    ∙ fold-append crossed_boxes (whole_box ∷ []) (map (λ (p : Region). p.boxes) parts) (part.boxes ∷ [])
+
+-- the boxes of one box with others
+pub one_first : (firsts seconds : List RegionBox) (first : RegionBox) → length firsts ≡ 1 → first ≡ get_or firsts 0 first → crossed_boxes firsts seconds ≡ map (together first) seconds
+one_first [] seconds first one is = absurd (omega (arith, one))
+one_first (a ∷ []) seconds first one is = append-nil (map (together a) seconds) ∙ ap (λ f. map (together f) seconds) (sym is)
+one_first (a ∷ b ∷ firsts) seconds first one is = absurd (omega (arith, one))
+
+-- the boxes of some with one box
+pub one_second : (firsts seconds : List RegionBox) (second : RegionBox) → length seconds ≡ 1 → second ≡ get_or seconds 0 second → crossed_boxes firsts seconds ≡ map (λ first. together first second) firsts
+one_second firsts [] second one is = absurd (omega (arith, one))
+one_second firsts (a ∷ []) second one is = each firsts ∙ ap (λ s. map (λ first. together first s) firsts) (sym is)
+  where
+    each : (fs : List RegionBox) → crossed_boxes fs (a ∷ []) ≡ map (λ first. together first a) fs
+    each [] = refl
+    each (f ∷ fs) = ap (λ bs. together f a ∷ bs) (each fs)
+one_second firsts (a ∷ b ∷ seconds) second one is = absurd (omega (arith, one))
 
 -- as many boxes as the product
 length_crossed : (firsts seconds : List RegionBox) → length (crossed_boxes firsts seconds) ≡ length firsts * length seconds

@@ -1,10 +1,11 @@
 -- The regions of members, of the measures and of ranges.
-use Rattle.std.proofs.Common.{◌≡◌, ◌∙◌, ◌+◌, ◌-◌, ◌<◌, ◌≤◌, ◌++◌, ◌⊎◌, inl, inr, ℕ, zero, suc, Bool, true, ◌&&◌, List, [], ◌∷◌, Option, None, Some, All, refl, sym, ap, subst, arith, drop, length, map, nat_lt, slice_get, take}
+use Rattle.std.proofs.Common.{◌≡◌, ◌∙◌, ◌+◌, ◌-◌, ◌<◌, ◌≤◌, ◌++◌, ◌⊎◌, inl, inr, ℕ, zero, suc, Bool, true, ◌&&◌, List, [], ◌∷◌, Option, None, Some, All, refl, sym, ap, subst, arith, drop, get_or, length, map, min, nat_lt, slice_get, take}
 use Rattle.std.specs.List.{list_all, list_any, range_with_len, zip}
 use Rattle.std.specs.Option.{option_map_or}
 use Rattle.std.proofs.lemmas.Bool.{and_parts}
 use Rattle.std.proofs.lemmas.List.Elements.{All-cons, All-drop, All-head, All-map, All-nil, All-same, All-tail, All-take, All-weaker}
-use Rattle.std.proofs.lemmas.List.{drop-take}
+use Rattle.std.proofs.Math.Seq.{take-append_seam}
+use Rattle.std.proofs.lemmas.List.{length-drop, length-take-le}
 use Rattle.std.proofs.lemmas.Option.{slice_get_cases, slice_get_within}
 use Rattle.olap_meaning.specs.declared.cells.Member.{Member}
 use Rattle.olap_meaning.specs.declared.cells.Member.TheVariants as member
@@ -116,6 +117,50 @@ boxes_own catalog cube [] all = refl
 boxes_own catalog cube (m ∷ members) all =
     and_true _ _ (box_own catalog cube m (All-head (IsMemberOf catalog cube) m members all)) (boxes_own catalog cube members (All-tail (IsMemberOf catalog cube) m members all))
 
+-- columns with one value of a path each
+abbrev alone : List (ℕ × ℕ) → List (ℕ × List ℕ)
+alone pairs = map (λ pair. (pair.0, pair.1 ∷ [])) pairs
+
+-- one column more
+pub columns_more : (levels path : List ℕ) (i column value : ℕ) → i < length levels → i < length path → column ≡ get_or levels i column → value ≡ get_or path i value
+    → alone (zip (take (i + 1) levels) (take (i + 1) path)) ≡ alone (zip (take i levels) (take i path)) ++ (column, value ∷ []) ∷ []
+columns_more [] path i column value in_levels in_path at_level at_value = absurd (omega (arith, in_levels))
+columns_more (a ∷ levels) [] i column value in_levels in_path at_level at_value = absurd (omega (arith, in_path))
+columns_more (a ∷ levels) (b ∷ path) zero column value in_levels in_path at_level at_value =
+    ap (λ c. (c, b ∷ []) ∷ []) (sym at_level) ∙ ap (λ v. (column, v ∷ []) ∷ []) (sym at_value)
+columns_more (a ∷ levels) (b ∷ path) (suc i) column value in_levels in_path at_level at_value =
+    let next : suc i + 1 ≡ suc (i + 1) = omega arith in
+    ap (λ n. alone (zip (take n (a ∷ levels)) (take n (b ∷ path)))) next
+    ∙ ap (λ cs. (a, b ∷ []) ∷ cs) (columns_more levels path i column value (omega (arith, in_levels)) (omega (arith, in_path)) at_level at_value)
+
+-- no pair is left past the shorter of two lists
+zip_whole : (xs ys : List ℕ) (n : ℕ) → min (length xs) (length ys) ≤ n → zip (take n xs) (take n ys) ≡ zip xs ys
+zip_whole [] ys zero past = refl
+zip_whole [] ys (suc n) past = refl
+zip_whole (x ∷ xs) [] zero past = refl
+zip_whole (x ∷ xs) [] (suc n) past = refl
+zip_whole (x ∷ xs) (y ∷ ys) zero past = absurd (omega (arith, past))
+zip_whole (x ∷ xs) (y ∷ ys) (suc n) past = ap (λ zs. (x, y) ∷ zs) (zip_whole xs ys n (omega (arith, past)))
+
+-- the same of the lists of the code
+pub columns_step : (before after : List (ℕ × List ℕ)) (levels path : List ℕ) (i column value : ℕ) (values : List ℕ) → i < length levels → i < length path → column ≡ get_or levels i column → value ≡ get_or path i value
+    → values ≡ value ∷ [] → after ≡ before ++ (column, values) ∷ [] → before ≡ alone (zip (take i levels) (take i path)) → after ≡ alone (zip (take (i + 1) levels) (take (i + 1) path))
+columns_step before after levels path i column value values in_levels in_path at_level at_value one added so_far =
+    added ∙ ap (λ vs. before ++ (column, vs) ∷ []) one ∙ ap (λ cs. cs ++ (column, value ∷ []) ∷ []) so_far
+    ∙ sym (columns_more levels path i column value in_levels in_path at_level at_value)
+
+-- the last column
+pub columns_all : (before after : List (ℕ × List ℕ)) (levels path shown front : List ℕ) (n column value : ℕ) (values : List ℕ) → min (length levels) (length path) ≡ n + 1 → shown ≡ path → front ≡ path → column ≡ get_or levels n column → value ≡ get_or shown n value
+    → values ≡ value ∷ [] → after ≡ before ++ (column, values) ∷ [] → before ≡ alone (zip (take n levels) (take n front)) → after ≡ alone (zip levels path)
+columns_all before after levels path shown front n column value values count is_shown is_front at_level at_value one added so_far =
+    columns_step before after levels path n column value values (omega (arith, count)) (omega (arith, count)) at_level (at_value ∙ ap (λ p. get_or p n value) is_shown) one added
+    (so_far ∙ ap (λ p. alone (zip (take n levels) (take n p))) is_front)
+    ∙ ap alone (zip_whole levels path (n + 1) (omega (arith, count)))
+
+-- no column where there is no level or no value
+pub columns_none : (levels path : List ℕ) → min (length levels) (length path) ≡ 0 → [] ≡ alone (zip levels path)
+columns_none levels path none = ap alone (zip_whole levels path 0 (omega (arith, none)))
+
 -- ---- regions of members
 
 -- a member names no measures
@@ -178,8 +223,13 @@ member_made catalog cube m dims boxes own is_dims are_boxes =
     subst (λ (d : List RegionDim). IsBoundedOf catalog cube (record { cube = cube; dims = d; boxes = boxes })) (sym is_dims)
     (subst (λ (b : List RegionBox). IsBoundedOf catalog cube (record { cube = cube; dims = dim_of catalog m ∷ []; boxes = b })) (sym are_boxes) (member_own catalog cube m own))
 
--- the members from one place to another
-pub cut : (from to : ℕ) (members : List Member) → from ≤ to → take (to + 1 - from) (drop from members) ≡ drop from (take (suc to) members)
-cut from to members order =
-    let same : suc to ≡ from + (to + 1 - from) = omega arith in
-    sym (ap (λ n. drop from (take n members)) same ∙ drop-take from (to + 1 - from) members)
+-- the members from one place to another, first those up to the last
+pub cut : (from to : ℕ) (members : List Member) → from ≤ to → to < length members → take (to + 1 - from) (drop from (take (to + 1) members) ++ take from (take (to + 1) members)) ≡ drop from (take (suc to) members)
+cut from to members order within =
+    let front = take (to + 1) members in
+    let long : length front ≡ to + 1 = length-take-le (to + 1) members (omega (arith, within)) in
+    let size : length (drop from front) ≡ to + 1 - from = length-drop from front ∙ ap (λ n. n - from) long in
+    let same : to + 1 ≡ suc to = omega arith in
+    ap (λ n. take n (drop from front ++ take from front)) (sym size)
+    ∙ take-append_seam (drop from front) (take from front)
+    ∙ ap (λ n. drop from (take n members)) same

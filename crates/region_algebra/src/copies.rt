@@ -19,6 +19,17 @@ pub fn copy_region(alloc: Global, region: &Region) -> Result<Region, OutOfMemory
     })
 }
 
+/// Copies of some regions.
+pub(crate) fn copy_regions(alloc: Global, regions: &[Region]) -> Result<List<Region>, OutOfMemory>
+    ensures { IfOk result (λ copies. copies ≡ regions.now) }
+{
+    let mut copies = List::new(alloc);
+    for region in regions {
+        copies.push(copy_region(alloc, region)?)?;
+    }
+    Ok(copies)
+}
+
 /// A copy of some dimensions.
 pub(crate) fn copy_dims(alloc: Global, dims: &[RegionDim]) -> Result<List<RegionDim>, OutOfMemory>
     ensures { IfOk result (λ copy. copy ≡ dims.now) }
@@ -38,8 +49,8 @@ pub(crate) fn add_dims(dims: &mut List<RegionDim>, more: &[RegionDim]) -> Result
     Ok(())
 }
 
-/// Adds copies of some boxes.
-pub(crate) fn add_boxes(
+// Adds copies of some boxes.
+fn add_boxes(
     alloc: Global,
     boxes: &mut List<RegionBox>,
     more: &[RegionBox],
@@ -53,8 +64,8 @@ pub(crate) fn add_boxes(
     Ok(())
 }
 
-// A copy of a box.
-fn copy_box(alloc: Global, region_box: &RegionBox) -> Result<RegionBox, OutOfMemory>
+/// A copy of a box.
+pub(crate) fn copy_box(alloc: Global, region_box: &RegionBox) -> Result<RegionBox, OutOfMemory>
     ensures { IfOk result (λ copy. copy ≡ region_box.now) }
 {
     let measures = copy_measures(alloc, &region_box.measures)?;

@@ -85,7 +85,7 @@ fn region_of(
         RegionShape::Measures => all_measures(alloc, catalog, cube),
         RegionShape::Parts(joins, parts) => {
             let regions = regions_of(alloc, catalog, cube, parts.as_slice())?;
-            joined(alloc, catalog, cube, *joins, regions.as_slice())
+            joined(alloc, catalog, cube, *joins, regions)
         }
     }
 }
@@ -173,13 +173,13 @@ fn joined(
     catalog: &Catalog,
     cube: CubeId,
     joins: Joins,
-    parts: &[Region],
+    parts: List<Region>,
 ) -> Result<Region, RegionFault>
-    requires { All (IsBoundedOf catalog.now cube) parts.now }
-    ensures ok { IfOk result (λ region. meaning.joined_meant joins cube parts.now ≡ Ok region) }
+    requires { All (IsBoundedOf catalog.now cube) parts }
+    ensures ok { IfOk result (λ region. meaning.joined_meant joins cube parts ≡ Ok region) }
     ensures own { IfOk result (IsBoundedOf catalog.now cube) }
     ensures fault { IfErr result
-        (λ fault. IsFaultOf fault (meaning.joined_meant joins cube parts.now)) }
+        (λ fault. IsFaultOf fault (meaning.joined_meant joins cube parts)) }
     ensures members { IfErr result (NamesMembers catalog.now cube) }
 {
     match joins {

@@ -1,5 +1,5 @@
 //! Ranges of members.
-ghost use Rattle.std.specs.Prelude.{◌≡◌, ◌<◌, Ok, None, length, position, IfOk, IfErr, OnOk};
+ghost use Rattle.std.specs.Prelude.{◌≡◌, ◌≤◌, ◌<◌, suc, Ok, None, drop, length, position, take, IfOk, IfErr, OnOk};
 ghost use Rattle.olap_meaning.specs.MemberOf.{IsMemberOf};
 ghost use Rattle.query_meaning.specs.RegionMeaning as meaning;
 ghost use Rattle.region_algebra.specs.Faults.{IsFaultOf, IsReason};
@@ -11,7 +11,7 @@ use crate::levels::{in_one_level, is_member, level_around};
 use crate::limits::refuse_many;
 use crate::members::{dim_of, members_region};
 use olap_catalog::Catalog;
-use olap_meaning::{CubeId, Member, Region};
+use olap_meaning::{CubeId, List, Member, Region};
 use std::alloc::Global;
 
 /// The region of the members from one to another, both counted, in hierarchical order: the box of each. It has none where
@@ -35,7 +35,7 @@ pub fn range(
 {
     refuse_levels(alloc, first, last)?;
     let level = level_around(alloc, catalog, cube, first)?;
-    let members = between(level.as_slice(), first, last);
+    let members = between(alloc, level, first, last);
     refuse_many(members.len() as u64)?;
     let dimension = dim_of(catalog, first);
     let region = members_region(alloc, catalog, cube, dimension, members)?;
@@ -63,20 +63,33 @@ fn place_of(members: &[Member], member: &Member) -> Option<usize>
     members.iter().position(|other| is_member(member, other))
 }
 
-// The members from one to another, by their places: none where the first stands after the last, or one of them is missing.
-fn between<'a>(members: &'a [Member], first: &Member, last: &Member) -> &'a [Member]
-    ensures { result.now
-        ≡ meaning.between (position (meaning.is_member first.now) members.now)
-        (position (meaning.is_member last.now) members.now) members.now }
+// The members from one place of some to another, both counted.
+fn cut(members: List<Member>, from: usize, to: usize) -> List<Member>
+    requires order { from ≤ to }
+    requires within { to < length members }
+    ensures { result ≡ drop from (take (suc to) members) }
 {
-    let Some(from) = place_of(members, first) else {
-        return &[];
+    let mut kept = members.into_vec();
+    kept.truncate(to + 1);
+    kept.rotate_left(from);
+    kept.truncate(to + 1 - from);
+    List::from_vec(kept)
+}
+
+// The members from one to another, by their places: none where the first stands after the last, or one of them is missing.
+fn between(alloc: Global, members: List<Member>, first: &Member, last: &Member) -> List<Member>
+    ensures { result
+        ≡ meaning.between (position (meaning.is_member first.now) members)
+        (position (meaning.is_member last.now) members) members }
+{
+    let Some(from) = place_of(members.as_slice(), first) else {
+        return List::new(alloc);
     };
-    let Some(to) = place_of(members, last) else {
-        return &[];
+    let Some(to) = place_of(members.as_slice(), last) else {
+        return List::new(alloc);
     };
     if to < from {
-        return &[];
+        return List::new(alloc);
     }
-    &members[from..to + 1]
+    cut(members, from, to)
 }

@@ -1,10 +1,10 @@
 //! Unions of regions.
-ghost use Rattle.std.specs.Prelude.{◌≡◌, ◌<◌, Ok, None, All, find, flat_map, length, not, option_copied, IfOk, IfErr, OnOk};
+ghost use Rattle.std.specs.Prelude.{ℕ, ◌≡◌, ◌<◌, Ok, None, All, find, flat_map, length, not, option_copied, IfOk, IfErr, OnOk};
 ghost use Rattle.query_meaning.specs.RegionMeaning as meaning;
 ghost use Rattle.region_algebra.specs.Faults.{IsFaultOf, IsReason};
 ghost use Rattle.region_algebra.specs.Regions.{cube_of, IsBounded};
 
-use crate::copies::{add_boxes, copy_dims};
+use crate::copies::{copy_dims, copy_regions};
 use crate::dims::same_dims;
 use crate::fault::RegionFault;
 use crate::limits::refuse_sum;
@@ -23,22 +23,41 @@ pub fn union(alloc: Global, parts: &[Region]) -> Result<Region, RegionFault>
     ensures fault { IfErr result
         (λ fault. IsFaultOf fault (meaning.union_meant (cube_of parts.now) parts.now)) }
 {
-    union_in(alloc, parts[0].cube, parts)
+    let dims = united_dims(alloc, parts)?;
+    let boxes = all_boxes(alloc, copy_regions(alloc, parts)?)?;
+    let cube = parts[0].cube;
+    Ok(Region { cube, dims, boxes })
 }
 
-/// The union of some regions of a cube.
-pub(crate) fn union_in(alloc: Global, cube: CubeId, parts: &[Region]) -> Result<Region, RegionFault>
-    requires { All IsBounded parts.now }
-    ensures ok { IfOk result (λ region. meaning.union_meant cube parts.now ≡ Ok region) }
+/// The union of some regions of a cube, which are given up: their boxes are moved.
+pub(crate) fn union_in(
+    alloc: Global,
+    cube: CubeId,
+    parts: List<Region>,
+) -> Result<Region, RegionFault>
+    requires { All IsBounded parts }
+    ensures ok { IfOk result (λ region. meaning.union_meant cube parts ≡ Ok region) }
     ensures own { IfOk result IsBounded }
+    ensures fault { IfErr result (λ fault. IsFaultOf fault (meaning.union_meant cube parts)) }
+{
+    let dims = united_dims(alloc, parts.as_slice())?;
+    let boxes = all_boxes(alloc, parts)?;
+    Ok(Region { cube, dims, boxes })
+}
+
+// The dimensions of a union, or why there is none: a part is of others, or it has too many boxes.
+fn united_dims(alloc: Global, parts: &[Region]) -> Result<List<RegionDim>, RegionFault>
+    requires { All IsBounded parts.now }
+    ensures dims { IfOk result (λ dims. dims ≡ meaning.first_dims parts.now) }
+    ensures same { OnOk result (meaning.mismatch parts.now ≡ None) }
+    ensures few { OnOk result (meaning.many_united 0 (meaning.box_counts parts.now) ≡ None) }
     ensures fault { IfErr result
-        (λ fault. IsFaultOf fault (meaning.union_meant cube parts.now)) }
+        (λ fault. (cube : ℕ) → IsFaultOf fault (meaning.union_meant cube parts.now)) }
 {
     let dims = first_dims(alloc, parts)?;
     refuse_others(alloc, dims.as_slice(), parts)?;
     refuse_sum(parts)?;
-    let boxes = all_boxes(alloc, parts)?;
-    Ok(Region { cube, dims, boxes })
+    Ok(dims)
 }
 
 // The dimensions of the first part.
@@ -83,12 +102,13 @@ fn refuse_others(alloc: Global, dims: &[RegionDim], parts: &[Region]) -> Result<
 }
 
 // The boxes of all parts, one part after another.
-fn all_boxes(alloc: Global, parts: &[Region]) -> Result<List<RegionBox>, OutOfMemory>
-    ensures { IfOk result (λ boxes. boxes ≡ flat_map (λ part. part.boxes) parts.now) }
+fn all_boxes(alloc: Global, parts: List<Region>) -> Result<List<RegionBox>, OutOfMemory>
+    ensures { IfOk result (λ boxes. boxes ≡ flat_map (λ part. part.boxes) parts) }
 {
-    let mut boxes = List::new(alloc);
-    for part in parts {
-        add_boxes(alloc, &mut boxes, part.boxes.as_slice())?;
+    let mut boxes = Vec::new(alloc);
+    for part in parts.into_vec() {
+        let mut more = part.boxes.into_vec();
+        boxes.append(&mut more)?;
     }
-    Ok(boxes)
+    Ok(List::from_vec(boxes))
 }

@@ -2,6 +2,7 @@
 ghost use Rattle.std.specs.Prelude.{◌≡◌, ◌≢◌, ◌+◌, ◌≤◌, ◌<◌, ◌∷◌, [], All, IfOk, OnErr, bytes_eq, length, position, slice_index_or, slice_set};
 ghost use Rattle.segment_body.specs.Groups.{Group, IsAdded, IsMerged, group, with_numbers};
 
+use crate::key::Key;
 use indexmap::IndexMap;
 use measure_folds::Tally;
 use olap_meaning::{Aggregator, OutOfMemory, ROW_LIMIT, ValueId};
@@ -20,7 +21,7 @@ pub(crate) struct Block {
 /// is found by the hash of its values.
 #[derive(Drop)]
 pub(crate) struct GroupTable {
-    tallies: IndexMap<Vec<ValueId>, Tally>,
+    tallies: IndexMap<Key, Tally>,
 }
 
 impl Model for GroupTable {
@@ -29,7 +30,7 @@ impl Model for GroupTable {
 
     ghost Value = { List Group };
 
-    ghost view = { λ g. groups_by (λ key. key.items) g.tallies.entries };
+    ghost view = { λ g. groups_by (λ key. key) g.tallies.entries };
 }
 
 impl GroupTable {
@@ -90,7 +91,7 @@ impl GroupTable {
             None => {
                 let place = self.tallies.len();
                 let tally = first_tally(alloc, aggregator, number)?;
-                let key = Vec::from_slice(alloc, values)?;
+                let key = Key::new(alloc, values)?;
                 self.tallies.insert(key, tally)?;
                 Ok(place)
             }
@@ -142,7 +143,7 @@ impl GroupTable {
                 let place = self.tallies.len();
                 let mut first = Tally::new(alloc, aggregator);
                 first.merge(tally);
-                let key = Vec::from_slice(alloc, values)?;
+                let key = Key::new(alloc, values)?;
                 self.tallies.insert(key, first)?;
                 Ok(place)
             }

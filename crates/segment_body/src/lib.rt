@@ -7,6 +7,7 @@ mod all_folds;
 mod body;
 mod folds;
 mod group;
+mod key;
 mod search;
 
 pub use all_folds::are_alike;

@@ -1,5 +1,5 @@
 //! The values that a column allows.
-ghost use Rattle.std.specs.Prelude.{◌≡◌, IsTrue};
+ghost use Rattle.std.specs.Prelude.{◌≡◌, true, IsTrue};
 ghost use Rattle.olap_meaning.specs.Covering.{among};
 ghost use Rattle.olap_meaning.specs.Covering as covering;
 ghost use Rattle.olap_meaning.specs.Legal.{rise};
@@ -7,12 +7,30 @@ ghost use Rattle.segment_header.specs.Headers as headers;
 
 use olap_meaning::{Allowed, ValueId};
 
-/// Whether a value is one of a set, by binary search.
+/// The place of a value in a set that leaves no value out from its first on, whatever the set is.
+fn place_without_gaps(values: &[ValueId], value: ValueId) -> usize {
+    match values.first() {
+        Some(first) => value.0.wrapping_sub(first.0) as usize,
+        None => 0,
+    }
+}
+
+/// Whether a value stands at its place, were no value left out.
+fn stands_at(values: &[ValueId], value: ValueId) -> bool
+    ensures { result ≡ true → among values.now value ≡ true }
+{
+    match values.get(place_without_gaps(values, value)) {
+        Some(found) => *found == value,
+        None => false,
+    }
+}
+
+/// Whether a value is one of a set: by its place, were no value left out, and else by binary search.
 pub fn holds(values: &[ValueId], value: ValueId) -> bool
     requires { IsTrue (rise values.now) }
     ensures { result ≡ among values.now value }
 {
-    values.binary_search(&value).is_ok()
+    stands_at(values, value) || values.binary_search(&value).is_ok()
 }
 
 /// Whether a value is one of those that a column allows.

@@ -1,10 +1,11 @@
 -- The rows of a body that are in a cell are the loaded rows that are in it.
-use Rattle.std.proofs.Common.{◌≡◌, ◌∙◌, ◌<◌, ℕ, ℤ, zero, suc, Bool, true, false, List, [], ◌∷◌, Option, Some, None, length, map, filter, get_or, refl, sym, ap, arith, inl, inr}
+use Rattle.std.proofs.Common.{◌≡◌, ◌∙◌, ◌<◌, ℕ, ℤ, zero, suc, Bool, true, false, List, [], ◌∷◌, Option, Some, None, length, map, filter, get_or, refl, sym, ap, subst, arith, inl, inr}
 use Rattle.std.specs.Prelude.{◌&&◌, ◌||◌, ◌==◌, IsTrue, option_map, option_and_then, slice_get}
 use Rattle.std.specs.List.{list_any, list_all, zip}
 use Rattle.std.specs.Option.{option_map_or}
 use Rattle.std.proofs.lemmas.Bool.{and_parts, and_from, cases_Bool}
 use Rattle.std.proofs.lemmas.Bool.Decides.{nat_tests}
+use Rattle.olap_meaning.specs.declared.Aggregator.{Aggregator}
 use Rattle.olap_meaning.specs.declared.CellValue.TheVariants.{Empty}
 use Rattle.olap_meaning.specs.declared.cells.Allowed.{Allowed}
 use Rattle.olap_meaning.specs.declared.cells.Cell.{Cell}
@@ -20,7 +21,10 @@ use Rattle.olap_meaning.specs.Worth.{fact, measure_of, row_in, row_value, value,
 use Rattle.segment_header.specs.Headers.{is_header, is_set}
 use Rattle.segment_header.proofs.RiseFacts.{all_at, found_at, key_told}
 use Rattle.segment_body.specs.BodyOf.{BodyOf, body_row_in}
-use Rattle.segment_load.specs.Loads.{allowed_values, if_allowed, row_values, row_number, header_measure, body_rows, body_of, body_value}
+use Rattle.list_orders.proofs.Aggregates.{aggregate_permutes}
+use Rattle.list_orders.proofs.Permutations.{IsPermutation-filter}
+use Rattle.std.proofs.lemmas.List.Sorted.{IsPermutation-map, IsPermutation-refl}
+use Rattle.segment_load.specs.Loads.{HoldsRows, allowed_values, if_allowed, row_values, row_number, header_measure, body_rows, body_of, body_value}
 
 eq_of : (a b : ℕ) → (a == b) ≡ true → a ≡ b
 eq_of a b h = grind (arith, nat_tests)
@@ -228,3 +232,45 @@ pub body_value-version : (catalog : Catalog) (history : List Entry) (header : He
 body_value-version catalog history header version body cell holds covers made =
     body_value-body_of catalog header (rows_of history header.cube version) body cell holds covers made
     ∙ ap (λ (n : ℕ). value_over catalog cell (rows_of history n version)) (covers_of header cell holds covers).cube
+
+-- the body of a load holds the rows
+pub loads_hold_rows : (catalog : Catalog) (header : Header) (rows : List Row) (body : BodyOf) → body_of catalog header rows ≡ Some body → HoldsRows catalog header rows body
+loads_hold_rows catalog header rows body made = by (header_measure catalog header) refl made
+  where
+    by : (measure : Option Measure) → header_measure catalog header ≡ measure
+        → option_map (λ own. record { header = header; aggregator = own.aggregator; rows = body_rows catalog header rows }) measure ≡ Some body → HoldsRows catalog header rows body
+    by None e h = absurd (cc)
+    by (Some measure) e h =
+        let is : ◌≡◌ {A = BodyOf} (record { header = header; aggregator = measure.aggregator; rows = body_rows catalog header rows }) body = cc in
+        subst (λ (b : BodyOf). HoldsRows catalog header rows b) is
+        (record { own_header = refl; own_aggregator = ap (option_map (λ (m : Measure). m.aggregator)) e; own_rows = IsPermutation-refl (body_rows catalog header rows) })
+
+-- in whatever order a body has the rows, it says of a cell what the body of a load of them says
+same_worth : (catalog : Catalog) (header : Header) (rows : List Row) (body : BodyOf) (cell : Cell) (measure : Measure) → HoldsRows catalog header rows body → header_measure catalog header ≡ Some measure
+    → body_value body cell ≡ body_value (record { header = header; aggregator = measure.aggregator; rows = body_rows catalog header rows }) cell
+same_worth catalog header rows body cell measure holds e =
+    ap (λ (h : Header). aggregate body.aggregator (map (λ row. row.1) (filter (body_row_in h cell) body.rows))) holds.own_header
+    ∙ sym (aggregate_permutes body.aggregator _ _ (IsPermutation-map (λ row. row.1) _ _ (IsPermutation-filter (body_row_in header cell) _ _ holds.own_rows)))
+    ∙ ap (λ (a : Aggregator). aggregate a (map (λ row. row.1) (filter (body_row_in header cell) (body_rows catalog header rows)))) (sym same)
+  where
+    same : measure.aggregator ≡ body.aggregator
+    same = let both : Some measure.aggregator ≡ Some body.aggregator = sym (ap (option_map (λ (m : Measure). m.aggregator)) e) ∙ holds.own_aggregator in cc
+
+-- what a body that holds rows says of a cell that its header just covers is the value of the cell over the rows
+pub held_rows_are_worth : (catalog : Catalog) (header : Header) (rows : List Row) (body : BodyOf) (cell : Cell) → IsTrue (is_header header) → IsTrue (just_covers header cell) → HoldsRows catalog header rows body
+    → body_value body cell ≡ value_over catalog cell rows
+held_rows_are_worth catalog header rows body cell formed covers holds = by (header_measure catalog header) refl
+  where
+    by : (measure : Option Measure) → header_measure catalog header ≡ measure → body_value body cell ≡ value_over catalog cell rows
+    by None e = let none : None ≡ Some body.aggregator = sym (ap (option_map (λ (m : Measure). m.aggregator)) e) ∙ holds.own_aggregator in absurd (cc)
+    by (Some measure) e =
+        same_worth catalog header rows body cell measure holds e
+        ∙ body_value-body_of catalog header rows (record { header = header; aggregator = measure.aggregator; rows = body_rows catalog header rows }) cell formed covers
+        (ap (option_map (λ (own : Measure). record { header = header; aggregator = own.aggregator; rows = body_rows catalog header rows })) e)
+
+-- and over the rows of a version, its value in that version
+pub held_rows_are_worth_in_versions : (catalog : Catalog) (history : List Entry) (header : Header) (version : ℕ) (body : BodyOf) (cell : Cell) → IsTrue (is_header header) → IsTrue (just_covers header cell)
+    → HoldsRows catalog header (rows_of history header.cube version) body → body_value body cell ≡ value catalog history cell version
+held_rows_are_worth_in_versions catalog history header version body cell formed covers holds =
+    held_rows_are_worth catalog header (rows_of history header.cube version) body cell formed covers holds
+    ∙ ap (λ (n : ℕ). value_over catalog cell (rows_of history n version)) (covers_of header cell formed covers).cube

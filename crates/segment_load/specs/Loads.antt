@@ -1,6 +1,7 @@
 -- What a load makes of fact rows.
-use Rattle.std.specs.Prelude.{ℕ, ℤ, List, [], ◌∷◌, Bool, true, ◌==◌, ◌&&◌, Option, Some, None, length, map, filter, filter_map, flat_map, option_and_then, option_map, slice_get, if◌then◌else◌}
+use Rattle.std.specs.Prelude.{ℕ, ℤ, List, [], ◌∷◌, Bool, true, ◌==◌, ◌≡◌, ◌&&◌, Option, Some, None, length, map, filter, filter_map, flat_map, option_and_then, option_map, slice_get, if◌then◌else◌}
 use Rattle.std.specs.List.{list_all}
+use Rattle.std.specs.List.Sorted.{IsPermutation}
 use Rattle.olap_meaning.specs.declared.CellValue.{CellValue}
 use Rattle.olap_meaning.specs.declared.cells.Allowed.{Allowed}
 use Rattle.olap_meaning.specs.declared.cells.Cell.{Cell}
@@ -64,6 +65,15 @@ body_of catalog header rows =
       aggregator = measure.aggregator;
       rows = body_rows catalog header rows;
     }) (header_measure catalog header)
+
+-- a body holds rows: header and aggregator are those, and its rows are the rows that the header allows, in some order
+pub record HoldsRows (catalog : Catalog) (header : Header) (rows : List Row) (body : BodyOf)
+    : Type 0 where
+  pub own_header : body.header ≡ header
+  pub own_aggregator :
+      option_map (λ measure. measure.aggregator) (header_measure catalog header)
+      ≡ Some body.aggregator
+  pub own_rows : IsPermutation (body_rows catalog header rows) body.rows
 
 -- the rows of some batches, in order
 abbrev pub rows_in : List FactRows → List Row

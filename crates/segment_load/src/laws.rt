@@ -1,5 +1,5 @@
 //! Laws of loads: each is the contract of a function with an empty body.
-ghost use Rattle.segment_load.specs.Laws.{LoadsAreWorth, LoadsAreWorthInVersions};
+ghost use Rattle.segment_load.specs.Laws.{HeldRowsAreWorth, HeldRowsAreWorthInVersions, LoadsAreWorth, LoadsAreWorthInVersions, LoadsHoldRows};
 
 /// What the body of a load says of a cell that its header just covers is the value of the cell over the loaded rows.
 pub fn loads_are_worth()
@@ -9,4 +9,20 @@ pub fn loads_are_worth()
 /// Over the rows of a version of its cube, it is the value of the cell in that version.
 pub fn loads_are_worth_in_versions()
     ensures { LoadsAreWorthInVersions }
+{}
+
+/// The body of a load holds the loaded rows.
+pub fn loads_hold_rows()
+    ensures { LoadsHoldRows }
+{}
+
+/// What a body that holds rows, in whatever order, says of a cell that its header just covers is the value of the cell
+/// over these rows.
+pub fn held_rows_are_worth()
+    ensures { HeldRowsAreWorth }
+{}
+
+/// Over the rows of a version of its cube, it is the value of the cell in that version.
+pub fn held_rows_are_worth_in_versions()
+    ensures { HeldRowsAreWorthInVersions }
 {}

@@ -13,8 +13,9 @@ use Rattle.olap_meaning.specs.Legal.{Legal, rise}
 use Rattle.segment_load.specs.Loads.{JobOf}
 use Rattle.history_core.specs.Cache.{CacheOf}
 use Rattle.cache_manager.specs.Jobs.{IsJobOf, IsOwn}
-use Rattle.history_core.specs.Seats.{actor, entries_of}
+use Rattle.history_core.specs.Seats.{is_of_seat, entries_of}
 use Rattle.history_core.specs.Groups.{numbers_from}
+use Rattle.cache_manager.proofs.JobFacts.{cost_is}
 use Rattle.cache_manager.proofs.Pushes.{load_on, recorded, rows_on}
 use Rattle.test_plays.specs.Played.{AreJobsOf}
 
@@ -36,7 +37,7 @@ module _ (cache next : CacheOf) (entry : Entry) (one : IsNext cache next entry) 
   own_on who j load unended is = record {
     started = ap (λ (es : List Entry). load_at es j) one.entries ∙ load_on cache.entries entry j load is.started;
     own = is.own;
-    unended = ap (λ (es : List Entry). list_any (ends j) (entries_of es who.seat)) one.entries ∙ none_kept (λ e. (actor e).seat == who.seat) (ends j) cache.entries entry is.unended unended;
+    unended = ap (λ (es : List Entry). list_any (ends j) (entries_of es who.seat)) one.entries ∙ none_kept (is_of_seat who.seat) (ends j) cache.entries entry is.unended unended;
   }
 
   rows_same : (j : ℕ) (load : Load) → load_at cache.entries j ≡ Some load → rows_of cache.entries load.header.cube load.version ≡ rows_of next.entries load.header.cube load.version
@@ -50,7 +51,9 @@ module _ (cache next : CacheOf) (entry : Entry) (one : IsNext cache next entry) 
     flies = own_on job.who job.load is.load unended is.flies;
     header = is.header;
     rows = is.rows ∙ rows_same job.load is.load is.flies.started;
-    costs = is.costs ∙ ap (λ (rows : List Row). length rows) (rows_same job.load is.load is.flies.started);
+    costs = is.costs ∙ cost_is cache.setting.catalog cache.entries job.load is.load is.flies.started
+        ∙ ap (λ (rows : List Row). length rows) (rows_same job.load is.load is.flies.started)
+        ∙ sym (cost_is next.setting.catalog next.entries job.load is.load (own_on job.who job.load is.load unended is.flies).started);
   }
 
   all_on : (jobs : List JobOf) → All (λ (job : JobOf). ends job.load entry ≡ false) jobs → All (IsJobOf cache) jobs → All (IsJobOf next) jobs

@@ -25,10 +25,20 @@ fn is_above(entry: &Entry, who: Who) -> bool
             version: _,
             batch: _,
         } => is_later(caller, who),
+        Entry::Agg {
+            who: caller,
+            table: _,
+            version: _,
+        } => is_later(caller, who),
+        Entry::Flush {
+            who: caller,
+            region: _,
+        } => is_later(caller, who),
         Entry::Answer {
             who: caller,
             cells: _,
         } => is_later(caller, who),
+        Entry::Saw { who: caller } => is_later(caller, who),
         _ => true,
     }
 }

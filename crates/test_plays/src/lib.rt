@@ -3,11 +3,14 @@
 #![tactic(auto)]
 
 mod checks;
+pub mod many;
 mod mirror;
 pub mod plain;
 mod played;
 pub mod random;
+mod regions;
 pub mod runs;
+pub mod shuts;
 pub mod small;
 pub mod steps;
 mod told;

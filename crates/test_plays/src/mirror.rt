@@ -5,6 +5,7 @@ use fact_versions::{Batch, Piece, Steps};
 use history_core::{Entry, History};
 use olap_meaning::{CellSource, List, OutOfMemory, Row};
 use olap_plain::PlainEntry;
+use region_algebra::copy_region;
 use segment_header::{copy_cell, copy_header};
 use std::alloc::Global;
 use std::marker::Brand;
@@ -82,6 +83,19 @@ fn plain_entry(alloc: Global, entry: &Entry) -> Result<PlainEntry, OutOfMemory> 
             version: *version,
             reason: copy_cell(alloc, reason)?,
         },
+        Entry::Agg {
+            who,
+            table,
+            version,
+        } => PlainEntry::Agg {
+            who: *who,
+            table: *table,
+            version: *version,
+        },
+        Entry::Flush { who, region } => PlainEntry::Flush {
+            who: *who,
+            region: copy_region(alloc, region)?,
+        },
         Entry::Done { who, load } => PlainEntry::Done {
             who: *who,
             load: *load,
@@ -90,10 +104,12 @@ fn plain_entry(alloc: Global, entry: &Entry) -> Result<PlainEntry, OutOfMemory> 
             who: *who,
             load: *load,
         },
+        Entry::Evict { load } => PlainEntry::Evict { load: *load },
         Entry::Answer { who, cells } => PlainEntry::Answer {
             who: *who,
             cells: copy_sources(alloc, cells.as_slice())?,
         },
+        Entry::Saw { who } => PlainEntry::Saw { who: *who },
     })
 }
 

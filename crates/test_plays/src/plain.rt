@@ -1,5 +1,5 @@
 //! Plain catalogs and histories, and what the definitions say of both.
-use olap_meaning::schema::Schema;
+use olap_meaning::schema::{Schema, SchemaAggregate};
 use olap_meaning::tables::{Catalog, Column, Cube, Dimension, Measure, Record, Row, Setting};
 use olap_meaning::{
     Aggregator, Allowed, Cell, CellSource, ColumnId, CubeId, Header, LeafId, List, MeasureId,
@@ -73,24 +73,39 @@ fn cubes(
     Ok(cubes)
 }
 
-// A catalog without its schema and its hierarchies, of which the plain bodies of a history ask nothing.
+// One aggregate table of the cube of sales, without levels and measures.
+fn aggregates(alloc: Global) -> Result<List<SchemaAggregate>, OutOfMemory> {
+    let mut aggregates = List::new(alloc);
+    aggregates.push(SchemaAggregate {
+        name: Text::from_str(alloc, "agg_sales")?,
+        cube: Text::from_str(alloc, "Sales")?,
+        file: None,
+        fact_count: Text::from_str(alloc, "fact_count")?,
+        levels: List::new(alloc),
+        measures: List::new(alloc),
+    })?;
+    Ok(aggregates)
+}
+
+// A catalog without its hierarchies, and of its schema just the aggregate tables: the plain bodies of a history ask
+// nothing else.
 fn catalog(
     alloc: Global,
     dimensions: List<Dimension>,
     columns: List<Column>,
     cubes: List<Cube>,
-) -> Catalog {
-    Catalog {
+) -> Result<Catalog, OutOfMemory> {
+    Ok(Catalog {
         schema: Schema {
             dimensions: List::new(alloc),
             cubes: List::new(alloc),
-            aggregates: List::new(alloc),
+            aggregates: aggregates(alloc)?,
         },
         dimensions,
         columns,
         hierarchies: List::new(alloc),
         cubes,
-    }
+    })
 }
 
 /// One dimension of time with two levels, and one cube with the sum of a fact column.
@@ -104,7 +119,7 @@ pub fn small_setting(alloc: Global) -> Result<Setting, OutOfMemory> {
     measures.push(measure(alloc, "Units", Aggregator::Sum)?)?;
     let cubes = cubes(alloc, 1, measures)?;
     Ok(Setting {
-        catalog: catalog(alloc, dimensions, columns, cubes),
+        catalog: catalog(alloc, dimensions, columns, cubes)?,
         row_limit: 4,
         budget: 100,
     })
@@ -125,7 +140,7 @@ pub fn sample_setting(alloc: Global, row_limit: u32) -> Result<Setting, OutOfMem
     measures.push(measure(alloc, "Count", Aggregator::Count)?)?;
     let cubes = cubes(alloc, 2, measures)?;
     Ok(Setting {
-        catalog: catalog(alloc, dimensions, columns, cubes),
+        catalog: catalog(alloc, dimensions, columns, cubes)?,
         row_limit,
         budget: 0,
     })
@@ -237,6 +252,17 @@ fn append(alloc: Global, words: &[&str]) -> Result<PlainEntry, Fail> {
     })
 }
 
+fn aggregate(words: &[&str]) -> Result<PlainEntry, Fail> {
+    let [call, table, version] = words else {
+        return Err(Fail::from("no aggregate table"));
+    };
+    Ok(PlainEntry::Agg {
+        who: who("1", call)?,
+        table: number(table)?,
+        version: Version(number(version)?),
+    })
+}
+
 fn start(alloc: Global, words: &[&str]) -> Result<PlainEntry, Fail> {
     let [seat, version, name] = words else {
         return Err(Fail::from("no load"));
@@ -270,7 +296,7 @@ fn flush(alloc: Global, words: &[&str]) -> Result<PlainEntry, Fail> {
     })
 }
 
-// An entry of two numbers: an end of a load by a seat, or a call that a seat saw.
+// An entry of two numbers: an end of a load by a seat, an eviction, or a call that a seat saw.
 fn short_entry(kind: &str, words: &[&str]) -> Result<PlainEntry, Fail> {
     let [seat, second] = words else {
         return Err(Fail::from("no entry"));
@@ -285,6 +311,7 @@ fn short_entry(kind: &str, words: &[&str]) -> Result<PlainEntry, Fail> {
             who: who(seat, "0")?,
             load,
         }),
+        "evict" => Ok(PlainEntry::Evict { load }),
         "saw" => Ok(PlainEntry::Saw {
             who: who(seat, second)?,
         }),
@@ -299,6 +326,7 @@ fn entry(alloc: Global, text: &str) -> Result<PlainEntry, Fail> {
     };
     match *kind {
         "append" => append(alloc, rest),
+        "agg" => aggregate(rest),
         "start" => start(alloc, rest),
         "answer" => answer(alloc, rest),
         "flush" => flush(alloc, rest),
@@ -312,9 +340,9 @@ const LEGAL: &str = "legal";
 /// A table of steps over the small catalog, and whether each is legal behind the legal ones before it; with the history of
 /// the legal ones.
 ///
-/// `append CALL VERSION LEAF COUNT` and `flush CALL DIM COLUMN VALUE` are by seat 1, `start SEAT VERSION CELL`, `done SEAT
-/// LOAD`, `drop SEAT LOAD`, `answer SEAT CALL CELL LOAD` and `saw SEAT CALL` by a seat. A line that begins with `#` is a
-/// remark.
+/// `append CALL VERSION LEAF COUNT`, `agg CALL TABLE VERSION` and `flush CALL DIM COLUMN VALUE` are by seat 1, `start
+/// SEAT VERSION CELL`, `done SEAT LOAD`, `drop SEAT LOAD`, `answer SEAT CALL CELL LOAD` and `saw SEAT CALL` by a seat;
+/// `evict 0 LOAD` is by none. A line that begins with `#` is a remark.
 pub fn tell_steps(
     alloc: Global,
     setting: &Setting,

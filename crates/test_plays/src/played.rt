@@ -3,9 +3,10 @@ ghost use Rattle.std.specs.Prelude.{◌≡◌, ◌≤◌, IfOk, Some};
 ghost use Rattle.segment_load.specs.Loads.{body_of, rows_in};
 
 use crate::checks::{are_known, is_next};
+use crate::regions::region_of;
 use cache_manager::{Look, Manager};
 use fact_versions::{AppendFault, Snapshot, Steps};
-use history_core::{Answer, Appended, History};
+use history_core::{Answer, Appended, CacheView, History};
 use olap_meaning::{Cell, CubeId, ROW_LIMIT, Who};
 use segment_load::{Delivery, LoadJob, run_load};
 use std::alloc::Global;
@@ -113,6 +114,39 @@ impl Played {
                 self.jobs = jobs.into_vec();
                 Ok(None)
             }
+            Err(_) => Err(Fail::from("no memory")),
+        }
+    }
+
+    /// Flushes the region of a text, and says the position of its entry.
+    pub(crate) fn flush(&mut self, who: Who, text: &str) -> Result<u64, Fail> {
+        match self.try_flush(who, text)? {
+            Some(position) => Ok(position),
+            None => Err(Fail::from("no memory")),
+        }
+    }
+
+    /// Flushes the region of a text, and says the position of its entry; or none, where memory was wanting for the flush.
+    pub(crate) fn try_flush(&mut self, who: Who, text: &str) -> Result<Option<u64>, Fail> {
+        if !is_next(self.manager.history(), who) {
+            return Err(Fail::from("not the next call"));
+        }
+        let region = region_of(self.alloc, self.manager.catalog(), text)?;
+        self.manager.steps_are_legal();
+        match self.manager.flush(who, region) {
+            Ok(position) => Ok(Some(position)),
+            Err(_) => Ok(None),
+        }
+    }
+
+    /// What is kept.
+    pub(crate) fn show(&mut self, who: Who) -> Result<CacheView, Fail> {
+        if !is_next(self.manager.history(), who) {
+            return Err(Fail::from("not the next call"));
+        }
+        self.manager.steps_are_legal();
+        match self.manager.show(who) {
+            Ok(view) => Ok(view),
             Err(_) => Err(Fail::from("no memory")),
         }
     }

@@ -1,17 +1,19 @@
 //! Calls that are drawn from a seed, on a manager over the sample files. After each the manager is compared with the slow
 //! bodies of the definitions, which walk its whole history: the version of the cube, which loads fly, the sources of the
-//! cells that are asked for, when a batch is refused, and that the history is legal.
+//! cells that are asked for, which loads are kept and how many flushes touch each, when a batch is refused, and that the
+//! history is legal.
 ghost use Rattle.std.specs.Prelude.{◌≤◌, ◌<◌};
 
 use crate::mirror::add_new;
 use crate::plain::sample_setting;
 use crate::played::Played;
+use history_core::CacheView;
 use olap_meaning::tables::Setting;
 use olap_meaning::{
     Cell, CellSource, ColumnId, CubeId, List, MeasureId, OutOfMemory, ValueId, Who,
 };
 use olap_plain::PlainEntry;
-use olap_plain::history::{exact_source, flying, version};
+use olap_plain::history::{exact_source, flush_count, flying, kept, version};
 use olap_plain::steps::{is_legal, rows_held};
 use std::alloc::Global;
 use std::test::Fail;
@@ -20,6 +22,18 @@ use test_samples::random::Random;
 
 /// How many rows there may be.
 const LIMIT: u32 = 12;
+
+/// The regions that are flushed.
+const REGIONS: [&str; 8] = [
+    "[Sales]MEASURES",
+    "[Sales]CROSSJOIN(MEASURES,MEMBER([Time].[1997]))",
+    "[Sales]CROSSJOIN(MEASURES,MEMBER([Time].[1997].[Q1]))",
+    "[Sales]CROSSJOIN(MEASURES,MEMBER([Time].[1998]))",
+    "[Sales]CROSSJOIN(MEMBER([Measures].[Units]),MEMBER([Store].[CA]))",
+    "[Sales]CROSSJOIN(MEASURES,MEMBER([Store].[WA]))",
+    "[Sales]CROSSJOIN(MEASURES,MEMBER([Store].[CA]),MEMBER([Time].[1997]))",
+    "[Sales]CROSSJOIN(MEASURES,RANGE([Time].[1998],[Time].[1997]))",
+];
 
 /// A manager, and its history as the plain bodies have it.
 #[derive(Drop)]
@@ -30,12 +44,16 @@ struct Compared {
     plain: Vec<PlainEntry>,
 }
 
-/// How often a look was answered, how often it started loads, and how often a batch was refused.
+/// How often a look was answered, how often it started loads, how often a batch was refused, how often a region was flushed
+/// while a load flew and while none did, and how many kept loads were shown that some flush touches.
 #[derive(Clone, Copy, Debug, PartialEq, Eq)]
 pub struct Counts {
     pub answers: u32,
     pub loads: u32,
     pub refused: u32,
+    pub overtaken: u32,
+    pub flushed: u32,
+    pub touched: u32,
 }
 
 // Whether a load flies.
@@ -73,6 +91,29 @@ fn are_exact(cells: &[CellSource], sources: &[Option<u64>]) -> bool {
         }
     }
     true
+}
+
+// How many of the loads that are shown some flush touches, where they are those that the plain bodies keep, by rising
+// number.
+fn touched(plain: &[PlainEntry], view: &CacheView) -> Result<u32, Fail> {
+    let mut shown: usize = 0;
+    let mut touched: u32 = 0;
+    for before in 0..plain.len() {
+        let load = before as u64 + 1;
+        if kept(plain, load) {
+            let count = flush_count(plain, load) as u64;
+            match view.lines.get(shown) {
+                Some(line) if line.load == load && line.flushes == count => {}
+                _ => return Err(Fail::from("another kept load")),
+            }
+            touched = touched.saturating_add(u32::from(count > 0));
+            shown = shown.saturating_add(1);
+        }
+    }
+    if shown != view.lines.len() {
+        return Err(Fail::from("a kept load too many"));
+    }
+    Ok(touched)
 }
 
 // Whether each load that was started behind so many entries is for a cell that had no source.
@@ -187,6 +228,23 @@ impl Compared {
         Ok(false)
     }
 
+    // Flushes a region, and says whether a load flew.
+    fn flush(&mut self, who: Who, region: &str) -> Result<bool, Fail> {
+        let position = self.played.flush(who, region)?;
+        self.compare()?;
+        if position != self.plain.len() as u64 {
+            return Err(Fail::from("a flush at another position"));
+        }
+        Ok(!self.played.is_idle())
+    }
+
+    // Shows what is kept, and says how many of the loads some flush touches.
+    fn show(&mut self, who: Who) -> Result<u32, Fail> {
+        let view = self.played.show(who)?;
+        self.compare()?;
+        touched(self.plain.as_slice(), &view)
+    }
+
     // Ends the oldest load in flight.
     fn end(&mut self, is_delivered: bool) -> Result<(), Fail> {
         if is_delivered {
@@ -196,6 +254,22 @@ impl Compared {
         }
         self.compare()
     }
+}
+
+// Flushes a region that is drawn.
+fn flush(
+    compared: &mut Compared,
+    random: &mut Random,
+    who: Who,
+    counts: &mut Counts,
+) -> Result<(), Fail> {
+    let region = REGIONS[random.below(8) as usize];
+    if compared.flush(who, region)? {
+        counts.overtaken = counts.overtaken.saturating_add(1);
+    } else {
+        counts.flushed = counts.flushed.saturating_add(1);
+    }
+    Ok(())
 }
 
 // Makes a call that is drawn.
@@ -209,7 +283,15 @@ fn step(
         seat: random.below(3) + 1,
         call,
     };
-    let kind = random.below(10);
+    let kind = random.below(12);
+    if kind == 10 {
+        return flush(compared, random, who, counts);
+    }
+    if kind == 11 {
+        let touched = compared.show(who)?;
+        counts.touched = counts.touched.saturating_add(touched);
+        return Ok(());
+    }
     if kind == 0 {
         let refused = compared.append(who, sales(), 4)?;
         counts.refused = counts.refused.saturating_add(u32::from(refused));
@@ -240,6 +322,9 @@ pub fn play_drawn(alloc: Global, seed: u64, calls: u32) -> Result<Counts, Fail> 
         answers: 0,
         loads: 0,
         refused: 0,
+        overtaken: 0,
+        flushed: 0,
+        touched: 0,
     };
     for call in 0..calls {
         step(&mut compared, &mut random, u64::from(call) + 1, &mut counts)?;

@@ -3,6 +3,7 @@ ghost use Rattle.std.specs.Prelude.{◌≡◌, ◌≤◌, All, IfOk};
 ghost use Rattle.cache_manager.specs.Runs.{MayCall};
 
 use crate::checks::are_known;
+use crate::regions::region_of;
 use crate::steps::{cells_of, file_of};
 use crate::told::told_reply;
 use cache_manager::{Call, Run, run_calls};
@@ -40,6 +41,14 @@ fn look(alloc: Global, catalog: &Catalog, seat: &str, cells: &[&str]) -> Result<
     Ok(Call::Look { seat, cells })
 }
 
+fn flush(alloc: Global, catalog: &Catalog, seat: &str, text: &str) -> Result<Call, Fail>
+    ensures { IfOk result (λ call. MayCall catalog.now call) }
+{
+    let seat = number(seat)?;
+    let region = region_of(alloc, catalog, text)?;
+    Ok(Call::Flush { seat, region })
+}
+
 fn call_of(alloc: Global, catalog: &Catalog, asked: &str) -> Result<Call, Fail>
     ensures { IfOk result (λ call. MayCall catalog.now call) }
 {
@@ -50,6 +59,10 @@ fn call_of(alloc: Global, catalog: &Catalog, asked: &str) -> Result<Call, Fail>
     match (*first, rest) {
         ("append", [file]) => append(alloc, catalog, second, file),
         ("look", cells) => look(alloc, catalog, second, cells),
+        ("flush", [text]) => flush(alloc, catalog, second, text),
+        ("show", []) => Ok(Call::Show {
+            seat: number(second)?,
+        }),
         ("deliver", []) => Ok(Call::Deliver {
             job: number(second)? as usize,
         }),
@@ -102,7 +115,7 @@ fn told(alloc: Global, run: &Run, table: &str) -> Result<String, Fail> {
 }
 
 /// A table of calls, and what each is answered; and how many replies and entries there are then. A call is `append SEAT
-/// FILE`, `look SEAT CELL ..`, or `deliver JOB` or `abandon JOB` by the place of a job.
+/// FILE`, `look SEAT CELL ..`, `flush SEAT TEXT`, `show SEAT`, or `deliver JOB` or `abandon JOB` by the place of a job.
 pub fn tell_calls(alloc: Global, table: &str) -> Result<(String, usize, u64), Fail> {
     let catalog = open(alloc)?;
     let calls = calls_of(alloc, &catalog, table)?;

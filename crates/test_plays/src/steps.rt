@@ -5,7 +5,7 @@
 ghost use Rattle.std.specs.Prelude.{◌≤◌};
 
 use crate::played::Played;
-use crate::told::{told_answer, told_append, told_entry, told_jobs};
+use crate::told::{told_answer, told_append, told_entry, told_jobs, told_view};
 use olap_meaning::{Cell, ColumnId, CubeId, List, MeasureId, ROW_LIMIT, ValueId, Who};
 use std::alloc::{AllocError, Global};
 use std::test::Fail;
@@ -32,7 +32,8 @@ pub(crate) fn file_of(word: &str) -> Result<&'static [u8], Fail> {
     }
 }
 
-fn cell_of(alloc: Global, word: &str) -> Result<Cell, Fail> {
+/// The cell that is asked for.
+pub(crate) fn cell_of(alloc: Global, word: &str) -> Result<Cell, Fail> {
     let (measure, columns) = measured(alloc, word)?;
     let mut at = List::new(alloc);
     for (column, value) in columns.as_slice() {
@@ -68,6 +69,16 @@ fn look(alloc: Global, played: &mut Played, who: &str, cells: &[&str]) -> Result
         Some(answer) => Ok(told_answer(alloc, &answer)?),
         None => Ok(told_jobs(alloc, played.jobs())?),
     }
+}
+
+fn flush(alloc: Global, played: &mut Played, who: &str, region: &str) -> Result<String, Fail> {
+    let position = played.flush(who_of(who)?, region)?;
+    Ok(format!(in alloc; "entry {position}")?)
+}
+
+fn show(alloc: Global, played: &mut Played, who: &str) -> Result<String, Fail> {
+    let view = played.show(who_of(who)?)?;
+    Ok(told_view(alloc, &view)?)
 }
 
 /// How many entries there are, and whether a load is in flight.
@@ -112,6 +123,8 @@ fn done(alloc: Global, played: &mut Played, asked: &str) -> Result<String, Fail>
     match (*first, rest) {
         ("append", [who, file]) => append(alloc, played, who, file),
         ("look", [who, cells @ ..]) => look(alloc, played, who, cells),
+        ("flush", [who, region]) => flush(alloc, played, who, region),
+        ("show", [who]) => show(alloc, played, who),
         ("entry", [place]) => entry(alloc, played, place),
         (word, _) => plain_step(alloc, played, word),
     }
@@ -121,6 +134,8 @@ fn done(alloc: Global, played: &mut Played, asked: &str) -> Result<String, Fail>
 ///
 /// - `append SEAT/CALL FILE` appends a batch, `sales` or `later`;
 /// - `look SEAT/CALL CELL ..` asks for cells, each a measure and its columns as `0:0=1,1=0`;
+/// - `flush SEAT/CALL TEXT` flushes the region of a text without white space, as `[Sales]MEASURES`;
+/// - `show SEAT/CALL` shows what is kept;
 /// - `deliver` and `abandon` end the oldest load in flight;
 /// - `count` and `present` look at the entries and at the present version, and `entry N` reads an entry back.
 pub fn tell_steps(alloc: Global, row_limit: u32, table: &str) -> Result<String, Fail>

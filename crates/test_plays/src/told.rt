@@ -1,7 +1,7 @@
 //! Answers, jobs and entries in words.
 use cache_manager::Reply;
 use fact_versions::AppendFault;
-use history_core::{Answer, Appended, Entry};
+use history_core::{Answer, Appended, CacheView, Entry};
 use olap_meaning::{Allowed, Header};
 use segment_load::LoadJob;
 use std::alloc::{AllocError, Global};
@@ -22,6 +22,20 @@ pub(crate) fn told_answer(alloc: Global, answer: &Answer) -> Result<String, Allo
     let mut text = format!(in alloc; "answer {}:", answer.position)?;
     for cell in answer.cells.as_slice() {
         let more = format!(in alloc; " {:?} of {}", cell.value, cell.version.0)?;
+        text.push_str(more.as_str())?;
+    }
+    Ok(text)
+}
+
+/// What is kept: the position, and of each load its number, version and header, and how many flushes touch it.
+pub(crate) fn told_view(alloc: Global, view: &CacheView) -> Result<String, AllocError> {
+    let mut text = format!(in alloc; "view {}:", view.position)?;
+    for line in view.lines.as_slice() {
+        let header = told_header(alloc, &line.header)?;
+        let more = format!(in alloc;
+            " load {} of version {} of {}, {} flushes;",
+            line.load, line.version.0, header, line.flushes
+        )?;
         text.push_str(more.as_str())?;
     }
     Ok(text)
@@ -96,15 +110,34 @@ pub(crate) fn told_entry(alloc: Global, entry: Option<&Entry>) -> Result<String,
             version.0,
             reason.at.len()
         ),
+        Some(
+            Entry::Agg {
+                who,
+                table,
+                version,
+            },
+        ) => format!(in alloc;
+            "aggregate {}/{}: table {table}, version {}",
+            who.seat, who.call, version.0
+        ),
+        Some(Entry::Flush { who, region }) => format!(in alloc;
+            "flush {}/{}: cube {}, boxes {}",
+            who.seat,
+            who.call,
+            region.cube.0,
+            region.boxes.len()
+        ),
         Some(Entry::Done { who, load }) => {
             format!(in alloc; "done {}/{}: load {load}", who.seat, who.call)
         }
         Some(Entry::Drop { who, load }) => {
             format!(in alloc; "drop {}/{}: load {load}", who.seat, who.call)
         }
+        Some(Entry::Evict { load }) => format!(in alloc; "evict: load {load}"),
         Some(Entry::Answer { who, cells }) => {
             format!(in alloc; "answer {}/{}: cells {}", who.seat, who.call, cells.len())
         }
+        Some(Entry::Saw { who }) => format!(in alloc; "saw {}/{}", who.seat, who.call),
     }
 }
 
@@ -116,6 +149,8 @@ pub(crate) fn told_reply(alloc: Global, reply: &Reply) -> Result<String, AllocEr
         }
         Reply::Refused(fault) => fault.to_string(alloc),
         Reply::Ready(answer) => told_answer(alloc, answer),
+        Reply::Flushed(position) => format!(in alloc; "entry {position}"),
+        Reply::Shown(view) => told_view(alloc, view),
         Reply::Loading => format!(in alloc; "loading"),
         Reply::Busy => format!(in alloc; "busy"),
         Reply::Ended => format!(in alloc; "ended"),

@@ -78,7 +78,7 @@ answer_ready-requires-clause-ready g c =
       are = rw c.in-Load.is at c.in_ok-answer.ensures.jobs;
       legal = c.steps_are_legal-in-Load.ensures;
     } in
-    ready_again c.args.manager.now c.end_loads.new.manager c.args.who c.args.cells.now c.requires.known (c.end_loads.ensures.setting ∙ c.look.ensures.setting)
+    ready_again c.args.manager.now c.end_loads.new.manager c.args.who c.args.cells.now c.steps_are_legal-in-Load-2.ensures c.requires.known (c.end_loads.ensures.setting ∙ c.look.ensures.setting)
     (all_delivered c.args.manager.now c.look.new.self c.args.who c.args.cells.now c.in-Load.jobs look c.end_loads.new.manager.entries (c.end_loads.ensures.delivered c.if-not-end_loads.false))
 
 pub returns-in_err-answer-in-Load-clause-refused : goal.returns-in_err-answer-in-Load-clause-refused

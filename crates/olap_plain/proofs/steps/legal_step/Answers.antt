@@ -6,6 +6,9 @@ use Rattle.olap_plain.proofs.steps.legal_step.Goals as goal
 pub returns-in-Append : goal.returns-in-Append
 returns-in-Append c = step_of c.args.setting.now (entries c.args.history.now) c.args.entry.now _ c.is_legal_append.result c.in-Append.is c.is_legal_append.ensures
 
+pub returns-in-Agg : goal.returns-in-Agg
+returns-in-Agg c = step_of c.args.setting.now (entries c.args.history.now) c.args.entry.now _ c.is_legal_agg.result c.in-Agg.is c.is_legal_agg.ensures
+
 pub returns-in-Start : goal.returns-in-Start
 returns-in-Start c = step_of c.args.setting.now (entries c.args.history.now) c.args.entry.now _ c.is_legal_start.result c.in-Start.is c.is_legal_start.ensures
 

@@ -1,8 +1,10 @@
 -- A load of its own may be delivered, and the manager keeps what its history says.
-use Rattle.std.proofs.Common.{◌∙◌, ap, refl, arith}
+use Rattle.std.proofs.Common.{◌∙◌, [], ap, refl}
 use Rattle.olap_meaning.specs.History.{load_version}
 use Rattle.history_core.specs.Cache.{CacheOf}
-use Rattle.cache_manager.proofs.Ends.{ends, flies, keeps, room, spares}
+use Rattle.cache_manager.specs.Kept.{has_places, headers_of}
+use Rattle.cache_manager.proofs.Ends.{ends, flies, in_flight, keeps, shut_of, spares, unkept}
+use Rattle.cache_manager.proofs.Managing.{others, place_of_one}
 use Rattle.cache_manager.proofs.Moves.{delivered}
 use Rattle.cache_manager.proofs.manager.Manager.deliver.Goals as goal
 
@@ -15,13 +17,22 @@ push-requires-clause-room c = spares _ _ _ _ c.self.view_is c.steps_are_legal.en
 pub push-requires-clause-legal : goal.push-requires-clause-legal
 push-requires-clause-legal c = ends _ c.self.inside.history _ _ c.self.view_is c.steps_are_legal.ensures c.requires.own.load c.requires.own.flies
 
-pub push_reserved-requires : goal.push_reserved-requires
-push_reserved-requires c = omega (arith, room _ c.self.inside.history _ _ c.self.view_is c.steps_are_legal.ensures c.requires.own.load c.requires.own.flies _ _ _ _ c.self.invariant)
+pub end-shut-requires : goal.end-shut-requires
+end-shut-requires c = in_flight _ c.self.inside.history _ _ c.self.view_is c.steps_are_legal.ensures c.requires.own.load c.requires.own.flies _ _ _ _ c.self.invariant
+
+pub insert-requires-clause-place : goal.insert-requires-clause-place
+insert-requires-clause-place c =
+    let there = in_flight _ c.self.inside.history _ _ c.self.view_is c.steps_are_legal.ensures c.requires.own.load c.requires.own.flies _ _ _ _ c.self.invariant in
+    ([], headers_of (others c.args.delivery.load c.self.inside.flights.flights), place_of_one c.args.delivery.load c.self.inside.shelf c.args.delivery.body.header c.self.inside.flights.flights there c.self.invariant.places_fit)
+
+pub insert-requires-clause-another : goal.insert-requires-clause-another
+insert-requires-clause-another c = unkept _ c.self.inside.history _ _ c.self.view_is c.steps_are_legal.ensures c.requires.own.load c.requires.own.flies _ _ _ _ c.self.invariant
 
 pub invariant_of-self : goal.invariant_of-self
 invariant_of-self c =
-    let free = room _ c.self.inside.history _ _ c.self.view_is c.steps_are_legal.ensures c.requires.own.load c.requires.own.flies _ _ _ _ c.self.invariant in
-    rw (c.push.ensures.setting, c.push.ensures.entries, c.end_flight.ensures, c.push_reserved.ensures.items)
-    (delivered _ _ _ _ _ _ c.steps_are_legal.ensures _ _ _ c.args.delivery.who c.args.delivery.load _ c.self.invariant (flies _ c.self.inside.history _ _ c.self.view_is c.steps_are_legal.ensures c.requires.own.load c.requires.own.flies) c.push.ensures.spare
-    (omega (arith, free, c.push_reserved.ensures.len, c.push_reserved.ensures.capacity)) refl
-    (keeps _ c.self.inside.history c.args.delivery.who c.args.delivery.load _ _ c.self.view_is c.steps_are_legal.ensures c.requires.own (ap (λ (k : CacheOf). load_version k.entries c.args.delivery.load) c.self.view_is ∙ c.version_in_flight-version.ensures) c.header-header.ensures.well_formed))
+    let there = in_flight _ c.self.inside.history _ _ c.self.view_is c.steps_are_legal.ensures c.requires.own.load c.requires.own.flies _ _ _ _ c.self.invariant in
+    rw (c.push.ensures.setting, c.push.ensures.entries, c.end-shut.ensures.flights, c.insert.ensures.loads)
+    (delivered _ _ _ _ (has_places c.self.inside.shelf) _ c.steps_are_legal.ensures _ _ (has_places c.insert.new.self) c.args.delivery.who c.args.delivery.load _ c.self.invariant (flies _ c.self.inside.history _ _ c.self.view_is c.steps_are_legal.ensures c.requires.own.load c.requires.own.flies) c.push.ensures.spare
+    (c.insert.ensures.places [] (headers_of (others c.args.delivery.load c.self.inside.flights.flights)) (place_of_one c.args.delivery.load c.self.inside.shelf c.args.delivery.body.header c.self.inside.flights.flights there c.self.invariant.places_fit)) refl
+    (keeps _ c.self.inside.history c.args.delivery.who c.args.delivery.load _ _ _ c.self.view_is c.steps_are_legal.ensures c.requires.own (ap (λ (k : CacheOf). load_version k.entries c.args.delivery.load) c.self.view_is ∙ c.version_in_flight-version.ensures) c.header-header.ensures.well_formed
+    (shut_of _ c.self.inside.history _ _ c.self.view_is c.steps_are_legal.ensures c.requires.own.load c.requires.own.flies _ _ _ _ c.self.invariant _ c.end-shut.ensures.shut)))

@@ -26,7 +26,7 @@ returns c =
     c.in_ok-header.ensures c.args.self.now.setting.catalog c.requires.all_known in
     record {
       start = rw (c.in_ok-copy.ensures ∙ made, c.version-version.ensures ∙ c.in_ok-snapshot.ensures.version, c.in_ok-copy_cell.ensures) refl;
-      flight = rw (c.version-version.ensures ∙ c.in_ok-snapshot.ensures.version) refl;
+      flight = rw (c.in_ok-other.ensures ∙ made, c.version-version.ensures ∙ c.in_ok-snapshot.ensures.version) refl;
       load = ap (λ (j : JobOf). j.load) c.new.ensures;
       who_is = ap (λ (j : JobOf). j.who) c.new.ensures;
       header = ap (λ (j : JobOf). j.header) c.new.ensures ∙ made;

@@ -11,36 +11,48 @@ use Rattle.history_core.specs.Groups.{firsts}
 use Rattle.cache_manager.specs.Lent.{lent}
 use Rattle.cache_manager.specs.Jobs.{IsJobOf}
 use Rattle.history_core.specs.Seats.{NoneFlies}
+use Rattle.cache_manager.specs.declared.starts.Planned.{Planned}
+use Rattle.cache_manager.specs.Kept.{has_places, headers_of}
 use Rattle.cache_manager.specs.Plans.{AreLegalSteps, ArePlanned}
 use Rattle.cache_manager.proofs.Ends.{cache_of}
-use Rattle.cache_manager.proofs.Looking.{all_legal, jobs_started, manager_started}
+use Rattle.cache_manager.proofs.Looking.{all_legal, jobs_started, manager_started, numbers_new}
 use Rattle.cache_manager.proofs.Planning.{planned_numbers, planned_steps, step_of}
 use Rattle.cache_manager.proofs.manager.Manager.start.Goals as goal
 
 pub start_all-requires-clause-legal : goal.start_all-requires-clause-legal
 start_all-requires-clause-legal c =
     let legal : Legal c.args.self.now.setting c.args.self.now.entries = subst (λ (k : CacheOf). Legal k.setting k.entries) c.self.view_is c.steps_are_legal.ensures in
-    rw (c.reserve-3.ensures.setting, c.reserve-3.ensures.entries)
+    rw (c.reserve-2.ensures.setting, c.reserve-2.ensures.entries)
     (subst (λ (k : CacheOf). AreLegalSteps k.setting k.entries (map step_of c.in_ok-plans.plans.items)) (sym c.self.view_is)
     (all_legal c.args.self.now c.args.who (lent c.args.wanted.now) c.in_ok-plans.plans.items legal c.requires.known c.requires.unserved c.requires.idle c.in_ok-plans.ensures))
+
+pub start_all-requires-clause-flights_new : goal.start_all-requires-clause-flights_new
+start_all-requires-clause-flights_new c =
+    rw c.reserve.ensures.flights
+    (numbers_new (cache_of c.self.inside.history) c.args.who (lent c.args.wanted.now) c.in_ok-plans.plans.items c.steps_are_legal.ensures
+    (subst (λ (k : CacheOf). list_all (is_cell k.setting.catalog) (lent c.args.wanted.now) ≡ true) (sym c.self.view_is) c.requires.known)
+    (subst (λ (k : CacheOf). list_all (λ cell. not (is_some (exact_source k.entries cell))) (lent c.args.wanted.now) ≡ true) (sym c.self.view_is) c.requires.unserved)
+    (subst (λ (k : CacheOf). NoneFlies k.entries) (sym c.self.view_is) c.requires.idle)
+    (subst (λ (k : CacheOf). ArePlanned k c.args.who (lent c.args.wanted.now) (length k.entries + 1) (firsts [] (lent c.args.wanted.now)) c.in_ok-plans.plans.items) (sym c.self.view_is) c.in_ok-plans.ensures)
+    c.self.inside.flights.flights c.self.invariant.flights_are)
 
 pub invariant_of-self-2 : goal.invariant_of-self-2
 invariant_of-self-2 c =
     let many : length c.in_ok-plans.plans.items ≡ vec_len c.in_ok-plans.plans = sym c.in_ok-plans.plans.ok.0 in
-    let flying : length c.self.inside.flights.items ≡ vec_len c.self.inside.flights = sym c.self.inside.flights.ok.0 in
-    rw (c.start_all.ensures.setting, c.start_all.ensures.entries, c.start_all.ensures.flights, c.reserve-3.ensures.setting, c.reserve-3.ensures.entries, c.reserve-2.ensures.items, c.reserve.ensures.items)
+    rw (c.start_all.ensures.setting, c.start_all.ensures.entries, c.start_all.ensures.flights, c.reserve-2.ensures.setting, c.reserve-2.ensures.entries, c.reserve.ensures.flights, c.reserve_places.ensures.loads)
     (manager_started (cache_of c.self.inside.history) c.args.who (lent c.args.wanted.now) c.in_ok-plans.plans.items c.steps_are_legal.ensures
     (subst (λ (k : CacheOf). list_all (is_cell k.setting.catalog) (lent c.args.wanted.now) ≡ true) (sym c.self.view_is) c.requires.known)
     (subst (λ (k : CacheOf). list_all (λ cell. not (is_some (exact_source k.entries cell))) (lent c.args.wanted.now) ≡ true) (sym c.self.view_is) c.requires.unserved)
     (subst (λ (k : CacheOf). NoneFlies k.entries) (sym c.self.view_is) c.requires.idle)
     (subst (λ (k : CacheOf). ArePlanned k c.args.who (lent c.args.wanted.now) (length k.entries + 1) (firsts [] (lent c.args.wanted.now)) c.in_ok-plans.plans.items) (sym c.self.view_is) c.in_ok-plans.ensures)
-    c.self.inside.facts c.self.inside.kept.items c.self.inside.history.spare _ _ _ c.self.inside.flights.items c.self.invariant
-    (omega (arith, many, flying, c.start_all.ensures.spare, c.in_ok-reserve-3.ensures.ok, c.in_ok-sum.ensures, c.in_ok-ends.ensures, c.len-2.ensures, c.len-3.ensures, c.len-5.ensures))
-    (omega (arith, many, flying, c.in_ok-reserve.ensures.ok, c.in_ok-ends.ensures, c.len-2.ensures, c.len-3.ensures)))
+    c.self.inside.facts c.self.inside.shelf.loads c.self.inside.history.spare _ (has_places c.self.inside.shelf) (has_places c.reserve_places.new.shelf) c.self.inside.flights.flights c.self.invariant
+    (omega (arith, many, c.start_all.ensures.spare, c.in_ok-reserve-2.ensures.ok, c.in_ok-sum.ensures, c.in_ok-ends.ensures, c.len-2.ensures, c.len-3.ensures, c.len-5.ensures))
+    (subst (λ (plans : List Planned). has_places c.reserve_places.new.shelf (headers_of c.self.inside.flights.flights ++ map (λ p. p.flight.header) plans)) c.as_slice.ensures.value
+    (c.in_ok-reserve_places.ensures.ok (headers_of c.self.inside.flights.flights) c.self.invariant.places_fit)))
 
 pub returns-clause-entries : goal.returns-clause-entries
 returns-clause-entries c =
-    c.start_all.ensures.entries ∙ ap (λ (es : List Entry). es ++ map step_of c.in_ok-plans.plans.items) (c.reserve-3.ensures.entries ∙ ap (λ (k : CacheOf). k.entries) c.self.view_is)
+    c.start_all.ensures.entries ∙ ap (λ (es : List Entry). es ++ map step_of c.in_ok-plans.plans.items) (c.reserve-2.ensures.entries ∙ ap (λ (k : CacheOf). k.entries) c.self.view_is)
     ∙ ap (λ (steps : List Entry). c.args.self.now.entries ++ steps) (planned_steps c.args.self.now c.args.who (lent c.args.wanted.now) (length c.args.self.now.entries + 1) (firsts [] (lent c.args.wanted.now)) c.in_ok-plans.plans.items c.in_ok-plans.ensures)
 
 pub returns-clause-numbers : goal.returns-clause-numbers
@@ -54,9 +66,9 @@ returns-clause-jobs c =
     let legal : Legal c.args.self.now.setting c.args.self.now.entries = subst (λ (k : CacheOf). Legal k.setting k.entries) c.self.view_is c.steps_are_legal.ensures in
     let jobs : c.from_vec.result ≡ map (λ p. p.job) c.in_ok-plans.plans.items =
     c.from_vec.ensures ∙ c.start_all.ensures.jobs ∙ ap (λ (js : List JobOf). js ++ map (λ p. p.job) c.in_ok-plans.plans.items) c.in_ok-jobs.ensures.items in
-    let settings : c.start_all.new.history.setting ≡ c.args.self.now.setting = c.start_all.ensures.setting ∙ c.reserve-3.ensures.setting ∙ ap (λ (k : CacheOf). k.setting) c.self.view_is in
+    let settings : c.start_all.new.history.setting ≡ c.args.self.now.setting = c.start_all.ensures.setting ∙ c.reserve-2.ensures.setting ∙ ap (λ (k : CacheOf). k.setting) c.self.view_is in
     let entries : c.start_all.new.history.entries ≡ c.args.self.now.entries ++ map step_of c.in_ok-plans.plans.items =
-    c.start_all.ensures.entries ∙ ap (λ (es : List Entry). es ++ map step_of c.in_ok-plans.plans.items) (c.reserve-3.ensures.entries ∙ ap (λ (k : CacheOf). k.entries) c.self.view_is) in
+    c.start_all.ensures.entries ∙ ap (λ (es : List Entry). es ++ map step_of c.in_ok-plans.plans.items) (c.reserve-2.ensures.entries ∙ ap (λ (k : CacheOf). k.entries) c.self.view_is) in
     subst (λ (js : List JobOf). All (IsJobOf (record { setting = c.start_all.new.history.setting; entries = c.start_all.new.history.entries })) js) (sym jobs)
     (subst (λ (s : Setting). All (IsJobOf (record { setting = s; entries = c.start_all.new.history.entries })) (map (λ p. p.job) c.in_ok-plans.plans.items)) (sym settings)
     (subst (λ (es : List Entry). All (IsJobOf (record { setting = c.args.self.now.setting; entries = es })) (map (λ p. p.job) c.in_ok-plans.plans.items)) (sym entries)

@@ -1,5 +1,5 @@
 -- That `worth` ensures what it says.
-use Rattle.std.proofs.Common.{◌<◌, ◌≡◌, ◌∙◌, arith, length, map, refl, sym}
+use Rattle.std.proofs.Common.{◌<◌, ◌≡◌, ◌∙◌, arith, length, refl}
 use Rattle.std.proofs.lemmas.List.{length-map}
 use Rattle.segment_body.specs.BodyOf.{body_row_in}
 use Rattle.olap_plain.proofs.RowListFacts.{numbers_few, numbers_more}

@@ -1,5 +1,5 @@
 -- What holds at each turn of `worth`.
-use Rattle.std.proofs.Common.{◌≡◌, map, take}
+use Rattle.std.proofs.Common.{◌≡◌, take}
 use Rattle.segment_body.specs.BodyOf.{body_row_in}
 use Rattle.segment_body.specs.Folds.{numbers_where}
 use Rattle.olap_plain.proofs.bodies.RowList.worth.Given as goal

@@ -4,4 +4,4 @@ use Rattle.segment_body.proofs.MapFacts.{position_groups}
 use Rattle.segment_body.proofs.group.GroupTable.place_of.Goals as goal
 
 pub returns : goal.returns
-returns c = rw (← c.self.view_is) (c.get_index_of.ensures.index ∙ position_groups (λ key. key.items) (bytes_eq c.args.values.now) c.self.inside.tallies.entries)
+returns c = rw (← c.self.view_is) (c.get_index_of.ensures.index ∙ position_groups (λ key. key) (bytes_eq c.args.values.now) c.self.inside.tallies.entries)

@@ -1,0 +1,56 @@
+-- Kept loads, as a list.
+use Rattle.std.specs.Prelude.{ℕ, ◌≡◌, ◌≤◌, ◌++◌, ◌∷◌, [], ◌&&◌, List, Bool, true, false, not, All, Contains, Option, Some, None, map}
+use Rattle.olap_meaning.specs.declared.cells.Cell.{Cell}
+use Rattle.olap_meaning.specs.declared.regions.Region.{Region}
+use Rattle.olap_meaning.specs.Covering.{among, concerning, just_covers}
+use Rattle.segment_body.specs.BodyOf.{BodyOf}
+use Rattle.cache_flush.specs.Shuts.{is_live}
+use Rattle.cache_flush.specs.declared.kept.Kept.{Kept}
+
+-- a kept load: its number, its version, its body, and the regions that shut off part of it
+pub record KeptOf : Type 0 where
+  pub load : ℕ
+  pub version : ℕ
+  pub body : BodyOf
+  pub shut : List Region
+
+-- a kept load without the room that it has for more regions
+abbrev pub kept_of : Kept → KeptOf
+kept_of kept =
+    record {
+      load = kept.load;
+      version = kept.version;
+      body = kept.body;
+      shut = kept.shut.regions;
+    }
+
+-- kept loads, how many more there is room for, and for how many more regions each of them has room
+pub record ShelfOf : Type 0 where
+  pub loads : List KeptOf
+  pub places : ℕ
+  pub rooms : List ℕ
+
+-- the numbers of kept loads
+abbrev pub numbers_of : List KeptOf → List ℕ
+numbers_of loads = map (λ kept. kept.load) loads
+
+-- no number stands twice
+abbrev pub are_different : List ℕ → Bool
+are_different [] = true
+are_different (n ∷ ns) = not (among ns n) && are_different ns
+
+-- a kept load serves a cell: it covers the cell with just the cell's columns, and is live for it
+abbrev pub serves : KeptOf → Cell → Bool
+serves kept cell = just_covers kept.body.header cell && is_live kept.shut cell
+
+-- of kept loads, the one with the greatest number among those that serve a cell, if there is one
+abbrev pub IsGreatest : List KeptOf → Cell → Option KeptOf → Type 0
+IsGreatest loads cell None = All (λ kept. serves kept cell ≡ false) loads
+IsGreatest loads cell (Some best) =
+    Contains loads best × (serves best cell ≡ true)
+    × All (λ kept. serves kept cell ≡ true → kept.load ≤ best.load) loads
+
+-- a region shuts off part of a kept load, where it concerns the load's header
+abbrev pub shut_off : Region → KeptOf → KeptOf
+shut_off region kept =
+    record kept { shut = kept.shut ++ concerning kept.body.header (region ∷ []) }

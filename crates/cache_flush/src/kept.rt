@@ -1,0 +1,53 @@
+//! A load that was delivered.
+ghost use Rattle.std.specs.Prelude.{◌≡◌, ◌<◌, OnOk};
+ghost use Rattle.olap_meaning.specs.Covering as covering;
+ghost use Rattle.cache_flush.specs.Loads as loads;
+ghost use Rattle.cache_flush.specs.Loads.{kept_of};
+
+use crate::shut::Shut;
+use olap_meaning::{Cell, OutOfMemory, Region, Version};
+use segment_body::Body;
+use segment_header::{covers, same_columns};
+use std::sync::Arc;
+
+/// A load that was delivered: its number, which is the position of its Start, its version, its body, which has the
+/// header, and the regions that shut off part of it.
+#[derive(Drop)]
+pub struct Kept {
+    pub load: u64,
+    pub version: Version,
+    pub body: Body,
+    pub shut: Shut,
+}
+
+impl Kept {
+    /// Whether the load covers a cell with just the cell's columns, and no region shuts it off. It takes no memory.
+    pub fn serves(&self, cell: &Cell) -> bool
+        ensures { result ≡ loads.serves (kept_of self.now) cell.now }
+    {
+        self.just_covers(cell) && self.shut.is_live(cell)
+    }
+
+    fn just_covers(&self, cell: &Cell) -> bool
+        ensures { result ≡ covering.just_covers self.now.body.header cell.now }
+    {
+        let header = self.body.header();
+        covers(header, cell) && same_columns(header, cell)
+    }
+
+    // Makes room for one region more in what shuts off part of the load.
+    pub(crate) fn reserve_shut(&mut self) -> Result<(), OutOfMemory>
+        ensures room { OnOk result (0 < self.new.shut.spare) }
+        ensures load { kept_of self.new ≡ kept_of self.old }
+    {
+        self.shut.reserve()
+    }
+
+    // Adds a region to what shuts off part of the load, where it concerns the load.
+    pub(crate) fn shut_off(&mut self, region: Arc<Region>)
+        requires { 0 < self.old.shut.spare }
+        ensures { kept_of self.new ≡ loads.shut_off region.value (kept_of self.old) }
+    {
+        self.shut.add(region, self.body.header());
+    }
+}

@@ -1,0 +1,97 @@
+//! What a shelf of kept loads offers: the plain one and those that find loads faster keep the same contracts.
+use crate::kept::Kept;
+use olap_meaning::{Cell, Header, List, OutOfMemory, Region};
+use std::sync::Arc;
+
+/// A shelf of kept loads, as those see it who only look up loads by their numbers. Its meaning is the list of the loads.
+pub trait Shelf {
+    ghost use Rattle.std.specs.Prelude.{◌≡◌, ◌==◌, List, IsTrue, option_copied, option_map};
+    ghost use Rattle.std.specs.List.{find};
+    ghost use Rattle.cache_flush.specs.Loads.{KeptOf, are_different, kept_of, numbers_of};
+
+    // the kept loads, in the order in which they were put in
+    ghost loads: { Self → List KeptOf };
+
+    /// The kept load of a number, None exactly where there is none. It takes no memory.
+    fn kept(&self, load: u64) -> Option<&Kept>
+        ensures { option_map kept_of (option_copied result)
+            ≡ find (λ kept. kept.load == load) (loads self.now) };
+
+    /// No number stands twice. This costs nothing.
+    fn numbers_differ(&self)
+        ensures { IsTrue (are_different (numbers_of (loads self.now))) };
+}
+
+/// A shelf of kept loads, as a cache uses it: loads are put in, found by the cells that they serve, and shut off in part by
+/// flushes. All room is made by `reserve` and `reserve_shut`.
+pub trait CacheShelf: Shelf {
+    ghost use Rattle.std.specs.Prelude.{ℕ, ◌≡◌, ◌++◌, ◌∷◌, [], List, IfOk, IsTrue, OnOk, false, length, map, option_copied, option_map};
+    ghost use Rattle.olap_meaning.specs.declared.cells.Header.{Header};
+    ghost use Rattle.olap_meaning.specs.Covering.{among};
+    ghost use Rattle.olap_meaning.specs.Legal.{rise};
+    ghost use Rattle.cache_flush.specs.Handles.{AreHandles};
+    ghost use Rattle.cache_flush.specs.Loads.{IsGreatest, kept_of, numbers_of, shut_off};
+
+    // there is a place for a load of each of these headers
+    ghost has_places: { Self → List Header → Type 0 };
+
+    // there is room for one region more in what shuts off part of each kept load
+    ghost has_rooms: { Self → Type 0 };
+
+    /// A place that is not needed hinders no other. This costs nothing.
+    fn places_are_apart(&self)
+        ensures { (before : List Header) (header : Header) (after : List Header)
+            → has_places self.now (before ++ header ∷ after) → has_places self.now (before ++ after) };
+
+    /// How many loads are kept.
+    fn len(&self) -> usize
+        ensures { result ≡ length (Self.loads self.now) };
+
+    /// The numbers of the kept loads, rising.
+    fn numbers(&self) -> Result<List<u64>, OutOfMemory>
+        ensures rising { IfOk result (λ numbers. IsTrue (rise numbers)) }
+        ensures members { IfOk result (λ numbers. (load : ℕ)
+            → among numbers load ≡ among (numbers_of (Self.loads self.now)) load) };
+
+    /// Of the kept loads that cover a cell with just the cell's columns and are live for it, the one with the greatest
+    /// number, None exactly where there is none. It takes no memory.
+    fn find(&self, cell: &Cell) -> Option<&Kept>
+        ensures { IsGreatest (Self.loads self.now) cell.now
+            (option_map kept_of (option_copied result)) };
+
+    /// Makes one place more for a load of a header, beside those that are there.
+    fn reserve(&mut self, header: &Header) -> Result<(), OutOfMemory>
+        ensures place { OnOk result ((headers : List Header)
+            → has_places self.old headers → has_places self.new (headers ++ header.now ∷ [])) }
+        ensures places { (headers : List Header)
+            → has_places self.old headers → has_places self.new headers }
+        ensures loads { Self.loads self.new ≡ Self.loads self.old };
+
+    /// Puts a load in, where there is a place for its header and no load of its number. It takes no memory.
+    fn insert(&mut self, kept: Kept)
+        requires place { (before : List Header) × (after : List Header)
+            × has_places self.old (before ++ kept.body.header ∷ after) }
+        requires another { among (numbers_of (Self.loads self.old)) kept.load ≡ false }
+        ensures places { (before : List Header) (after : List Header)
+            → has_places self.old (before ++ kept.body.header ∷ after)
+            → has_places self.new (before ++ after) }
+        ensures loads { Self.loads self.new ≡ Self.loads self.old ++ kept_of kept ∷ [] };
+
+    /// Makes room for one region more in what shuts off part of each kept load, and as many handles of the region as loads
+    /// are kept. The loads stay as they were, also where memory is wanting.
+    fn reserve_shut(&mut self, region: &Arc<Region>) -> Result<List<Arc<Region>>, OutOfMemory>
+        ensures handles { IfOk result
+            (AreHandles region.now.value (length (Self.loads self.old))) }
+        ensures rooms { OnOk result (has_rooms self.new) }
+        ensures places { (headers : List Header)
+            → has_places self.old headers → has_places self.new headers }
+        ensures loads { Self.loads self.new ≡ Self.loads self.old };
+
+    /// Adds a region to what shuts off part of each kept load that it concerns, by handles of it. It takes no memory.
+    fn shut(&mut self, region: &Region, handles: List<Arc<Region>>)
+        requires handles { AreHandles region.now (length (Self.loads self.old)) handles }
+        requires rooms { has_rooms self.old }
+        ensures places { (headers : List Header)
+            → has_places self.old headers → has_places self.new headers }
+        ensures loads { Self.loads self.new ≡ map (shut_off region.now) (Self.loads self.old) };
+}

@@ -1,7 +1,0 @@
--- What holds at each turn of `crossed_boxes`.
-use Rattle.std.proofs.Common.{◌≡◌, take}
-use Rattle.query_meaning.specs.RegionMeaning.{crossed_boxes}
-use Rattle.region_algebra.proofs.boxes.crossed_boxes.Given as goal
-
-abbrev pub invariant-loop-first : goal.invariant-loop-first
-invariant-loop-first l = l.boxes ≡ crossed_boxes (take l.first-index l.firsts) l.seconds
