@@ -38,6 +38,9 @@ R	[Store].[WA].[Seattle]
 ."""
 SLICED = "MDX SELECT NON EMPTY [Time].[Year].Members ON COLUMNS FROM [Sales] WHERE ([Measures].[Average], [Store].[CA])"
 BY_YEAR = "GRID # 1 1\nC\t[Time].[1997]\nR\t\tCA\n."
+# The flush covers the units of Q1 of 1997, which are then loaded again, and no count.
+FLUSH = "FLUSH [Sales] CROSSJOIN(MEMBER([Measures].[Units]), MEMBER([Time].[1997].[Q1]))"
+BEHIND_FLUSH = BY_QUARTER.replace("\t12\t2\n", "\tQ1\n")
 OLD = {"LA": "8\t2\t4.00\t1\t3\t5", "CA": "5.00"}
 NEW = {"LA": "108\t3\t36.00\t2\t3\t100", "CA": "28.75"}
 SESSION = [
@@ -55,9 +58,15 @@ SESSION = [
     ("HELLO", "ERR 3 COMMAND"),
     (SLICED, BY_YEAR),
     (SLICED, BY_YEAR),
+    ("AFTER 1", "SEEN #"),
+    (FLUSH, "FLUSHED #"),
+    ("AFTER 1", "SEEN #"),
+    (REPORT, BEHIND_FLUSH),
+    (REPORT, BEHIND_FLUSH),
+    ("CACHE", "KEPT"),
     ("QUIT", "BYE"),
 ]
-APPENDED = 3
+APPENDED, FLUSHED = 3, 15
 NO_MEMORY, LIMIT, SECONDS = "ERR 15 MEMORY", 1_000_000, 60
 
 olapd, library = sys.argv[1:3]
@@ -78,11 +87,32 @@ def run(at):
         return *ended, int.from_bytes(it.read(), sys.byteorder)
 
 
+def kept(appended, flushed):
+    """The text of what is kept, without the loads' numbers and sorted, by whether the append and the flush were made."""
+    later = 1 + appended
+    quarters, cities = "[Time].[Year]={[1997],[1998]} [Time].[Quarter]={[Q1],[Q2]} [Store].[State]={[CA],[WA]}", \
+        "[Time].[Year]={[1997]} [Store].[State]={[CA],[WA]} [Store].[City]={[LA],[SF],[Seattle]}"
+    loads = [f"L\t1\t[Units]\t{quarters}\t{int(flushed)}", f"L\t1\t[Count]\t{quarters}\t0", f"L\t{later}\t[Units]\t{cities}\t{int(flushed)}"]
+    loads += [f"L\t{later}\t[{it}]\t{cities}\t0" for it in ("Count", "Average", "Customers", "Least", "Greatest")]
+    loads += [f"L\t{later}\t[Average]\t[Time].[Year]={{[1997],[1998]}} [Store].[State]={{[CA]}}\t0"]
+    loads += [f"L\t{later}\t[Units]\t[Time].[Year]={{[1997]}} [Time].[Quarter]={{[Q1]}} [Store].[State]={{[CA],[WA]}}\t0"] * flushed
+    return "\n".join([f"CACHE # {len(loads)}", *sorted(loads), "."])
+
+
+def without_numbers(reply):
+    """The text of what is kept without the loads' numbers and sorted, where these rise: which of them stands first depends on what failed."""
+    head, *loads, dot = reply.split("\n")
+    numbers = [int(it.split("\t")[1]) for it in loads]
+    if any(a >= b for a, b in zip(numbers, numbers[1:])):
+        return "numbers that do not rise"
+    return "\n".join([head, *sorted("\t".join(["L", *it.split("\t")[2:]]) for it in loads), dot])
+
+
 def replies(text):
-    """The replies that were written: a grid goes up to its dot."""
+    """The replies that were written: a grid, and what is kept, go up to their dot."""
     found = []
     for line in text.split("\n")[:-1]:
-        if found and found[-1].startswith("GRID ") and not found[-1].endswith("\n."):
+        if found and found[-1].startswith(("GRID ", "CACHE ")) and not found[-1].endswith("\n."):
             found[-1] += "\n" + line
         else:
             found.append(line)
@@ -91,7 +121,7 @@ def replies(text):
 
 def without_position(reply):
     """A reply with # for its position, and the position, or None where it has none."""
-    found = re.match(r"(GRID|VERSION|SEEN) ([1-9][0-9]*)(?![0-9])", reply)
+    found = re.match(r"(GRID|VERSION|SEEN|FLUSHED|CACHE) ([1-9][0-9]*)(?![0-9])", reply)
     return (f"{found[1]} #{reply[found.end():]}", int(found[2])) if found else (reply, None)
 
 
@@ -107,14 +137,17 @@ def judge(status, text, errors):
     if len(told) != len(SESSION):
         return None, f"{len(told)} replies to {len(SESSION)} lines"
     lacking = [place for place, reply in enumerate(told) if reply == NO_MEMORY]
-    if len(lacking) > 1 or any(not SESSION[it][0].startswith(("MDX ", "APPEND ")) for it in lacking):
+    if len(lacking) > 1 or any(not SESSION[it][0].startswith(("MDX ", "APPEND ", "FLUSH ", "CACHE")) for it in lacking):
         return None, f"ERR 15 to the lines {[it + 1 for it in lacking]}"
-    fields, last, seen = OLD if lacking == [APPENDED] else NEW, 0, []
+    appended, flushed = lacking != [APPENDED], lacking != [FLUSHED]
+    fields, last, seen = {**(NEW if appended else OLD), "Q1": "112\t2" if appended and flushed else "12\t2"}, 0, []
     for place, (reply, (line, wanted)) in enumerate(zip(told, SESSION)):
         if place in lacking:
             continue
         for name, values in fields.items():
             wanted = wanted.replace(f"\t{name}\n", f"\t{values}\n")
+        if wanted == "KEPT" and reply.startswith("CACHE "):
+            reply, wanted = without_numbers(reply), kept(appended, flushed)
         reply, position = without_position(reply)
         if reply != wanted:
             return None, f"{line}\nwas answered\n{told[place]}"
@@ -123,8 +156,9 @@ def judge(status, text, errors):
         if position is not None and position < last + (not reply.startswith("SEEN ")):
             return None, f"{told[place].splitlines()[0]} comes behind the position {last}"
         last = position or last
-    if seen[1] - seen[0] != (lacking != [APPENDED]):
-        return None, f"the append has made {seen[1] - seen[0]} entries"
+    for what, made, (a, b) in (("append", appended, seen[:2]), ("flush", flushed, seen[2:])):
+        if b - a != made:
+            return None, f"the {what} has made {b - a} entries"
     return (lacking[0] if lacking else "right"), None
 
 

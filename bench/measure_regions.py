@@ -1,7 +1,8 @@
 """Measures flushes of ranges in a folder of its own. usage: measure_regions.py OLAPD ROUNDS
 
 A run answers AGAIN flushes of all members of a level, and one answers none: a flush takes what the first takes longer than the second, for
-each of them. No cell is shut off yet, so what is measured is reading the line and finding the region. The best of all rounds.
+each of them. No load is kept, so what is measured is reading the line, finding the region, and writing the flush down. The best of all
+rounds.
 """
 import json
 import os
@@ -37,17 +38,17 @@ RANGES = {
     "one level": f"RANGE([Flat].[M1], [Flat].[M{MEMBERS}])",
     "three levels": f"RANGE([Deep].[A0].[B0].[M1], [Deep].[A9].[B999].[M{MEMBERS}])",
 }
-# What is asked for, and the reply to it.
+# What is asked for, and the replies to it: the first entry is the base batch.
 cases = {}
 for name, region in RANGES.items():
-    cases[f"{name}, by itself"] = f"FLUSH [Sales] {region}\n", "ERR 13 REGION MEASURES"
-    cases[f"{name}, with the measures"] = f"FLUSH [Sales] CROSSJOIN(MEASURES, {region})\n", "ERR 17 UNBUILT"
+    cases[f"{name}, by itself"] = f"FLUSH [Sales] {region}\n", ["ERR 13 REGION MEASURES"] * AGAIN
+    cases[f"{name}, with the measures"] = f"FLUSH [Sales] CROSSJOIN(MEASURES, {region})\n", [f"FLUSHED {k + 2}" for k in range(AGAIN)]
 words = [olapd, "run", "--schema", "regions.json"]
 best = {}
 for _ in range(rounds):
-    for case, (line, reply) in {"none": ("", ""), **cases}.items():
+    for case, (line, replies) in {"none": ("", []), **cases}.items():
         seconds, busy, text = run_on_files(words, line * AGAIN)
-        if text.splitlines() != [reply] * (AGAIN if line else 0):
+        if text.splitlines() != replies:
             sys.exit(f"{case}: {text[:200]}")
         before = best.get(case, (seconds, busy))
         best[case] = min(seconds, before[0]), min(busy, before[1])

@@ -1,5 +1,5 @@
 -- Lists through a map: what is found in them, what passes a test, and what a change of one element is.
-use Rattle.std.proofs.Common.{◌≡◌, ◌<◌, ◌≤◌, ◌+◌, ◌++◌, ℕ, zero, suc, Bool, ◌||◌, List, [], ◌∷◌, refl, sym, ap, arith, inl, inr, map, length, take, drop, set, get_or, option_map, filter, find, append-nil, drop_of_length-le, take_all, ◌∙◌}
+use Rattle.std.proofs.Common.{◌≡◌, ◌<◌, ◌≤◌, ◌+◌, ◌++◌, ℕ, zero, suc, Bool, ◌||◌, List, [], ◌∷◌, refl, sym, ap, arith, inl, inr, map, length, take, drop, set, get_or, option_map, find, append-nil, drop_of_length-le, take_all, ◌∙◌}
 use Rattle.std.proofs.lemmas.List.{length-map}
 use Rattle.std.specs.List.{list_any}
 use Rattle.std.proofs.lemmas.Bool.{cases_Bool}

@@ -52,7 +52,8 @@ later_up n ns up k below =
     let e : suc k + 1 ≡ suc (k + 1) = omega arith in
     subst (λ (j : ℕ). slice_index ns k < slice_index (n ∷ ns) j) e (up (suc k) (omega arith))
 
-rising : (ns : List ℕ) → IsStrictlyIncreasing ns → rise ns ≡ true
+-- numbers of which each is below the next rise
+pub rising : (ns : List ℕ) → IsStrictlyIncreasing ns → rise ns ≡ true
 rising [] up = refl
 rising (n ∷ []) up = refl
 rising (n ∷ m ∷ ns) up =

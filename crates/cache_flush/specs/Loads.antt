@@ -1,8 +1,9 @@
 -- Kept loads, as a list.
 use Rattle.std.specs.Prelude.{ℕ, ◌≡◌, ◌≤◌, ◌++◌, ◌∷◌, [], ◌&&◌, List, Bool, true, false, not, All, Contains, Option, Some, None, map}
+use Rattle.std.specs.List.{list_any}
 use Rattle.olap_meaning.specs.declared.cells.Cell.{Cell}
 use Rattle.olap_meaning.specs.declared.regions.Region.{Region}
-use Rattle.olap_meaning.specs.Covering.{among, concerning, just_covers}
+use Rattle.olap_meaning.specs.Covering.{among, concerning, header_covers, just_covers, names_column}
 use Rattle.segment_body.specs.BodyOf.{BodyOf}
 use Rattle.cache_flush.specs.Shuts.{is_live}
 use Rattle.cache_flush.specs.declared.kept.Kept.{Kept}
@@ -42,6 +43,14 @@ are_different (n ∷ ns) = not (among ns n) && are_different ns
 -- a kept load serves a cell: it covers the cell with just the cell's columns, and is live for it
 abbrev pub serves : KeptOf → Cell → Bool
 serves kept cell = just_covers kept.body.header cell && is_live kept.shut cell
+
+-- a kept load is a candidate for a cell: it covers the cell, has a column that the cell does not name, and is live for
+-- the cell
+abbrev pub is_candidate : KeptOf → Cell → Bool
+is_candidate kept cell =
+    header_covers kept.body.header cell
+    && list_any (λ column. not (names_column cell column.0)) kept.body.header.columns
+    && is_live kept.shut cell
 
 -- of kept loads, the one with the greatest number among those that serve a cell, if there is one
 abbrev pub IsGreatest : List KeptOf → Cell → Option KeptOf → Type 0

@@ -7,7 +7,7 @@ use std::alloc::Global;
 use std::sync::Arc;
 
 /// So many handles of a region.
-pub(crate) fn handles_of(
+pub fn handles_of(
     alloc: Global,
     region: &Arc<Region>,
     count: usize,
@@ -22,7 +22,7 @@ pub(crate) fn handles_of(
 }
 
 /// Takes one of some handles of a region.
-pub(crate) fn next_handle(handles: &mut Vec<Arc<Region>>, region: &Region) -> Arc<Region>
+pub fn next_handle(handles: &mut Vec<Arc<Region>>, region: &Region) -> Arc<Region>
     requires left { 0 < length handles.old.items }
     requires own { All (λ handle. handle.value ≡ region.now) handles.old.items }
     ensures value { result.value ≡ region.now }

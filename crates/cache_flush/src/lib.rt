@@ -15,6 +15,7 @@ mod shut;
 mod touch;
 
 pub use flights::Flights;
+pub use handles::{handles_of, next_handle};
 pub use kept::Kept;
 pub use plain_shelf::PlainShelf;
 pub use shelf::{CacheShelf, Shelf};

@@ -1,8 +1,8 @@
 //! The plainest shelf of kept loads: a list.
-ghost use Rattle.std.specs.Prelude.{◌≡◌, ◌==◌, ◌<◌, ◌≤◌, ◌+◌, [], All, IfOk, OnOk, length, map, option_copied};
+ghost use Rattle.std.specs.Prelude.{◌≡◌, ◌==◌, ◌<◌, ◌≤◌, ◌+◌, ◌++◌, ◌∷◌, [], All, IfOk, OnOk, filter, length, map, option_copied};
 ghost use Rattle.std.specs.List.{find};
 ghost use Rattle.std.specs.Vec.{vec_capacity, vec_len};
-ghost use Rattle.cache_flush.specs.Loads.{kept_of, shut_off};
+ghost use Rattle.cache_flush.specs.Loads.{is_candidate, kept_of, numbers_of, shut_off};
 ghost use Rattle.cache_flush.specs.Search.{IsGreatestPlace};
 ghost use Rattle.cache_flush.specs.Handles.{AreHandles};
 
@@ -83,6 +83,12 @@ impl CacheShelf for PlainShelf {
         }
     }
 
+    fn candidates(&self, cell: &Cell) -> Result<List<u64>, OutOfMemory> {
+        let mut found = candidates_in(self.alloc, self.kept.as_slice(), cell)?;
+        found.sort_unstable();
+        Ok(List::from_vec(found))
+    }
+
     fn reserve(&mut self, _header: &Header) -> Result<(), OutOfMemory> {
         reserve_one_more(&mut self.kept)
     }
@@ -118,6 +124,30 @@ fn numbers_in(alloc: Global, kept: &[Kept]) -> Result<Vec<u64>, OutOfMemory>
         numbers.push(one.load)?;
     }
     Ok(numbers)
+}
+
+// The numbers of those of some kept loads that are candidates for a cell, in their order.
+fn candidates_in(alloc: Global, kept: &[Kept], cell: &Cell) -> Result<Vec<u64>, OutOfMemory>
+    ensures { IfOk result (λ found. found.items
+        ≡ numbers_of (filter (λ kept. is_candidate kept cell.now) (map kept_of kept.now))) }
+{
+    let mut found = Vec::new(alloc);
+    for one in kept {
+        add_candidate(&mut found, one, cell)?;
+    }
+    Ok(found)
+}
+
+// Adds the number of a kept load, where it is a candidate for a cell.
+fn add_candidate(found: &mut Vec<u64>, kept: &Kept, cell: &Cell) -> Result<(), OutOfMemory>
+    ensures { OnOk result (found.new.items
+        ≡ found.old.items
+        ++ numbers_of (filter (λ kept. is_candidate kept cell.now) (kept_of kept.now ∷ []))) }
+{
+    if kept.is_candidate(cell) {
+        found.push(kept.load)?;
+    }
+    Ok(())
 }
 
 // The place of the greatest load that serves a cell, among the first ones and one more.

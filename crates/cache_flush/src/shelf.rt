@@ -25,12 +25,12 @@ pub trait Shelf {
 /// A shelf of kept loads, as a cache uses it: loads are put in, found by the cells that they serve, and shut off in part by
 /// flushes. All room is made by `reserve` and `reserve_shut`.
 pub trait CacheShelf: Shelf {
-    ghost use Rattle.std.specs.Prelude.{ℕ, ◌≡◌, ◌++◌, ◌∷◌, [], List, IfOk, IsTrue, OnOk, false, length, map, option_copied, option_map};
+    ghost use Rattle.std.specs.Prelude.{ℕ, ◌≡◌, ◌++◌, ◌∷◌, [], List, IfOk, IsTrue, OnOk, false, filter, length, map, option_copied, option_map};
     ghost use Rattle.olap_meaning.specs.declared.cells.Header.{Header};
     ghost use Rattle.olap_meaning.specs.Covering.{among};
     ghost use Rattle.olap_meaning.specs.Legal.{rise};
     ghost use Rattle.cache_flush.specs.Handles.{AreHandles};
-    ghost use Rattle.cache_flush.specs.Loads.{IsGreatest, kept_of, numbers_of, shut_off};
+    ghost use Rattle.cache_flush.specs.Loads.{IsGreatest, is_candidate, kept_of, numbers_of, shut_off};
 
     // there is a place for a load of each of these headers
     ghost has_places: { Self → List Header → Type 0 };
@@ -38,9 +38,10 @@ pub trait CacheShelf: Shelf {
     // there is room for one region more in what shuts off part of each kept load
     ghost has_rooms: { Self → Type 0 };
 
-    /// A place that is not needed hinders no other. This costs nothing.
+    /// Where no place is needed, all are there, and a place that is not needed hinders no other. This costs nothing.
     fn places_are_apart(&self)
-        ensures { (before : List Header) (header : Header) (after : List Header)
+        ensures none { has_places self.now [] }
+        ensures apart { (before : List Header) (header : Header) (after : List Header)
             → has_places self.now (before ++ header ∷ after) → has_places self.now (before ++ after) };
 
     /// How many loads are kept.
@@ -58,6 +59,14 @@ pub trait CacheShelf: Shelf {
     fn find(&self, cell: &Cell) -> Option<&Kept>
         ensures { IsGreatest (Self.loads self.now) cell.now
             (option_map kept_of (option_copied result)) };
+
+    /// The numbers of the kept loads with more columns than a cell that cover it and are live for it, rising.
+    fn candidates(&self, cell: &Cell) -> Result<List<u64>, OutOfMemory>
+        ensures rising { IfOk result (λ numbers. IsTrue (rise numbers)) }
+        ensures members { IfOk result (λ numbers. (load : ℕ) → among numbers load
+            ≡ among
+            (numbers_of (filter (λ kept. is_candidate kept cell.now) (Self.loads self.now)))
+            load) };
 
     /// Makes one place more for a load of a header, beside those that are there.
     fn reserve(&mut self, header: &Header) -> Result<(), OutOfMemory>
@@ -78,7 +87,8 @@ pub trait CacheShelf: Shelf {
         ensures loads { Self.loads self.new ≡ Self.loads self.old ++ kept_of kept ∷ [] };
 
     /// Makes room for one region more in what shuts off part of each kept load, and as many handles of the region as loads
-    /// are kept. The loads stay as they were, also where memory is wanting.
+    /// are kept. The room is there until a load is put in or room is made again. The loads stay as they were, also where memory
+    /// is wanting.
     fn reserve_shut(&mut self, region: &Arc<Region>) -> Result<List<Arc<Region>>, OutOfMemory>
         ensures handles { IfOk result
             (AreHandles region.now.value (length (Self.loads self.old))) }

@@ -1,13 +1,15 @@
 -- What the ends of loads ask for.
-use Rattle.std.proofs.Common.{◌≡◌, refl, sym, ◌∙◌, ap, subst, ℕ, ◌<◌, List, [], ◌∷◌, ◌++◌, map, true, false, arith, Some, option_map}
+use Rattle.std.proofs.Common.{◌≡◌, refl, sym, ◌∙◌, ap, subst, ℕ, ◌<◌, List, [], ◌∷◌, ◌++◌, map, true, false, arith, Some, option_map, All, ◌==◌}
 use Rattle.std.specs.Prelude.{IsTrue}
-use Rattle.std.proofs.lemmas.Bool.{false_from_ne_true, both_ways}
+use Rattle.std.specs.List.{AllByRecursion}
+use Rattle.std.proofs.lemmas.Bool.{false_from_ne_true, both_ways, eqb-true}
+use Rattle.std.proofs.lemmas.List.Elements.{All-weaker, recursion_from_All}
 use Rattle.olap_meaning.specs.declared.cells.Header.{Header}
 use Rattle.olap_meaning.specs.declared.cells.Who.{Who}
 use Rattle.olap_meaning.specs.declared.regions.Region.{Region}
 use Rattle.olap_meaning.specs.declared.tables.Row.{Row}
 use Rattle.olap_meaning.specs.Covering.{among}
-use Rattle.olap_meaning.specs.History.{Done, Load, flying, load_version, rows_of, shutting}
+use Rattle.olap_meaning.specs.History.{Done, Load, flying, load_at, load_version, rows_of, shutting}
 use Rattle.olap_meaning.specs.Legal.{IsLegalEnd, Legal}
 use Rattle.fact_versions.specs.Facts.{FactsOf}
 use Rattle.history_core.specs.History.{HistoryOf}
@@ -15,7 +17,7 @@ use Rattle.history_core.specs.Cache.{CacheOf}
 use Rattle.cache_flush.specs.Loads.{KeptOf}
 use Rattle.cache_flush.specs.Flights.{FlightOf, flight_at}
 use Rattle.cache_manager.specs.Jobs.{IsOwn, IsOwnBody}
-use Rattle.cache_manager.specs.Kept.{IsKept, IsManager}
+use Rattle.cache_manager.specs.Kept.{IsFlight, IsKept, IsManager}
 use Rattle.segment_body.specs.BodyOf.{BodyOf}
 use Rattle.segment_header.specs.Headers.{is_header}
 use Rattle.segment_load.specs.Loads.{HoldsRows}
@@ -80,3 +82,21 @@ keeps cache history who j v body shut is legal own at formed told = record {
 
     holds_here : HoldsRows history.setting.catalog here.load.header (rows_of history.entries here.load.header.cube here.load.version) body
     holds_here = loads_hold_rows history.setting.catalog here.load.header (rows_of history.entries here.load.header.cube here.load.version) body here.whole
+
+-- the load in flight that an own body ends has the body's header
+pub headers_own :
+    (cache : CacheOf) (history : HistoryOf) (who : Who) (j : ℕ) (body : BodyOf) → cache_of history ≡ cache → IsOwnBody cache who j body → (flights : List FlightOf) → All (IsFlight history.entries) flights
+    → AllByRecursion (λ f. (f.load == j) ≡ true → f.header ≡ body.header) flights
+headers_own cache history who j body is own flights all = recursion_from_All (λ f. (f.load == j) ≡ true → f.header ≡ body.header) flights (All-weaker (IsFlight history.entries) (λ f. (f.load == j) ≡ true → f.header ≡ body.header) same flights all)
+  where
+    here : IsOwnBody (cache_of history) who j body
+    here = subst (λ (k : CacheOf). IsOwnBody k who j body) (sym is) own
+
+    holds_here : HoldsRows history.setting.catalog here.load.header (rows_of history.entries here.load.header.cube here.load.version) body
+    holds_here = loads_hold_rows history.setting.catalog here.load.header (rows_of history.entries here.load.header.cube here.load.version) body here.whole
+
+    same : (f : FlightOf) → IsFlight history.entries f → (f.load == j) ≡ true → f.header ≡ body.header
+    same f flies at =
+        let both : Some flies.load ≡ Some here.load = sym flies.started ∙ ap (load_at history.entries) (eqb-true f.load j at) ∙ here.flies.started in
+        let one : flies.load ≡ here.load = cc in
+        flies.header ∙ ap (λ (load : Load). load.header) one ∙ sym holds_here.own_header

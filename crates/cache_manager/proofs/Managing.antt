@@ -1,8 +1,8 @@
 -- What a manager keeps, after one more entry.
 use Rattle.std.proofs.Common.{◌≡◌, refl, sym, ◌∙◌, ap, subst, ℕ, ◌<◌, ◌≤◌, List, [], ◌∷◌, ◌++◌, length, map, filter, Bool, true, false, not, ◌==◌, ◌||◌, ◌⊎◌, inl, inr, Option, Some, None, arith, option_map, option_to_list, All}
-use Rattle.std.specs.List.{find}
+use Rattle.std.specs.List.{AllByRecursion, find}
 use Rattle.std.proofs.lemmas.Bool.{both_ways, or_cases, or_left, or_right, eqb-true, eq-eqb, false_from_ne_true}
-use Rattle.std.proofs.lemmas.List.{append-nil, length-map}
+use Rattle.std.proofs.lemmas.List.{append_assoc, append-nil, map-append}
 use Rattle.std.proofs.lemmas.List.Elements.{All-cons, All-filter, All-head, All-map, All-nil, All-tail, All-weaker}
 use Rattle.std.proofs.lemmas.List.Folds.{list_any-append}
 use Rattle.olap_meaning.specs.declared.cells.Header.{Header}
@@ -17,10 +17,10 @@ use Rattle.olap_meaning.specs.Legal.{Legal}
 use Rattle.olap_meaning.proofs.Shutting.{shutting_grows}
 use Rattle.segment_load.specs.Loads.{HoldsRows}
 use Rattle.cache_flush.specs.Loads as of_loads
-use Rattle.cache_flush.specs.Loads.{KeptOf, ShelfOf}
+use Rattle.cache_flush.specs.Loads.{KeptOf}
 use Rattle.cache_flush.specs.Flights as of_flights
 use Rattle.cache_flush.specs.Flights.{FlightOf, numbers_of}
-use Rattle.cache_manager.specs.Kept.{IsKept, IsFlight, has_places, headers_of}
+use Rattle.cache_manager.specs.Kept.{IsKept, IsFlight, headers_of}
 use Rattle.cache_manager.proofs.Pushes.{flying_back, flying_on, kept_back, kept_stays, load_on, load_within, recorded, rows_on}
 
 -- nothing is shut off by an entry that flushes nothing
@@ -173,12 +173,51 @@ module _ (j : ℕ) where
           let rest = more (elim (or_cases _ _ h) [ inl same ↦ absurd (both_ways _ e same) | inr rest ↦ rest ]) in
           rw e (omega (arith, rest))
 
-  -- a place less is wanted
-  pub places_but : (shelf : ShelfOf) (flights : List FlightOf) → has_places shelf (headers_of flights) → has_places shelf (headers_of (others flights))
-  places_but shelf flights fit = omega (arith, length-others-le flights, length-map flights (λ (f : FlightOf). f.header), length-map (others flights) (λ (f : FlightOf). f.header), fit)
+  -- a place less is wanted, where a place that is not needed hinders no other
+  pub places_but :
+      (places : List Header → Type 0) → ((before : List Header) (header : Header) (after : List Header) → places (before ++ header ∷ after) → places (before ++ after))
+      → (before : List Header) (flights : List FlightOf) → places (before ++ headers_of flights) → places (before ++ headers_of (others flights))
+  places_but places apart before [] fit = fit
+  places_but places apart before (f ∷ flights) fit =
+      by (f.load == j) refl (λ fit. places_but places apart before flights fit) (λ fit. places_but places apart (before ++ f.header ∷ []) flights fit)
+    where
+      next : (rest : List FlightOf) → before ++ headers_of (f ∷ rest) ≡ (before ++ f.header ∷ []) ++ headers_of rest
+      next rest = sym (append_assoc before (f.header ∷ []) (headers_of rest))
 
-  pub place_of_one : (shelf : ShelfOf) (header : Header) (flights : List FlightOf) → among (map (λ f. f.load) flights) j ≡ true → has_places shelf (headers_of flights) → has_places shelf (header ∷ headers_of (others flights))
-  place_of_one shelf header flights there fit = omega (arith, length-others flights there, length-map flights (λ (f : FlightOf). f.header), length-map (others flights) (λ (f : FlightOf). f.header), fit)
+      by :
+          (b : Bool) → (f.load == j) ≡ b → (places (before ++ headers_of flights) → places (before ++ headers_of (others flights)))
+          → (places ((before ++ f.header ∷ []) ++ headers_of flights) → places ((before ++ f.header ∷ []) ++ headers_of (others flights))) → places (before ++ headers_of (others (f ∷ flights)))
+      by true e gone left = rw e (gone (apart before f.header (headers_of flights) fit))
+      by false e gone left = rw e (subst places (sym (next (others flights))) (left (subst places (next flights) fit)))
+
+  others_same : (f : FlightOf) (flights : List FlightOf) → (f.load == j) ≡ true → others (f ∷ flights) ≡ others flights
+  others_same f flights e = rw e refl
+
+  others_other : (f : FlightOf) (flights : List FlightOf) → (f.load == j) ≡ false → others (f ∷ flights) ≡ f ∷ others flights
+  others_other f flights e = rw e refl
+
+  -- the place of one load in flight, among those of all
+  pub place_of_one :
+      (header : Header) (flights : List FlightOf) → AllByRecursion (λ f. (f.load == j) ≡ true → f.header ≡ header) flights → among (map (λ f. f.load) flights) j ≡ true
+      → (front : List FlightOf) × (rest : List FlightOf) × (headers_of flights ≡ headers_of front ++ header ∷ headers_of rest) × (others flights ≡ others (front ++ rest))
+  place_of_one header [] own there = absurd (cc)
+  place_of_one header (f ∷ flights) own there = by (f.load == j) refl (λ more. place_of_one header flights own.1 more)
+    where
+      by :
+          (b : Bool) → (f.load == j) ≡ b
+          → (among (map (λ g. g.load) flights) j ≡ true → (front : List FlightOf) × (rest : List FlightOf) × (headers_of flights ≡ headers_of front ++ header ∷ headers_of rest) × (others flights ≡ others (front ++ rest)))
+          → (front : List FlightOf) × (rest : List FlightOf) × (headers_of (f ∷ flights) ≡ headers_of front ++ header ∷ headers_of rest) × (others (f ∷ flights) ≡ others (front ++ rest))
+      by true e more = ([], flights, ap (λ (h : Header). h ∷ headers_of flights) (own.0 e), others_same f flights e)
+      by false e more =
+          let found = more (elim (or_cases (f.load == j) (among (map (λ g. g.load) flights) j) there) [ inl same ↦ absurd (both_ways _ e same) | inr rest ↦ rest ]) in
+          (f ∷ found.0, found.1, ap (λ (hs : List Header). f.header ∷ hs) found.2, others_other f flights e ∙ ap (λ (fs : List FlightOf). f ∷ fs) found.3 ∙ sym (others_other f (found.0 ++ found.1) e))
+
+  -- once that place is used, the places of the others are left
+  pub places_left :
+      (places : List Header → Type 0) → ((before : List Header) (header : Header) (after : List Header) → places (before ++ header ∷ after) → places (before ++ after))
+      → (flights front rest : List FlightOf) → others flights ≡ others (front ++ rest) → places (headers_of front ++ headers_of rest) → places (headers_of (others flights))
+  places_left places apart flights front rest same fit =
+      rw same (places_but places apart [] (front ++ rest) (rw (map-append (λ (f : FlightOf). f.header) front rest) fit))
 
   others_apart : (flights : List FlightOf) → All (λ f. (f.load == j) ≡ false) (others flights)
   others_apart [] = All-nil (λ g. (g.load == j) ≡ false)

@@ -16,7 +16,7 @@ use Rattle.history_core.specs.Groups.{numbers_from}
 use Rattle.cache_flush.specs.declared.kept.Kept.{Kept}
 use Rattle.cache_flush.specs.Loads.{KeptOf, kept_of}
 use Rattle.cache_manager.specs.Kept.{IsKept}
-use Rattle.cache_manager.specs.Shown.{cache_lines, kept_line, line_of}
+use Rattle.history_core.specs.Shown.{cache_lines, kept_line, line_of}
 use Rattle.cache_manager.proofs.Managing.{numbers_kept}
 use Rattle.cache_manager.proofs.Numbers.{passing_there, rise_passing, there_passes}
 use Rattle.cache_manager.proofs.Pushes.{load_within}

@@ -1,5 +1,5 @@
 -- What a manager keeps beside its history, and what that means in the history.
-use Rattle.std.specs.Prelude.{ℕ, ◌≡◌, ◌≤◌, ◌<◌, List, All, IsTrue, Some, filter_map, length, map}
+use Rattle.std.specs.Prelude.{ℕ, ◌≡◌, ◌≤◌, List, All, IsTrue, Some, filter_map, length, map}
 use Rattle.olap_meaning.specs.declared.cells.Header.{Header}
 use Rattle.olap_meaning.specs.declared.tables.Catalog.{Catalog}
 use Rattle.olap_meaning.specs.declared.tables.Setting.{Setting}
@@ -11,9 +11,11 @@ use Rattle.fact_versions.specs.Facts.{FactsOf, batches_of, rows_held}
 use Rattle.segment_header.specs.Headers.{is_header}
 use Rattle.segment_load.specs.Loads.{HoldsRows, are_batches}
 use Rattle.cache_flush.specs.Loads as kept
-use Rattle.cache_flush.specs.Loads.{KeptOf, ShelfOf}
+use Rattle.cache_flush.specs.Loads.{KeptOf}
 use Rattle.cache_flush.specs.Flights as flight
 use Rattle.cache_flush.specs.Flights.{FlightOf}
+use Rattle.segment_index.specs.Index as index
+use Rattle.segment_index.specs.Index.{IndexOf}
 
 -- the facts are those that the history has appended to each cube, and each batch is one of its cube
 pub record AreFactsOf (setting : Setting) (entries : List Entry) (facts : FactsOf) : Type 0 where
@@ -48,12 +50,12 @@ pub record IsFlight (entries : List Entry) (flight : FlightOf) : Type 0 where
   pub shut : flight.shut ≡ shutting entries flight.load
 
 -- a shelf has a place for a load of each of these headers
-abbrev pub has_places : ShelfOf → List Header → Type 0
-has_places shelf headers = length headers ≤ shelf.places
+abbrev pub has_places : IndexOf → List Header → Type 0
+has_places shelf headers = index.has_places shelf headers
 
 -- a shelf has room for one region more in what shuts off part of each load
-abbrev pub has_rooms : ShelfOf → Type 0
-has_rooms shelf = All (λ room. 0 < room) shelf.rooms
+abbrev pub has_rooms : IndexOf → Type 0
+has_rooms shelf = index.has_rooms shelf
 
 -- the headers of loads in flight
 abbrev pub headers_of : List FlightOf → List Header

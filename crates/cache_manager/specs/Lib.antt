@@ -2,7 +2,6 @@ pub mod Looks
 pub mod Jobs
 pub mod Kept
 pub mod Plans
-pub mod Shown
 pub mod Laws
 pub mod Runs
 pub mod Lent

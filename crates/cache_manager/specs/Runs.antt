@@ -24,7 +24,7 @@ use Rattle.history_core.specs.Groups.{loads_for}
 use Rattle.cache_manager.specs.Jobs.{IsJobOf}
 use Rattle.history_core.specs.Seats.{NoneFlies}
 use Rattle.history_core.specs.Groups.{numbers_from}
-use Rattle.cache_manager.specs.Shown.{cache_lines}
+use Rattle.history_core.specs.Shown.{cache_lines}
 
 -- a call may be made on a cache over a catalog: a batch is one of a cube, cells are known, and a region may be flushed
 abbrev pub MayCall : Catalog → Call → Type 0

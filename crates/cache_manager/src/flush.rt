@@ -9,9 +9,10 @@ ghost use Rattle.cache_flush.specs.Flights as of_flights;
 ghost use Rattle.cache_manager.specs.Kept.{has_places, has_rooms};
 
 use crate::look::sum;
-use cache_flush::{CacheShelf, Flights, PlainShelf};
+use cache_flush::{CacheShelf, Flights};
 use history_core::{Entry, History};
 use olap_meaning::{List, OutOfMemory, Region, Who};
+use segment_index::SegmentIndex;
 use std::sync::Arc;
 
 /// A handle of a region for each kept load, and one for each load in flight.
@@ -25,7 +26,7 @@ pub(crate) struct FlushRoom {
 /// and the loads stay as they are.
 pub(crate) fn make_room(
     history: &mut History,
-    shelf: &mut PlainShelf,
+    shelf: &mut SegmentIndex,
     flights: &mut Flights,
     region: &Arc<Region>,
 ) -> Result<FlushRoom, OutOfMemory>
@@ -53,7 +54,7 @@ pub(crate) fn make_room(
 /// Shuts off the cells of a region in each load, and records the flush. It takes no memory: the room is there.
 pub(crate) fn shut_off(
     history: &mut History,
-    shelf: &mut PlainShelf,
+    shelf: &mut SegmentIndex,
     flights: &mut Flights,
     who: Who,
     region: Arc<Region>,

@@ -11,11 +11,12 @@ ghost use Rattle.history_core.specs.Seats.{NoneFlies};
 
 use crate::flush::{make_room, shut_off};
 use crate::look::sum;
-use cache_flush::{CacheShelf, Flights, Kept, PlainShelf};
+use cache_flush::{CacheShelf, Flights, Kept};
 use fact_versions::{AppendFault, Batch, Facts, Snapshot};
 use history_core::{Appended, Entry, History};
 use olap_catalog::Catalog;
 use olap_meaning::{CubeId, OutOfMemory, ROW_LIMIT, Region, Version, Who};
+use segment_index::SegmentIndex;
 use segment_load::{Delivery, LoadJob};
 use std::alloc::Global;
 use std::marker::Model;
@@ -29,7 +30,7 @@ pub struct Manager {
     pub(crate) alloc: Global,
     pub(crate) history: History,
     pub(crate) facts: Facts,
-    pub(crate) shelf: PlainShelf,
+    pub(crate) shelf: SegmentIndex,
     pub(crate) flights: Flights,
 }
 
@@ -63,7 +64,7 @@ impl Manager {
             alloc,
             history: History::new(alloc, catalog, row_limit, budget),
             facts,
-            shelf: PlainShelf::new(alloc),
+            shelf: SegmentIndex::new(alloc),
             flights: Flights::new(alloc),
         })
     }

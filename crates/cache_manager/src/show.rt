@@ -2,7 +2,7 @@
 ghost use Rattle.std.specs.Prelude.{◌≡◌, ◌++◌, ◌∷◌, [], IfOk, IsTrue, OnErr, OnOk, Some, length};
 ghost use Rattle.olap_meaning.specs.History.{Saw, kept};
 ghost use Rattle.olap_meaning.specs.Legal.{is_next_call};
-ghost use Rattle.cache_manager.specs.Shown.{cache_lines, kept_line};
+ghost use Rattle.history_core.specs.Shown.{cache_lines, kept_line};
 
 use crate::look::sum;
 use crate::manager::Manager;

@@ -7,9 +7,10 @@ ghost use Rattle.cache_flush.specs.Flights.{numbers_of};
 ghost use Rattle.cache_manager.specs.Kept.{has_places};
 ghost use Rattle.cache_manager.specs.Plans.{AreLegalSteps, AreNew, flight_for};
 
-use cache_flush::{CacheShelf, Flights, PlainShelf};
+use cache_flush::{CacheShelf, Flights};
 use history_core::{Entry, History};
 use olap_meaning::{Header, OutOfMemory, Version, Who};
+use segment_index::SegmentIndex;
 use segment_load::LoadJob;
 
 /// A load that is about to fly.
@@ -30,7 +31,7 @@ pub(crate) struct Planned {
 }
 
 /// Makes a place on a shelf for each of the loads, beside the places that are there.
-pub(crate) fn reserve_places(shelf: &mut PlainShelf, plans: &[Planned]) -> Result<(), OutOfMemory>
+pub(crate) fn reserve_places(shelf: &mut SegmentIndex, plans: &[Planned]) -> Result<(), OutOfMemory>
     ensures loads { shelf.new.loads ≡ shelf.old.loads }
     ensures kept { (headers : List Header)
         → has_places shelf.old headers → has_places shelf.new headers }

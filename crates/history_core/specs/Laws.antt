@@ -1,8 +1,11 @@
 -- The laws of legal histories, at one history.
-use Rattle.std.specs.Prelude.{ℕ, ◌≡◌, ◌≤◌, ◌<◌, List, Some, Contains, take}
+use Rattle.std.specs.Prelude.{ℕ, ◌≡◌, ◌≤◌, ◌<◌, List, Some, Contains, IsFalse, IsTrue, take}
+use Rattle.olap_meaning.specs.declared.cells.Cell.{Cell}
 use Rattle.olap_meaning.specs.declared.cells.Who.{Who}
 use Rattle.olap_meaning.specs.declared.cells.CellSource.{CellSource}
-use Rattle.olap_meaning.specs.History.{Entry, Answer, entry_at, version, floor}
+use Rattle.olap_meaning.specs.declared.regions.Region.{Region}
+use Rattle.olap_meaning.specs.Covering.{region_covers}
+use Rattle.olap_meaning.specs.History.{Entry, Answer, Flush, entry_at, live, version, floor}
 use Rattle.olap_meaning.specs.Legal.{caller}
 use Rattle.olap_meaning.specs.Laws.{IsServedInVersion}
 use Rattle.olap_meaning.specs.Worth.{value, answered_version, worth}
@@ -43,3 +46,23 @@ HasRisingCalls history =
     → entry_at history.entries p ≡ Some earlier → entry_at history.entries q ≡ Some later
     → caller earlier ≡ Some first → caller later ≡ Some second → first.seat ≡ second.seat
     → first.call < second.call
+
+-- flushes are heeded: behind a flush no answer to a cell that its region covers is older than the version of the cell's
+-- cube at the flush
+abbrev pub HasHeededFlushes : HistoryOf → Type 0
+HasHeededFlushes history =
+    (p q : ℕ) (flusher who : Who) (region : Region) (cells : List CellSource) → p < q
+    → entry_at history.entries p ≡ Some (Flush flusher region)
+    → entry_at history.entries q ≡ Some (Answer who cells)
+    → (answered : CellSource) → Contains cells answered
+    → IsTrue (region_covers region answered.cell)
+    → (v : ℕ) × (answered_version (take q history.entries) answered ≡ Some v)
+    × (version (take p history.entries) answered.cell.cube ≤ v)
+
+-- flushes last: a load that was started before a flush is live for no cell that its region covers, at the flush and
+-- whatever comes behind it
+abbrev pub HasLastingFlushes : HistoryOf → Type 0
+HasLastingFlushes history =
+    (p q j : ℕ) (who : Who) (region : Region) (cell : Cell) → j < p → p ≤ q
+    → entry_at history.entries p ≡ Some (Flush who region)
+    → IsTrue (region_covers region cell) → IsFalse (live (take q history.entries) j cell)

@@ -4,5 +4,6 @@ pub mod Entries
 pub mod History
 pub mod Laws
 pub mod Groups
+pub mod Shown
 pub mod Seats
 pub mod Arrivals

@@ -4,7 +4,7 @@ ghost use Rattle.olap_meaning.specs.History.{entry_at};
 ghost use Rattle.olap_meaning.specs.Legal.{Legal, LegalStep};
 ghost use Rattle.history_core.specs.Entries.{entry_of};
 ghost use Rattle.history_core.specs.History.{setting_of};
-ghost use Rattle.history_core.specs.Laws.{HasFreshAnswers, HasServedAnswers, HasRisingVersions, HasRisingCalls};
+ghost use Rattle.history_core.specs.Laws.{HasFreshAnswers, HasHeededFlushes, HasLastingFlushes, HasServedAnswers, HasRisingVersions, HasRisingCalls};
 
 use crate::entry::Entry;
 use olap_catalog::Catalog;
@@ -135,6 +135,22 @@ impl History {
     {
         self.steps_are_legal();
         laws::answers_are_fresh();
+    }
+
+    /// Behind a flush no answer to a cell that its region covers is older than the version at the flush.
+    pub fn flushes_are_heeded(&self)
+        ensures { HasHeededFlushes self.now }
+    {
+        self.steps_are_legal();
+        laws::answers_are_fresh();
+        laws::floor_is_greatest();
+    }
+
+    /// A load that was started before a flush serves no cell that its region covers, from the flush on.
+    pub fn flushes_last(&self)
+        ensures { HasLastingFlushes self.now }
+    {
+        let _ = &self.entries;
     }
 
     /// Each cell of an answer is worth the aggregate over one recorded version, from loads that are live for it.

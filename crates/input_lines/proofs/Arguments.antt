@@ -6,7 +6,7 @@ use Rattle.std.proofs.lemmas.Bool.{and_parts}
 use Rattle.std.proofs.lemmas.Bool.Decides.{Decides-eqb}
 use Rattle.std.proofs.lemmas.Str.{IsUtf8-from_ascii, chars-IsAscii, encode_ascii, encodes-chars}
 use Rattle.std.proofs.lemmas.Str.Ascii.{IsAscii-cons, IsAscii-nil}
-use Rattle.query_meaning.specs.Requests.{argument_of, is_blank, is_quit}
+use Rattle.query_meaning.specs.Requests.{argument_of, is_blank, is_quit, is_show}
 use Rattle.query_meaning.specs.Tokens.{is_white}
 use Rattle.text_forms.specs.Forms.{Writes}
 use Rattle.text_forms.specs.White.{IsWhite, White, End}
@@ -59,6 +59,10 @@ writes_blank text blank = record { utf8 = IsUtf8-from_ascii text (ascii text bla
 -- QUIT and white end the session
 pub quits : (line argument : List ℕ) (value : Unit {0}) → argument_of (codes "QUIT") line ≡ Some argument → Writes IsBlank argument value → is_quit line ≡ true
 quits line argument value e w = rw e (blank_text argument value w)
+
+-- CACHE and white ask for what is kept
+pub shows : (line argument : List ℕ) (value : Unit {0}) → argument_of (codes "CACHE") line ≡ Some argument → Writes IsBlank argument value → is_show line ≡ true
+shows line argument value e w = rw e (blank_text argument value w)
 
 -- a line of text that has a command asks for what the command asks for with its argument
 pub asked_by : (word argument text line : List ℕ) (r : Result Request OutOfMemory) → is_utf8 line ≡ true → text ≡ line → Some argument ≡ argument_of word text → IfOk r (λ request. Asks word argument (asked request)) → IfOk r (λ request. IsRequest line (asked request))

@@ -15,9 +15,9 @@ use Rattle.command_arguments.specs.Blank.{IsBlank}
 use Rattle.command_arguments.specs.Position.{IsPosition}
 use Rattle.command_arguments.specs.declared.append.AppendArgument.{AppendArgument}
 use Rattle.input_lines.specs.Asked.{AsksOnly}
-use Rattle.input_lines.specs.Requests.{Request, NotText, Blank, NoCommand, Stops, Quit, After, Append, Ask, Flush, Unbuilt, ArgumentStops, IsOnly, IsRequest, Stopped}
+use Rattle.input_lines.specs.Requests.{Request, NotText, Blank, NoCommand, Stops, Quit, After, Append, Ask, Flush, Show, Unbuilt, ArgumentStops, IsOnly, IsRequest, Stopped}
 use Rattle.input_lines.proofs.Arguments.{writes_blank}
-use Rattle.input_lines.proofs.Commands.{built_no, has_none, has_some, no_other, none_in_blank, none_is_no, quit_has}
+use Rattle.input_lines.proofs.Commands.{built_no, has_none, has_some, no_other, none_in_blank, none_is_no, quit_has, show_has}
 
 order : (a b : ℕ) → (a < b) ⊎ ((a ≡ b) ⊎ (b < a))
 order zero zero = inr (inl refl)
@@ -93,8 +93,8 @@ no_second word line argument other has apart second = none_is_no (argument_of ot
 has_it : (word line argument : List ℕ) → HasCommand word line argument → is_some (argument_of word line) ≡ false → ⊥
 has_it word line argument has none = not_both (is_some (argument_of word line)) (has_some _ argument has.is) none
 
-is_built : (word line argument : List ℕ) → HasCommand word line argument → bytes_eq (codes "AGG") word ≡ false → bytes_eq (codes "CACHE") word ≡ false → has_one_of unbuilt_commands line ≡ true → ⊥
-is_built word line argument has agg cache unbuilt = none_is_no (argument_of word line) (built_no word line agg cache unbuilt) (has_some _ argument has.is)
+is_built : (word line argument : List ℕ) → HasCommand word line argument → bytes_eq (codes "AGG") word ≡ false → has_one_of unbuilt_commands line ≡ true → ⊥
+is_built word line argument has agg unbuilt = none_is_no (argument_of word line) (built_no word line agg unbuilt) (has_some _ argument has.is)
 
 -- what a line with the command MDX asks for
 mdx : (line argument : List ℕ) → HasCommand (codes "MDX") line argument → (other : Request) → IsRequest line other → Means Ask WritesQuery argument other
@@ -104,14 +104,16 @@ mdx line argument has NoCommand asks = absurd (has_it _ line argument has (has_n
 mdx line argument has (Stops byte) (utf8, inl s) = its_stop Ask WritesQuery (codes "MDX") line argument byte has.is s
 mdx line argument has (Stops byte) (utf8, inr (inl s)) = absurd (no_second _ line argument (codes "APPEND") has refl (has_some _ s.argument s.command))
 mdx line argument has (Stops byte) (utf8, inr (inr (inl s))) = absurd (no_second _ line argument (codes "FLUSH") has refl (has_some _ s.argument s.command))
-mdx line argument has (Stops byte) (utf8, inr (inr (inr (inl s)))) = absurd (no_second _ line argument (codes "AFTER") has refl (has_some _ s.argument s.command))
-mdx line argument has (Stops byte) (utf8, inr (inr (inr (inr s)))) = absurd (no_second _ line argument (codes "QUIT") has refl (has_some _ s.argument s.command))
+mdx line argument has (Stops byte) (utf8, inr (inr (inr (inl s)))) = absurd (no_second _ line argument (codes "CACHE") has refl (has_some _ s.argument s.command))
+mdx line argument has (Stops byte) (utf8, inr (inr (inr (inr (inl s))))) = absurd (no_second _ line argument (codes "AFTER") has refl (has_some _ s.argument s.command))
+mdx line argument has (Stops byte) (utf8, inr (inr (inr (inr (inr s))))) = absurd (no_second _ line argument (codes "QUIT") has refl (has_some _ s.argument s.command))
 mdx line argument has Quit asks = absurd (no_second _ line argument (codes "QUIT") has refl (quit_has line asks.1))
 mdx line argument has (After n) asks = absurd (no_second _ line argument (codes "AFTER") has refl (has_some _ asks.1.argument asks.1.command))
 mdx line argument has (Append a) asks = absurd (no_second _ line argument (codes "APPEND") has refl (has_some _ asks.1.argument asks.1.command))
 mdx line argument has (Ask q) asks = inl (q, refl, subst (λ a. WritesQuery a q) (one_argument (codes "MDX") line argument asks.1.argument has.is asks.1.command) asks.1.writes)
 mdx line argument has (Flush f) asks = absurd (no_second _ line argument (codes "FLUSH") has refl (has_some _ asks.1.argument asks.1.command))
-mdx line argument has Unbuilt asks = absurd (is_built _ line argument has refl refl asks.1)
+mdx line argument has Show asks = absurd (no_second _ line argument (codes "CACHE") has refl (show_has line asks.1))
+mdx line argument has Unbuilt asks = absurd (is_built _ line argument has refl asks.1)
 
 -- what a line with the command APPEND asks for
 append : (line argument : List ℕ) → HasCommand (codes "APPEND") line argument → (other : Request) → IsRequest line other → Means Append (Writes IsAppend) argument other
@@ -121,14 +123,16 @@ append line argument has NoCommand asks = absurd (has_it _ line argument has (ha
 append line argument has (Stops byte) (utf8, inl s) = absurd (no_second _ line argument (codes "MDX") has refl (has_some _ s.argument s.command))
 append line argument has (Stops byte) (utf8, inr (inl s)) = its_stop Append (Writes IsAppend) (codes "APPEND") line argument byte has.is s
 append line argument has (Stops byte) (utf8, inr (inr (inl s))) = absurd (no_second _ line argument (codes "FLUSH") has refl (has_some _ s.argument s.command))
-append line argument has (Stops byte) (utf8, inr (inr (inr (inl s)))) = absurd (no_second _ line argument (codes "AFTER") has refl (has_some _ s.argument s.command))
-append line argument has (Stops byte) (utf8, inr (inr (inr (inr s)))) = absurd (no_second _ line argument (codes "QUIT") has refl (has_some _ s.argument s.command))
+append line argument has (Stops byte) (utf8, inr (inr (inr (inl s)))) = absurd (no_second _ line argument (codes "CACHE") has refl (has_some _ s.argument s.command))
+append line argument has (Stops byte) (utf8, inr (inr (inr (inr (inl s))))) = absurd (no_second _ line argument (codes "AFTER") has refl (has_some _ s.argument s.command))
+append line argument has (Stops byte) (utf8, inr (inr (inr (inr (inr s))))) = absurd (no_second _ line argument (codes "QUIT") has refl (has_some _ s.argument s.command))
 append line argument has Quit asks = absurd (no_second _ line argument (codes "QUIT") has refl (quit_has line asks.1))
 append line argument has (After n) asks = absurd (no_second _ line argument (codes "AFTER") has refl (has_some _ asks.1.argument asks.1.command))
 append line argument has (Append q) asks = inl (q, refl, subst (λ a. Writes IsAppend a q) (one_argument (codes "APPEND") line argument asks.1.argument has.is asks.1.command) asks.1.writes)
 append line argument has (Ask q) asks = absurd (no_second _ line argument (codes "MDX") has refl (has_some _ asks.1.argument asks.1.command))
 append line argument has (Flush f) asks = absurd (no_second _ line argument (codes "FLUSH") has refl (has_some _ asks.1.argument asks.1.command))
-append line argument has Unbuilt asks = absurd (is_built _ line argument has refl refl asks.1)
+append line argument has Show asks = absurd (no_second _ line argument (codes "CACHE") has refl (show_has line asks.1))
+append line argument has Unbuilt asks = absurd (is_built _ line argument has refl asks.1)
 
 -- what a line with the command FLUSH asks for
 flush : (line argument : List ℕ) → HasCommand (codes "FLUSH") line argument → (other : Request) → IsRequest line other → Means Flush WritesFlush argument other
@@ -138,14 +142,38 @@ flush line argument has NoCommand asks = absurd (has_it _ line argument has (has
 flush line argument has (Stops byte) (utf8, inl s) = absurd (no_second _ line argument (codes "MDX") has refl (has_some _ s.argument s.command))
 flush line argument has (Stops byte) (utf8, inr (inl s)) = absurd (no_second _ line argument (codes "APPEND") has refl (has_some _ s.argument s.command))
 flush line argument has (Stops byte) (utf8, inr (inr (inl s))) = its_stop Flush WritesFlush (codes "FLUSH") line argument byte has.is s
-flush line argument has (Stops byte) (utf8, inr (inr (inr (inl s)))) = absurd (no_second _ line argument (codes "AFTER") has refl (has_some _ s.argument s.command))
-flush line argument has (Stops byte) (utf8, inr (inr (inr (inr s)))) = absurd (no_second _ line argument (codes "QUIT") has refl (has_some _ s.argument s.command))
+flush line argument has (Stops byte) (utf8, inr (inr (inr (inl s)))) = absurd (no_second _ line argument (codes "CACHE") has refl (has_some _ s.argument s.command))
+flush line argument has (Stops byte) (utf8, inr (inr (inr (inr (inl s))))) = absurd (no_second _ line argument (codes "AFTER") has refl (has_some _ s.argument s.command))
+flush line argument has (Stops byte) (utf8, inr (inr (inr (inr (inr s))))) = absurd (no_second _ line argument (codes "QUIT") has refl (has_some _ s.argument s.command))
 flush line argument has Quit asks = absurd (no_second _ line argument (codes "QUIT") has refl (quit_has line asks.1))
 flush line argument has (After n) asks = absurd (no_second _ line argument (codes "AFTER") has refl (has_some _ asks.1.argument asks.1.command))
 flush line argument has (Append a) asks = absurd (no_second _ line argument (codes "APPEND") has refl (has_some _ asks.1.argument asks.1.command))
 flush line argument has (Ask q) asks = absurd (no_second _ line argument (codes "MDX") has refl (has_some _ asks.1.argument asks.1.command))
 flush line argument has (Flush q) asks = inl (q, refl, subst (λ a. WritesFlush a q) (one_argument (codes "FLUSH") line argument asks.1.argument has.is asks.1.command) asks.1.writes)
-flush line argument has Unbuilt asks = absurd (is_built _ line argument has refl refl asks.1)
+flush line argument has Show asks = absurd (no_second _ line argument (codes "CACHE") has refl (show_has line asks.1))
+flush line argument has Unbuilt asks = absurd (is_built _ line argument has refl asks.1)
+
+abbrev what_is_kept : Unit {0} → Request
+what_is_kept _ = Show
+
+-- what a line with the command CACHE asks for
+cache : (line argument : List ℕ) → HasCommand (codes "CACHE") line argument → (other : Request) → IsRequest line other → Means what_is_kept (Writes IsBlank) argument other
+cache line argument has NotText asks = absurd (is_text _ line argument has asks)
+cache line argument has Blank asks = absurd (no_blank _ line argument has asks.1)
+cache line argument has NoCommand asks = absurd (has_it _ line argument has (has_none line asks.2).cache)
+cache line argument has (Stops byte) (utf8, inl s) = absurd (no_second _ line argument (codes "MDX") has refl (has_some _ s.argument s.command))
+cache line argument has (Stops byte) (utf8, inr (inl s)) = absurd (no_second _ line argument (codes "APPEND") has refl (has_some _ s.argument s.command))
+cache line argument has (Stops byte) (utf8, inr (inr (inl s))) = absurd (no_second _ line argument (codes "FLUSH") has refl (has_some _ s.argument s.command))
+cache line argument has (Stops byte) (utf8, inr (inr (inr (inl s)))) = its_stop what_is_kept (Writes IsBlank) (codes "CACHE") line argument byte has.is s
+cache line argument has (Stops byte) (utf8, inr (inr (inr (inr (inl s))))) = absurd (no_second _ line argument (codes "AFTER") has refl (has_some _ s.argument s.command))
+cache line argument has (Stops byte) (utf8, inr (inr (inr (inr (inr s))))) = absurd (no_second _ line argument (codes "QUIT") has refl (has_some _ s.argument s.command))
+cache line argument has Quit asks = absurd (no_second _ line argument (codes "QUIT") has refl (quit_has line asks.1))
+cache line argument has (After n) asks = absurd (no_second _ line argument (codes "AFTER") has refl (has_some _ asks.1.argument asks.1.command))
+cache line argument has (Append a) asks = absurd (no_second _ line argument (codes "APPEND") has refl (has_some _ asks.1.argument asks.1.command))
+cache line argument has (Ask q) asks = absurd (no_second _ line argument (codes "MDX") has refl (has_some _ asks.1.argument asks.1.command))
+cache line argument has (Flush f) asks = absurd (no_second _ line argument (codes "FLUSH") has refl (has_some _ asks.1.argument asks.1.command))
+cache line argument has Show asks = inl (tt, refl, writes_blank argument (sym (ap (λ o. option_map_or is_blank o false) has.is) ∙ asks.1))
+cache line argument has Unbuilt asks = absurd (is_built _ line argument has refl asks.1)
 
 -- what a line with the command AFTER asks for
 after : (line argument : List ℕ) → HasCommand (codes "AFTER") line argument → (other : Request) → IsRequest line other → Means After (Writes IsPosition) argument other
@@ -155,14 +183,16 @@ after line argument has NoCommand asks = absurd (has_it _ line argument has (has
 after line argument has (Stops byte) (utf8, inl s) = absurd (no_second _ line argument (codes "MDX") has refl (has_some _ s.argument s.command))
 after line argument has (Stops byte) (utf8, inr (inl s)) = absurd (no_second _ line argument (codes "APPEND") has refl (has_some _ s.argument s.command))
 after line argument has (Stops byte) (utf8, inr (inr (inl s))) = absurd (no_second _ line argument (codes "FLUSH") has refl (has_some _ s.argument s.command))
-after line argument has (Stops byte) (utf8, inr (inr (inr (inl s)))) = its_stop After (Writes IsPosition) (codes "AFTER") line argument byte has.is s
-after line argument has (Stops byte) (utf8, inr (inr (inr (inr s)))) = absurd (no_second _ line argument (codes "QUIT") has refl (has_some _ s.argument s.command))
+after line argument has (Stops byte) (utf8, inr (inr (inr (inl s)))) = absurd (no_second _ line argument (codes "CACHE") has refl (has_some _ s.argument s.command))
+after line argument has (Stops byte) (utf8, inr (inr (inr (inr (inl s))))) = its_stop After (Writes IsPosition) (codes "AFTER") line argument byte has.is s
+after line argument has (Stops byte) (utf8, inr (inr (inr (inr (inr s))))) = absurd (no_second _ line argument (codes "QUIT") has refl (has_some _ s.argument s.command))
 after line argument has Quit asks = absurd (no_second _ line argument (codes "QUIT") has refl (quit_has line asks.1))
 after line argument has (After q) asks = inl (q, refl, subst (λ a. Writes IsPosition a q) (one_argument (codes "AFTER") line argument asks.1.argument has.is asks.1.command) asks.1.writes)
 after line argument has (Append a) asks = absurd (no_second _ line argument (codes "APPEND") has refl (has_some _ asks.1.argument asks.1.command))
 after line argument has (Ask q) asks = absurd (no_second _ line argument (codes "MDX") has refl (has_some _ asks.1.argument asks.1.command))
 after line argument has (Flush f) asks = absurd (no_second _ line argument (codes "FLUSH") has refl (has_some _ asks.1.argument asks.1.command))
-after line argument has Unbuilt asks = absurd (is_built _ line argument has refl refl asks.1)
+after line argument has Show asks = absurd (no_second _ line argument (codes "CACHE") has refl (show_has line asks.1))
+after line argument has Unbuilt asks = absurd (is_built _ line argument has refl asks.1)
 
 abbrev the_end : Unit {0} → Request
 the_end _ = Quit
@@ -175,14 +205,16 @@ quit line argument has NoCommand asks = absurd (has_it _ line argument has (has_
 quit line argument has (Stops byte) (utf8, inl s) = absurd (no_second _ line argument (codes "MDX") has refl (has_some _ s.argument s.command))
 quit line argument has (Stops byte) (utf8, inr (inl s)) = absurd (no_second _ line argument (codes "APPEND") has refl (has_some _ s.argument s.command))
 quit line argument has (Stops byte) (utf8, inr (inr (inl s))) = absurd (no_second _ line argument (codes "FLUSH") has refl (has_some _ s.argument s.command))
-quit line argument has (Stops byte) (utf8, inr (inr (inr (inl s)))) = absurd (no_second _ line argument (codes "AFTER") has refl (has_some _ s.argument s.command))
-quit line argument has (Stops byte) (utf8, inr (inr (inr (inr s)))) = its_stop the_end (Writes IsBlank) (codes "QUIT") line argument byte has.is s
+quit line argument has (Stops byte) (utf8, inr (inr (inr (inl s)))) = absurd (no_second _ line argument (codes "CACHE") has refl (has_some _ s.argument s.command))
+quit line argument has (Stops byte) (utf8, inr (inr (inr (inr (inl s))))) = absurd (no_second _ line argument (codes "AFTER") has refl (has_some _ s.argument s.command))
+quit line argument has (Stops byte) (utf8, inr (inr (inr (inr (inr s))))) = its_stop the_end (Writes IsBlank) (codes "QUIT") line argument byte has.is s
 quit line argument has Quit asks = inl (tt, refl, writes_blank argument (sym (ap (λ o. option_map_or is_blank o false) has.is) ∙ asks.1))
 quit line argument has (After n) asks = absurd (no_second _ line argument (codes "AFTER") has refl (has_some _ asks.1.argument asks.1.command))
 quit line argument has (Append a) asks = absurd (no_second _ line argument (codes "APPEND") has refl (has_some _ asks.1.argument asks.1.command))
 quit line argument has (Ask q) asks = absurd (no_second _ line argument (codes "MDX") has refl (has_some _ asks.1.argument asks.1.command))
 quit line argument has (Flush f) asks = absurd (no_second _ line argument (codes "FLUSH") has refl (has_some _ asks.1.argument asks.1.command))
-quit line argument has Unbuilt asks = absurd (is_built _ line argument has refl refl asks.1)
+quit line argument has Show asks = absurd (no_second _ line argument (codes "CACHE") has refl (show_has line asks.1))
+quit line argument has Unbuilt asks = absurd (is_built _ line argument has refl asks.1)
 
 pub only_ask : (argument : List ℕ) (q : Query) → WritesQuery argument q → ((p : Query) → WritesQuery argument p → p ≡ q) → AsksOnly (codes "MDX") argument (Ask q)
 only_ask argument q writes one line utf8 is other asks = only_value Ask WritesQuery argument q writes one other (mdx line argument (record { utf8 = utf8; some = refl; is = is }) other asks)
@@ -201,6 +233,12 @@ only_flush argument q writes one line utf8 is other asks = only_value Flush Writ
 
 pub only_flush_stop : (argument : List ℕ) (byte : ℕ) → StopsAt WritesFlush argument byte → AsksOnly (codes "FLUSH") argument (Stops byte)
 only_flush_stop argument byte stops line utf8 is other asks = only_stop Flush WritesFlush argument byte stops other (flush line argument (record { utf8 = utf8; some = refl; is = is }) other asks)
+
+pub only_show : (argument : List ℕ) (q : Unit {0}) → Writes IsBlank argument q → ((p : Unit {0}) → Writes IsBlank argument p → p ≡ q) → AsksOnly (codes "CACHE") argument Show
+only_show argument q writes one line utf8 is other asks = only_value what_is_kept (Writes IsBlank) argument q writes one other (cache line argument (record { utf8 = utf8; some = refl; is = is }) other asks)
+
+pub only_show_stop : (argument : List ℕ) (byte : ℕ) → StopsAt (Writes IsBlank) argument byte → AsksOnly (codes "CACHE") argument (Stops byte)
+only_show_stop argument byte stops line utf8 is other asks = only_stop what_is_kept (Writes IsBlank) argument byte stops other (cache line argument (record { utf8 = utf8; some = refl; is = is }) other asks)
 
 pub only_after : (argument : List ℕ) (q : ℕ) → Writes IsPosition argument q → ((p : ℕ) → Writes IsPosition argument p → p ≡ q) → AsksOnly (codes "AFTER") argument (After q)
 only_after argument q writes one line utf8 is other asks = only_value After (Writes IsPosition) argument q writes one other (after line argument (record { utf8 = utf8; some = refl; is = is }) other asks)
@@ -225,6 +263,7 @@ only_no_text line not_text (After n) asks = absurd (not_both _ asks.0 not_text)
 only_no_text line not_text (Append a) asks = absurd (not_both _ asks.0 not_text)
 only_no_text line not_text (Ask q) asks = absurd (not_both _ asks.0 not_text)
 only_no_text line not_text (Flush f) asks = absurd (not_both _ asks.0 not_text)
+only_no_text line not_text Show asks = absurd (not_both _ asks.0 not_text)
 only_no_text line not_text Unbuilt asks = absurd (not_both _ asks.0 not_text)
 
 -- a line without the commands that have arguments
@@ -232,6 +271,7 @@ record Free (line : List ℕ) : Type 0 where
   pub mdx : argument_of (codes "MDX") line ≡ None
   pub append : argument_of (codes "APPEND") line ≡ None
   pub flush : argument_of (codes "FLUSH") line ≡ None
+  pub cache : argument_of (codes "CACHE") line ≡ None
   pub after : argument_of (codes "AFTER") line ≡ None
   pub quit : argument_of (codes "QUIT") line ≡ None
 
@@ -240,13 +280,13 @@ has_not None none = refl
 has_not (Some argument) none = absurd (let n : ⊥ = cc in n)
 
 free_blank : (line : List ℕ) → is_blank line ≡ true → Free line
-free_blank line blank = record { mdx = none_in_blank (codes "MDX") line refl blank; append = none_in_blank (codes "APPEND") line refl blank; flush = none_in_blank (codes "FLUSH") line refl blank; after = none_in_blank (codes "AFTER") line refl blank; quit = none_in_blank (codes "QUIT") line refl blank }
+free_blank line blank = record { mdx = none_in_blank (codes "MDX") line refl blank; append = none_in_blank (codes "APPEND") line refl blank; flush = none_in_blank (codes "FLUSH") line refl blank; cache = none_in_blank (codes "CACHE") line refl blank; after = none_in_blank (codes "AFTER") line refl blank; quit = none_in_blank (codes "QUIT") line refl blank }
 
 free_none : (line : List ℕ) → has_one_of commands line ≡ false → Free line
-free_none line without = let none = has_none line without in record { mdx = has_not _ none.mdx; append = has_not _ none.append; flush = has_not _ none.flush; after = has_not _ none.after; quit = has_not _ none.quit }
+free_none line without = let none = has_none line without in record { mdx = has_not _ none.mdx; append = has_not _ none.append; flush = has_not _ none.flush; cache = has_not _ none.cache; after = has_not _ none.after; quit = has_not _ none.quit }
 
 free_unbuilt : (line : List ℕ) → has_one_of unbuilt_commands line ≡ true → Free line
-free_unbuilt line has = record { mdx = built_no (codes "MDX") line refl refl has; append = built_no (codes "APPEND") line refl refl has; flush = built_no (codes "FLUSH") line refl refl has; after = built_no (codes "AFTER") line refl refl has; quit = built_no (codes "QUIT") line refl refl has }
+free_unbuilt line has = record { mdx = built_no (codes "MDX") line refl has; append = built_no (codes "APPEND") line refl has; flush = built_no (codes "FLUSH") line refl has; cache = built_no (codes "CACHE") line refl has; after = built_no (codes "AFTER") line refl has; quit = built_no (codes "QUIT") line refl has }
 
 no_argument : (word line argument : List ℕ) → argument_of word line ≡ None → argument_of word line ≡ Some argument → ⊥
 no_argument word line argument none is = none_is_no (argument_of word line) none (has_some _ argument is)
@@ -255,8 +295,9 @@ no_stop : (line : List ℕ) (byte : ℕ) → Free line → Stopped line byte →
 no_stop line byte free (inl s) = no_argument (codes "MDX") line s.argument free.mdx s.command
 no_stop line byte free (inr (inl s)) = no_argument (codes "APPEND") line s.argument free.append s.command
 no_stop line byte free (inr (inr (inl s))) = no_argument (codes "FLUSH") line s.argument free.flush s.command
-no_stop line byte free (inr (inr (inr (inl s)))) = no_argument (codes "AFTER") line s.argument free.after s.command
-no_stop line byte free (inr (inr (inr (inr s)))) = no_argument (codes "QUIT") line s.argument free.quit s.command
+no_stop line byte free (inr (inr (inr (inl s)))) = no_argument (codes "CACHE") line s.argument free.cache s.command
+no_stop line byte free (inr (inr (inr (inr (inl s))))) = no_argument (codes "AFTER") line s.argument free.after s.command
+no_stop line byte free (inr (inr (inr (inr (inr s))))) = no_argument (codes "QUIT") line s.argument free.quit s.command
 
 -- such a line of text asks for something that has no argument
 abbrev Plain : List ℕ → Request → Type 0
@@ -272,14 +313,15 @@ plain line utf8 free (After n) asks = absurd (no_argument (codes "AFTER") line a
 plain line utf8 free (Append a) asks = absurd (no_argument (codes "APPEND") line asks.1.argument free.append asks.1.command)
 plain line utf8 free (Ask q) asks = absurd (no_argument (codes "MDX") line asks.1.argument free.mdx asks.1.command)
 plain line utf8 free (Flush f) asks = absurd (no_argument (codes "FLUSH") line asks.1.argument free.flush asks.1.command)
+plain line utf8 free Show asks = absurd (none_is_no _ free.cache (show_has line asks.1))
 plain line utf8 free Unbuilt asks = inr (inr (refl, asks.1))
 
 -- a blank line has no command of which nothing is built
 blank_unbuilt : (line : List ℕ) → is_blank line ≡ true → has_one_of unbuilt_commands line ≡ true → ⊥
-blank_unbuilt line blank has = by (none_in_blank (codes "AGG") line refl blank) (none_in_blank (codes "CACHE") line refl blank)
+blank_unbuilt line blank has = by (none_in_blank (codes "AGG") line refl blank)
   where
-    by : argument_of (codes "AGG") line ≡ None → argument_of (codes "CACHE") line ≡ None → ⊥
-    by agg cache = not_both (has_one_of unbuilt_commands line) has (rw (agg, cache) refl)
+    by : argument_of (codes "AGG") line ≡ None → ⊥
+    by agg = not_both (has_one_of unbuilt_commands line) has (rw agg refl)
 
 -- a blank line asks for nothing else
 pub only_blank : (line : List ℕ) → is_utf8 line ≡ true → is_blank line ≡ true → IsOnly line Blank

@@ -3,7 +3,7 @@ use Rattle.std.specs.Prelude.{ℕ, ◌≡◌, ◌⊎◌, List, true, false, Some
 use Rattle.std.specs.Str.{is_utf8}
 use Rattle.query_meaning.specs.declared.query.Query.{Query}
 use Rattle.query_meaning.specs.declared.region_text.RegionText.{RegionText}
-use Rattle.query_meaning.specs.Requests.{argument_of, commands, has_one_of, is_blank, is_quit, unbuilt_commands}
+use Rattle.query_meaning.specs.Requests.{argument_of, commands, has_one_of, is_blank, is_quit, is_show, unbuilt_commands}
 use Rattle.query_meaning.specs.WholeFlushes.{WritesFlush}
 use Rattle.query_meaning.specs.WholeQueries.{WritesQuery}
 use Rattle.text_forms.specs.Forms.{StopsAt, Writes}
@@ -14,7 +14,7 @@ use Rattle.command_arguments.specs.declared.append.AppendArgument.{AppendArgumen
 
 -- what a line asks for: nothing, since it is no text, or blank, or has no command, or its argument is none of its
 -- command's form and stops at a byte; the end; that a cache has so many entries; an append; the answer to a query; a
--- flush; or what is not built
+-- flush; to be shown what is kept; or what is not built
 pub data Request : Type 0 where
   NotText : Request
   Blank : Request
@@ -25,6 +25,7 @@ pub data Request : Type 0 where
   Append : AppendArgument → Request
   Ask : Query → Request
   Flush : RegionText → Request
+  Show : Request
   Unbuilt : Request
 
 -- a line has a command, by its word, and an argument that writes this
@@ -48,6 +49,7 @@ Stopped line byte =
     ArgumentStops (codes "MDX") WritesQuery line byte
     ⊎ ArgumentStops (codes "APPEND") (Writes IsAppend) line byte
     ⊎ ArgumentStops (codes "FLUSH") WritesFlush line byte
+    ⊎ ArgumentStops (codes "CACHE") (Writes IsBlank) line byte
     ⊎ ArgumentStops (codes "AFTER") (Writes IsPosition) line byte
     ⊎ ArgumentStops (codes "QUIT") (Writes IsBlank) line byte
 
@@ -67,6 +69,7 @@ IsRequest line (Ask query) =
     (is_utf8 line ≡ true) × HasArgument (codes "MDX") WritesQuery line query
 IsRequest line (Flush text) =
     (is_utf8 line ≡ true) × HasArgument (codes "FLUSH") WritesFlush line text
+IsRequest line Show = (is_utf8 line ≡ true) × (is_show line ≡ true)
 IsRequest line Unbuilt = (is_utf8 line ≡ true) × (has_one_of unbuilt_commands line ≡ true)
 
 -- a line asks for nothing else

@@ -1,7 +1,7 @@
 //! What a line asks for.
 ghost use Rattle.std.specs.Prelude.{◌≡◌, ◌<◌, ◌^◌, IfOk, MatchOption, OnErr, codes, false, is_some, length, true};
 ghost use Rattle.std.specs.Str.{is_utf8};
-ghost use Rattle.query_meaning.specs.Requests.{MayFindNoMemory, argument_of, has_one_of, unbuilt_commands};
+ghost use Rattle.query_meaning.specs.Requests.{MayTakeMemory, argument_of, has_one_of, unbuilt_commands};
 ghost use Rattle.input_lines.specs.Asked.{Asks, AsksOnly, asked};
 ghost use Rattle.input_lines.specs.Requests.{IsOnly, IsRequest};
 
@@ -34,6 +34,8 @@ pub enum Request {
     Ask(Query),
     /// That a region of a cube is flushed.
     Flush(RegionText),
+    /// To be shown what is kept.
+    Show,
     /// What is not built.
     Unbuilt,
 }
@@ -60,10 +62,7 @@ fn has_command(word: &str, line: &str) -> bool
 fn has_unbuilt_command(line: &str) -> bool
     ensures { result ≡ has_one_of unbuilt_commands line.now }
 {
-    if has_command("AGG", line) {
-        return true;
-    }
-    has_command("CACHE", line)
+    has_command("AGG", line)
 }
 
 // What the command MDX with this argument asks for.
@@ -103,6 +102,19 @@ fn ask_flush(alloc: Global, argument: &str) -> Result<Request, OutOfMemory>
     }
 }
 
+// What the command CACHE with this argument asks for.
+fn ask_show(alloc: Global, argument: &str) -> Result<Request, OutOfMemory>
+    ensures request { IfOk result (λ request. Asks (codes "CACHE") argument.now (asked request)) }
+    ensures one { IfOk result (λ request. AsksOnly (codes "CACHE") argument.now (asked request)) }
+    ensures never { OnErr result ⊥ }
+{
+    match read_blank(alloc, argument) {
+        Ok(()) => Ok(Request::Show),
+        Err(ReadFault::StopsAt { byte }) => Ok(Request::Stops(byte)),
+        Err(ReadFault::OutOfMemory) => Err(OutOfMemory),
+    }
+}
+
 // What the command AFTER with this argument asks for.
 fn ask_after(alloc: Global, argument: &str) -> Result<Request, OutOfMemory>
     ensures request { IfOk result (λ request. Asks (codes "AFTER") argument.now (asked request)) }
@@ -134,7 +146,7 @@ pub fn read_request(alloc: Global, line: &[u8]) -> Result<Request, OutOfMemory>
     requires { length line.now < 2 ^ 32 }
     ensures request { IfOk result (λ request. IsRequest line.now (asked request)) }
     ensures one { IfOk result (λ request. IsOnly line.now (asked request)) }
-    ensures err { OnErr result (MayFindNoMemory line.now) }
+    ensures err { OnErr result (MayTakeMemory line.now) }
 {
     let Some(text) = text_of(line) else {
         return Ok(Request::NotText);
@@ -150,6 +162,9 @@ pub fn read_request(alloc: Global, line: &[u8]) -> Result<Request, OutOfMemory>
     }
     if let Some(argument) = argument_of("FLUSH", text) {
         return ask_flush(alloc, argument);
+    }
+    if let Some(argument) = argument_of("CACHE", text) {
+        return ask_show(alloc, argument);
     }
     if let Some(argument) = argument_of("AFTER", text) {
         return ask_after(alloc, argument);

@@ -1,18 +1,24 @@
--- A query that means axes is answered by the grid of an answer to their cells, and a flush by what it means.
-use Rattle.std.proofs.Common.{◌≡◌, ◌≢◌, sym, subst, ◌⊎◌, ℕ, List, Option, Result, Ok, inl, inr}
+-- A query that means axes is answered by the grid of an answer to their cells, a flush by what it means, and a look by
+-- what is kept.
+use Rattle.std.proofs.Common.{◌≡◌, ◌≢◌, refl, sym, ap, subst, ◌⊎◌, ℕ, List, true, false, codes, bytes_eq, is_some, Option, None, Result, Ok, Err, inl, inr, arith}
+use Rattle.std.specs.Option.{option_map_or}
+use Rattle.olap_meaning.specs.declared.regions.Region.{Region}
 use Rattle.query_meaning.specs.declared.axes.Axes.{Axes}
 use Rattle.query_meaning.specs.declared.query.Query.{Query}
-use Rattle.query_meaning.specs.declared.region_text.RegionText.{RegionText}
 use Rattle.query_meaning.specs.AxisCells.{cells_of}
-use Rattle.query_meaning.specs.RegionMeaning.{flush_meant}
-use Rattle.query_meaning.specs.RegionReplies.{flush_reply}
-use Rattle.query_meaning.specs.Replies.{no_memory_reply}
+use Rattle.query_meaning.specs.RegionMeaning.{RegionRefusal, flush_meant}
+use Rattle.query_meaning.specs.RegionReplies.{cube_named}
+use Rattle.query_meaning.specs.Replies.{flushed_reply, no_memory_reply}
+use Rattle.query_meaning.specs.Requests.{MayTakeMemory, argument_of, is_blank, is_show}
 use Rattle.query_meaning.specs.Resolution.{Refusal, axes_meant}
 use Rattle.history_core.specs.declared.answers.Answer.{Answer}
-use Rattle.input_lines.specs.Requests.{Request, Ask, Flush}
-use Rattle.line_session.specs.Answered.{FlushesAreAnswered, QueriesAreAnswered}
-use Rattle.line_session.specs.Desks.{HasAsked}
-use Rattle.line_session.specs.Replies.{AnswersFlush, AnswersLine, AnswersMeaning, AnswersRequest, Dealing, IsGridOf, LeavesUnread, StandsStill, Texts, catalog_of}
+use Rattle.input_lines.specs.Requests.{Request, Ask, Flush, Show}
+use Rattle.input_lines.proofs.Commands.{no_other}
+use Rattle.line_session.specs.Answered.{FlushesAreAnswered, LooksAreAnswered, QueriesAreAnswered}
+use Rattle.line_session.specs.Desks.{AddsNone, HasAsked}
+use Rattle.line_session.specs.Replies.{AnswersFlush, AnswersLine, AnswersMeaning, AnswersRequest, AnswersShow, Dealing, IsGridOf, LeavesUnread, StandsStill, Texts, catalog_of}
+use Rattle.line_session.proofs.GoingOn.{adds_none}
+use Rattle.line_session.proofs.Wanting.{differ}
 
 -- an answer to the cells of axes, whose grid is the reply
 abbrev IsAnswered : Texts → Dealing → Axes → List ℕ → Type 0
@@ -39,17 +45,48 @@ queries_answered texts dealing handled argument query axes handles utf8 command 
     by (inl line) = given texts dealing axes handled.position handled.reply told (asked_query texts dealing query axes line.request handled.position handled.reply (line.only (Ask query) (utf8, record { argument = argument; command = command; writes = writes })) means line.answers)
     by (inr unread) = absurd (told unread.no_memory)
 
--- nothing is added, and the reply is the one by what a flush means, or that there was no memory
-abbrev IsFlushed : Dealing → RegionText → Option ℕ → List ℕ → Type 0
-IsFlushed dealing text position reply = StandsStill dealing position × (reply ≢ no_memory_reply → reply ≡ flush_reply (catalog_of dealing.before) text (flush_meant (catalog_of dealing.before) text))
+-- a flush that was not read: nothing was added
+unread_flush : (dealing : Dealing) (cube : ℕ) (meant : Result Region RegionRefusal) (position : Option ℕ) (reply : List ℕ) → StandsStill dealing position → reply ≡ no_memory_reply → AnswersFlush dealing cube meant position reply
+unread_flush dealing cube (Ok region) position reply still told =
+    inr (record { adds = subst (AddsNone dealing.before) (sym still.same) (adds_none dealing.before); none = still.none; no_memory = told }, still.unasked)
+unread_flush dealing cube (Err refused) position reply still told = (still, inr told)
 
-replied : (dealing : Dealing) (text : RegionText) (position : Option ℕ) (reply : List ℕ) → StandsStill dealing position × AnswersFlush (catalog_of dealing.before) text reply → IsFlushed dealing text position reply
-replied dealing text position reply (still, inl is) = (still, λ told. is)
-replied dealing text position reply (still, inr lacks) = (still, λ told. absurd (told lacks))
+-- where want of memory is replied to a flush, no entry was made
+lacks_entry : (dealing : Dealing) (cube : ℕ) (meant : Result Region RegionRefusal) (position : Option ℕ) (reply : List ℕ) → AnswersFlush dealing cube meant position reply → reply ≡ no_memory_reply → AddsNone dealing.before dealing.after × (position ≡ None)
+lacks_entry dealing cube (Ok region) position reply (inl gives) told = absurd (differ 0 (flushed_reply gives.entry) no_memory_reply (λ same. omega arith) reply gives.text told)
+lacks_entry dealing cube (Ok region) position reply (inr lacks) told = (lacks.0.adds, lacks.0.none)
+lacks_entry dealing cube (Err refused) position reply (still, refuses) told = (subst (AddsNone dealing.before) (sym still.same) (adds_none dealing.before), still.none)
 
 pub flushes_answered : (texts : Texts) → FlushesAreAnswered texts
-flushes_answered texts dealing handled argument text handles utf8 command writes = by handles.answers
+flushes_answered texts dealing handled argument text handles utf8 command writes =
+    record { answers = answers; lack = lacks_entry dealing cube meant handled.position handled.reply answers }
   where
-    by : AnswersLine texts dealing handled ⊎ LeavesUnread dealing handled → IsFlushed dealing text handled.position handled.reply
-    by (inl line) = replied dealing text handled.position handled.reply (subst (λ (r : Request). AnswersRequest texts dealing r handled.position handled.reply) (sym (line.only (Flush text) (utf8, record { argument = argument; command = command; writes = writes }))) line.answers)
-    by (inr unread) = (unread.nothing, λ told. absurd (told unread.no_memory))
+    cube : ℕ
+    cube = cube_named (catalog_of dealing.before) text
+
+    meant : Result Region RegionRefusal
+    meant = flush_meant (catalog_of dealing.before) text
+
+    by : AnswersLine texts dealing handled ⊎ LeavesUnread dealing handled → AnswersFlush dealing cube meant handled.position handled.reply
+    by (inl line) = subst (λ (r : Request). AnswersRequest texts dealing r handled.position handled.reply) (sym (line.only (Flush text) (utf8, record { argument = argument; command = command; writes = writes }))) line.answers
+    by (inr unread) = unread_flush dealing cube meant handled.position handled.reply unread.nothing unread.no_memory
+
+    answers : AnswersFlush dealing cube meant handled.position handled.reply
+    answers = by handles.answers
+
+-- a line that asks for what is kept has none of the commands whose argument may take memory
+shown_without : (word line : List ℕ) → bytes_eq word (codes "CACHE") ≡ false → is_some (argument_of word line) ≡ true → is_show line ≡ true → ⊥
+shown_without word line other has show =
+    let none : is_show line ≡ false = ap (λ (o : Option (List ℕ)). option_map_or is_blank o false) (no_other word (codes "CACHE") line other has) in let n : ⊥ = cc in n
+
+takes_none : (line : List ℕ) → MayTakeMemory line → is_show line ≡ true → ⊥
+takes_none line (utf8, inl mdx) show = shown_without (codes "MDX") line refl mdx show
+takes_none line (utf8, inr (inl append)) show = shown_without (codes "APPEND") line refl append show
+takes_none line (utf8, inr (inr flush)) show = shown_without (codes "FLUSH") line refl flush show
+
+pub looks_answered : (texts : Texts) → LooksAreAnswered texts
+looks_answered texts dealing handled handles utf8 show = by handles.answers
+  where
+    by : AnswersLine texts dealing handled ⊎ LeavesUnread dealing handled → AnswersShow dealing handled.position handled.reply
+    by (inl line) = subst (λ (r : Request). AnswersRequest texts dealing r handled.position handled.reply) (sym (line.only Show (utf8, show))) line.answers
+    by (inr unread) = absurd (takes_none handled.line unread.takes show)

@@ -1,19 +1,22 @@
 -- What is seen goes on, whatever is replied.
 use Rattle.std.proofs.Common.{◌≡◌, refl, sym, ap, subst, ℕ, List, [], append-nil, Option, Some, None, Result, Ok, Err, inl, inr}
+use Rattle.olap_meaning.specs.declared.regions.Region.{Region}
 use Rattle.olap_meaning.specs.Catalog.{find_cube}
 use Rattle.olap_meaning.specs.History.{Entry}
 use Rattle.query_meaning.specs.declared.axes.Axes.{Axes}
+use Rattle.query_meaning.specs.RegionMeaning.{RegionRefusal, flush_meant}
+use Rattle.query_meaning.specs.RegionReplies.{cube_named}
 use Rattle.query_meaning.specs.Resolution.{Refusal, axes_meant}
 use Rattle.outside.specs.declared.depot.DepotRefusal.{DepotRefusal}
 use Rattle.outside.specs.declared.depot.DepotRefusal.TheVariants as depot
 use Rattle.command_arguments.specs.declared.append.AppendArgument.{AppendArgument}
-use Rattle.input_lines.specs.Requests.{Request, NotText, Blank, NoCommand, Stops, Quit, After, Append, Ask, Flush, Unbuilt}
+use Rattle.input_lines.specs.Requests.{Request, NotText, Blank, NoCommand, Stops, Quit, After, Append, Ask, Flush, Show, Unbuilt}
 use Rattle.fact_rows.specs.BatchFiles.{batch_of}
 use Rattle.fact_rows.specs.declared.fault.BatchFault.{BatchFault}
 use Rattle.fact_versions.specs.FactRows.{FactRows}
 use Rattle.history_core.specs.Cache.{CacheOf}
 use Rattle.line_session.specs.Desks.{AddsNone, DeskOf, GoesOn, GoesOnBy}
-use Rattle.line_session.specs.Replies.{AnswersAppend, AnswersMeaning, AnswersRequest, AppendsFile, AppendsRows, Dealing, Texts, catalog_of}
+use Rattle.line_session.specs.Replies.{AnswersAppend, AnswersFlush, AnswersMeaning, AnswersRequest, AnswersShow, AppendsFile, AppendsRows, Dealing, Texts, catalog_of}
 
 -- a desk that was not asked goes on by nothing
 pub stands : (desk : DeskOf) → GoesOnBy desk desk []
@@ -57,6 +60,15 @@ append_goes_on around argument (Some cube) position reply (came, asks, inl appen
 append_goes_on around argument (Some cube) position reply (came, asks, inr lacks) = none_goes_on around.before around.after lacks.adds
 append_goes_on around argument None position reply is = same_goes_on around.before around.after is.0.same
 
+flush_goes_on : (around : Dealing) (cube : ℕ) (meant : Result Region RegionRefusal) (position : Option ℕ) (reply : List ℕ) → AnswersFlush around cube meant position reply → GoesOn around.before around.after
+flush_goes_on around cube (Ok region) position reply (inl gives) = (_, gives.flushes.adds.goes_on)
+flush_goes_on around cube (Ok region) position reply (inr lacks) = none_goes_on around.before around.after lacks.0.adds
+flush_goes_on around cube (Err refused) position reply is = same_goes_on around.before around.after is.0.same
+
+show_goes_on : (around : Dealing) (position : Option ℕ) (reply : List ℕ) → AnswersShow around position reply → GoesOn around.before around.after
+show_goes_on around position reply (unasked, inl gives) = (_, gives.shows.adds.goes_on)
+show_goes_on around position reply (unasked, inr lacks) = none_goes_on around.before around.after lacks.adds
+
 -- whatever a line asks for
 pub request_goes_on : (texts : Texts) (around : Dealing) (request : Request) (position : Option ℕ) (reply : List ℕ) → AnswersRequest texts around request position reply → GoesOn around.before around.after
 request_goes_on texts around NotText position reply is = same_goes_on around.before around.after is.0.same
@@ -67,7 +79,9 @@ request_goes_on texts around Quit position reply is = same_goes_on around.before
 request_goes_on texts around (After n) position reply is = (is.fronts.more, is.fronts.goes_on)
 request_goes_on texts around (Append argument) position reply is = append_goes_on around argument (find_cube (catalog_of around.before) argument.cube) position reply is
 request_goes_on texts around (Ask query) position reply is = meaning_goes_on texts around (axes_meant (catalog_of around.before) query) position reply is.1
-request_goes_on texts around (Flush text) position reply is = same_goes_on around.before around.after is.0.same
+request_goes_on texts around (Flush text) position reply is =
+    flush_goes_on around (cube_named (catalog_of around.before) text) (flush_meant (catalog_of around.before) text) position reply is
+request_goes_on texts around Show position reply is = show_goes_on around position reply is
 request_goes_on texts around Unbuilt position reply is = same_goes_on around.before around.after is.0.same
 
 -- and where nothing of it was read

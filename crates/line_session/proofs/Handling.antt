@@ -1,7 +1,7 @@
 -- A line that was read is handled as its request says, and what is seen goes on.
 use Rattle.std.proofs.Common.{◌≡◌, ℕ, List, [], Option, None, inl, inr}
 use Rattle.query_meaning.specs.Replies.{no_memory_reply}
-use Rattle.query_meaning.specs.Requests.{MayFindNoMemory}
+use Rattle.query_meaning.specs.Requests.{MayTakeMemory}
 use Rattle.input_lines.specs.Requests.{Request, IsOnly, IsRequest}
 use Rattle.line_session.specs.Desks.{DeskOf}
 use Rattle.line_session.specs.Replies.{AnswersRequest, Dealing, Handles, Texts}
@@ -13,5 +13,5 @@ pub handles_request : (texts : Texts) (around : Dealing) (line : List ℕ) (requ
 handles_request texts around line request position reply asks only answers = record { answers = inl (record { request = request; asks = asks; only = only; answers = answers }); lack = lack texts around line request position reply asks answers }
 
 -- there was no memory to read it
-pub handles_none : (texts : Texts) (desk : DeskOf) (line reply : List ℕ) → MayFindNoMemory line → reply ≡ no_memory_reply → Handles texts (between desk desk []) (record { line = line; position = None; reply = reply })
-handles_none texts desk line reply may told = record { answers = inr (record { nothing = stands_still desk; no_memory = told }); lack = λ _. may }
+pub handles_none : (texts : Texts) (desk : DeskOf) (line reply : List ℕ) → MayTakeMemory line → reply ≡ no_memory_reply → Handles texts (between desk desk []) (record { line = line; position = None; reply = reply })
+handles_none texts desk line reply may told = record { answers = inr (record { takes = may; nothing = stands_still desk; no_memory = told }); lack = λ _. inl may }

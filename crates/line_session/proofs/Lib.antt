@@ -2,6 +2,7 @@ pub mod GoingOn
 pub mod LineEnds
 pub mod Replying
 pub mod Appending
+pub mod Flushing
 pub mod Wanting
 pub mod Handling
 pub mod Taking
@@ -10,3 +11,4 @@ pub mod Sending
 pub mod Serving
 pub mod Rows
 pub mod Answered
+pub mod Unbuilt

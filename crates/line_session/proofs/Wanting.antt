@@ -1,13 +1,13 @@
--- That there was no memory is replied to three commands alone.
+-- That there was no memory is replied to four commands alone.
 use Rattle.std.proofs.Common.{◌≡◌, sym, ◌∙◌, ap, ℕ, List, [], Bool, true, false, Option, get_or, inl, inr, nat_le, arith, if◌then◌else◌}
 use Rattle.std.specs.Option.{is_some}
 use Rattle.query_meaning.specs.Replies.{no_command_reply, no_memory_reply, not_text_reply, not_yet_reply, quit_reply, seen_reply, syntax_reply, unbuilt_reply}
 use Rattle.query_meaning.specs.Requests.{MayFindNoMemory}
-use Rattle.input_lines.specs.Requests.{Request, NotText, Blank, NoCommand, Stops, Quit, After, Append, Ask, Flush, Unbuilt, IsRequest}
+use Rattle.input_lines.specs.Requests.{Request, NotText, Blank, NoCommand, Stops, Quit, After, Append, Ask, Flush, Show, Unbuilt, IsRequest}
 use Rattle.line_session.specs.Replies.{AnswersRequest, Dealing, Texts, front_reply}
 
 -- two replies differ in a byte
-differ : (place : ℕ) (one other : List ℕ) → (get_or one place 0 ≡ get_or other place 0 → ⊥) → (reply : List ℕ) → reply ≡ one → reply ≡ other → ⊥
+pub differ : (place : ℕ) (one other : List ℕ) → (get_or one place 0 ≡ get_or other place 0 → ⊥) → (reply : List ℕ) → reply ≡ one → reply ≡ other → ⊥
 differ place one other apart reply is told = apart (ap (λ bytes. get_or bytes place 0) (sym is ∙ told))
 
 told_front : (asked front : ℕ) (reply : List ℕ) → reply ≡ front_reply asked front → reply ≡ no_memory_reply → ⊥
@@ -24,7 +24,8 @@ lack texts around line NoCommand position reply asks is told = absurd (differ 4 
 lack texts around line (Stops byte) position reply asks is told = absurd (differ 4 (syntax_reply byte) no_memory_reply (λ same. omega arith) reply is.1 told)
 lack texts around line Quit position reply asks is told = absurd (differ 0 quit_reply no_memory_reply (λ same. omega arith) reply is.1 told)
 lack texts around line (After n) position reply asks is told = absurd (told_front n is.front reply is.text told)
-lack texts around line (Append argument) position reply asks is told = (asks.0, inr (inl (ap is_some asks.1.command)))
-lack texts around line (Ask query) position reply asks is told = (asks.0, inl (ap is_some asks.1.command))
-lack texts around line (Flush text) position reply asks is told = (asks.0, inr (inr (ap is_some asks.1.command)))
+lack texts around line (Append argument) position reply asks is told = inl (asks.0, inr (inl (ap is_some asks.1.command)))
+lack texts around line (Ask query) position reply asks is told = inl (asks.0, inl (ap is_some asks.1.command))
+lack texts around line (Flush text) position reply asks is told = inl (asks.0, inr (inr (ap is_some asks.1.command)))
+lack texts around line Show position reply asks is told = inr asks
 lack texts around line Unbuilt position reply asks is told = absurd (differ 5 unbuilt_reply no_memory_reply (λ same. omega arith) reply is.1 told)

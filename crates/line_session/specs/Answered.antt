@@ -1,20 +1,20 @@
--- What follows for a query and for a flush from what a session replies to a line.
-use Rattle.std.specs.Prelude.{ℕ, ◌≡◌, ◌≢◌, List, true, Some, Ok, codes}
+-- What follows for a query, a flush, a look and what is not built from what a session replies to a line.
+use Rattle.std.specs.Prelude.{ℕ, ◌≡◌, ◌≢◌, ◌↔◌, List, true, Some, None, Ok, codes}
 use Rattle.std.specs.Str.{is_utf8}
 use Rattle.query_meaning.specs.declared.axes.Axes.{Axes}
 use Rattle.query_meaning.specs.declared.query.Query.{Query}
 use Rattle.query_meaning.specs.declared.region_text.RegionText.{RegionText}
 use Rattle.query_meaning.specs.AxisCells.{cells_of}
 use Rattle.query_meaning.specs.RegionMeaning.{flush_meant}
-use Rattle.query_meaning.specs.RegionReplies.{flush_reply}
-use Rattle.query_meaning.specs.Replies.{no_memory_reply}
-use Rattle.query_meaning.specs.Requests.{argument_of}
+use Rattle.query_meaning.specs.RegionReplies.{cube_named}
+use Rattle.query_meaning.specs.Replies.{no_memory_reply, unbuilt_reply}
+use Rattle.query_meaning.specs.Requests.{argument_of, has_one_of, is_show, unbuilt_commands}
 use Rattle.query_meaning.specs.Resolution.{axes_meant}
 use Rattle.query_meaning.specs.WholeFlushes.{WritesFlush}
 use Rattle.query_meaning.specs.WholeQueries.{WritesQuery}
 use Rattle.history_core.specs.declared.answers.Answer.{Answer}
-use Rattle.line_session.specs.Desks.{HasAsked}
-use Rattle.line_session.specs.Replies.{Dealing, Handled, Handles, IsGridOf, StandsStill, Texts, catalog_of}
+use Rattle.line_session.specs.Desks.{AddsNone, HasAsked}
+use Rattle.line_session.specs.Replies.{AnswersFlush, AnswersShow, Dealing, Handled, Handles, IsGridOf, Texts, catalog_of}
 
 -- where a line of text is a query that means axes, and no want of memory is replied, the reply is the grid of an answer to
 -- their cells
@@ -29,14 +29,35 @@ QueriesAreAnswered texts =
     × HasAsked dealing.before dealing.after (cells_of (catalog_of dealing.before) axes) answer
     × IsGridOf texts (catalog_of dealing.before) axes answer handled.reply
 
--- where a line of text is a flush, nothing is added; and where no want of memory is replied, the reply is the one by what
--- the flush means
+-- a line that is a flush of this text was answered by what it means: where it means a region, this is flushed, and the
+-- reply is the position of the entry; where it means none, nothing is added, and the reply is the first refusal; and where
+-- want of memory is replied, no entry was made
+pub record FlushIsAnswered (dealing : Dealing) (text : RegionText)
+    (handled : Handled) : Type 0 where
+  pub answers : AnswersFlush dealing (cube_named (catalog_of dealing.before) text)
+      (flush_meant (catalog_of dealing.before) text) handled.position handled.reply
+  pub lack : handled.reply ≡ no_memory_reply
+      → AddsNone dealing.before dealing.after × (handled.position ≡ None)
+
+-- a line of text that is a flush is answered by what the flush means
 abbrev pub FlushesAreAnswered : Texts → Type 0
 FlushesAreAnswered texts =
     (dealing : Dealing) (handled : Handled) (argument : List ℕ) (text : RegionText)
     → Handles texts dealing handled
     → is_utf8 handled.line ≡ true → argument_of (codes "FLUSH") handled.line ≡ Some argument
-    → WritesFlush argument text
-    → StandsStill dealing handled.position
-    × (handled.reply ≢ no_memory_reply → handled.reply
-    ≡ flush_reply (catalog_of dealing.before) text (flush_meant (catalog_of dealing.before) text))
+    → WritesFlush argument text → FlushIsAnswered dealing text handled
+
+-- a line of text that asks for what is kept is answered: the look is an entry, and the reply is the text of what was kept
+-- before it; or there was no memory
+abbrev pub LooksAreAnswered : Texts → Type 0
+LooksAreAnswered texts =
+    (dealing : Dealing) (handled : Handled) → Handles texts dealing handled
+    → is_utf8 handled.line ≡ true → is_show handled.line ≡ true
+    → AnswersShow dealing handled.position handled.reply
+
+-- that something is not built is replied to just the lines of text with a command of which nothing is
+abbrev pub UnbuiltIsReplied : Texts → Type 0
+UnbuiltIsReplied texts =
+    (dealing : Dealing) (handled : Handled) → Handles texts dealing handled
+    → (handled.reply ≡ unbuilt_reply)
+    ↔ ((is_utf8 handled.line ≡ true) × (has_one_of unbuilt_commands handled.line ≡ true))

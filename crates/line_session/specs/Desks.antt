@@ -3,6 +3,7 @@ use Rattle.std.specs.Prelude.{ℕ, ◌≡◌, ◌⊎◌, ◌+◌, ◌<◌, ◌�
 use Rattle.std.specs.List.{list_all}
 use Rattle.olap_meaning.specs.declared.cells.Cell.{Cell}
 use Rattle.olap_meaning.specs.declared.cells.Who.{Who}
+use Rattle.olap_meaning.specs.declared.regions.Region.{Region}
 use Rattle.olap_meaning.specs.declared.tables.Row.{Row}
 use Rattle.olap_meaning.specs.History as history
 use Rattle.olap_meaning.specs.History.{Entry, Start, Done, Drop, Load, awaited_load, flying, load_at, version}
@@ -16,8 +17,10 @@ use Rattle.history_core.specs.Arrivals.{arrival_in}
 use Rattle.history_core.specs.Cache.{CacheOf}
 use Rattle.history_core.specs.Groups.{loads_for, numbers_from}
 use Rattle.history_core.specs.Seats.{actor, entries_of}
+use Rattle.history_core.specs.Shown.{cache_lines}
 use Rattle.history_core.specs.declared.answers.Answer.{Answer}
 use Rattle.history_core.specs.declared.answers.Appended.{Appended}
+use Rattle.history_core.specs.declared.answers.CacheView.{CacheView}
 
 -- a desk: what its seat has seen of a cache, the seat, whether nobody else adds entries, and the fronts that it has
 -- read, oldest first, where it tells them
@@ -189,6 +192,25 @@ pub record HasNotAppended (before after : DeskOf) (cube : ℕ) (rows : List Row)
   pub adds : AddsNone before after
   pub cause : (reason ≡ fault.OutOfMemory)
       ⊎ (append_fault (arrival_in after.cache cube rows) ≡ Some reason)
+
+-- a region was flushed: as the last entry, by the seat, and none of its loads was started or ended for it
+pub record HasFlushed (before after : DeskOf) (region : Region) (position : ℕ) : Type 0 where
+  pub who : Who
+  pub own : who.seat ≡ before.seat
+  pub more : List Entry
+  pub others : entries_of more before.seat ≡ []
+  pub adds : AddsCall before after more (history.Flush who region)
+  pub position_is : position ≡ length after.cache.entries
+
+-- what is kept was shown: the look is the last entry, by the seat, and the lines are those of the entries before it
+pub record HasShown (before after : DeskOf) (view : CacheView) : Type 0 where
+  pub who : Who
+  pub own : who.seat ≡ before.seat
+  pub more : List Entry
+  pub others : entries_of more before.seat ≡ []
+  pub adds : AddsCall before after more (history.Saw who)
+  pub position_is : view.position ≡ length after.cache.entries
+  pub lines : view.lines ≡ cache_lines (with_more before.cache more).entries
 
 -- the front was read: just so many entries are seen then, and none of them is a new one of the seat
 pub record HasReadFront (before after : DeskOf) (front : ℕ) : Type 0 where

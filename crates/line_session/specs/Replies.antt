@@ -1,23 +1,24 @@
 -- What a session replies to a line, and what the line adds to what is seen of a history.
-use Rattle.std.specs.Prelude.{ℕ, ◌≡◌, ◌⊎◌, List, [], ◌∷◌, Option, Some, None, Result, Ok, Err, nat_le, if◌then◌else◌}
+use Rattle.std.specs.Prelude.{ℕ, ◌≡◌, ◌⊎◌, ◌+◌, List, [], ◌∷◌, Option, Some, None, Result, Ok, Err, length, nat_le, if◌then◌else◌}
 use Rattle.olap_meaning.specs.declared.tables.Catalog.{Catalog}
 use Rattle.olap_meaning.specs.Catalog.{find_cube}
 use Rattle.olap_meaning.specs.declared.CellValue.{CellValue}
+use Rattle.olap_meaning.specs.declared.regions.Region.{Region}
+use Rattle.olap_meaning.specs.History.{Entry}
 use Rattle.query_meaning.specs.declared.axes.Axes.{Axes}
-use Rattle.query_meaning.specs.declared.region_text.RegionText.{RegionText}
 use Rattle.query_meaning.specs.AxisCells.{cells_of}
 use Rattle.query_meaning.specs.GridForm.{IsGridText, IsOfGrid}
 use Rattle.query_meaning.specs.Grids.{grid_of}
-use Rattle.query_meaning.specs.RegionMeaning.{flush_meant}
-use Rattle.query_meaning.specs.RegionReplies.{flush_reply}
-use Rattle.query_meaning.specs.Replies.{no_command_reply, no_cube_reply, no_file_reply, no_memory_reply, not_text_reply, not_yet_reply, quit_reply, refusal_reply, refused_batch_reply, seen_reply, source_reply, syntax_reply, unbuilt_reply, version_reply}
+use Rattle.query_meaning.specs.RegionMeaning.{RegionRefusal, flush_meant}
+use Rattle.query_meaning.specs.RegionReplies.{cube_named, flush_refusal_reply}
+use Rattle.query_meaning.specs.Replies.{flushed_reply, no_command_reply, no_cube_reply, no_file_reply, no_memory_reply, not_text_reply, not_yet_reply, quit_reply, refusal_reply, refused_batch_reply, seen_reply, source_reply, syntax_reply, unbuilt_reply, version_reply}
 use Rattle.query_meaning.specs.Resolution.{Refusal, axes_meant}
-use Rattle.query_meaning.specs.Requests.{MayFindNoMemory}
+use Rattle.query_meaning.specs.Requests.{MayFindNoMemory, MayTakeMemory}
 use Rattle.outside.specs.Fetched.{Fetched}
 use Rattle.outside.specs.declared.depot.DepotRefusal.{DepotRefusal}
 use Rattle.outside.specs.declared.depot.DepotRefusal.TheVariants as depot
 use Rattle.command_arguments.specs.declared.append.AppendArgument.{AppendArgument}
-use Rattle.input_lines.specs.Requests.{Request, NotText, Blank, NoCommand, Stops, Quit, After, Append, Ask, Flush, Unbuilt, IsRequest}
+use Rattle.input_lines.specs.Requests.{Request, NotText, Blank, NoCommand, Stops, Quit, After, Append, Ask, Flush, Show, Unbuilt, IsRequest}
 use Rattle.fact_rows.specs.BatchFiles.{batch_of}
 use Rattle.fact_rows.specs.declared.fault.BatchFault.{BatchFault}
 use Rattle.fact_versions.specs.FactRows.{FactRows}
@@ -25,10 +26,13 @@ use Rattle.fact_versions.specs.Facts.{append_fault}
 use Rattle.fact_versions.specs.declared.faults.AppendFault.{AppendFault}
 use Rattle.fault_texts.specs.FaultTexts.{refused_append_text, refused_batch_text}
 use Rattle.history_core.specs.Arrivals.{arrival_in}
+use Rattle.history_core.specs.Shown.{cache_lines}
 use Rattle.history_core.specs.declared.answers.Answer.{Answer}
 use Rattle.history_core.specs.declared.answers.Appended.{Appended}
+use Rattle.history_core.specs.declared.answers.CacheView.{CacheView}
 use Rattle.result_layout.specs.Axes.{values_of}
-use Rattle.line_session.specs.Desks.{AddsNone, DeskOf, HasAppended, HasAsked, HasReadFront, HasNotAsked}
+use Rattle.result_layout.specs.CacheTexts.{cache_text}
+use Rattle.line_session.specs.Desks.{AddsNone, DeskOf, HasAppended, HasAsked, HasFlushed, HasReadFront, HasNotAsked, HasShown, with_more}
 
 -- which texts may be given for a value
 abbrev pub Texts : Type 1
@@ -167,10 +171,45 @@ pub record TellsWhatIsSeen (dealing : Dealing) (asked : ℕ) (position : Option 
   pub none : position ≡ None
   pub text : reply ≡ front_reply asked front
 
--- the reply to a flush, by what it means; and there may be no memory
-abbrev pub AnswersFlush : Catalog → RegionText → List ℕ → Type 0
-AnswersFlush catalog text reply =
-    (reply ≡ flush_reply catalog text (flush_meant catalog text)) ⊎ (reply ≡ no_memory_reply)
+-- a region was flushed, and the reply is the position of the entry
+pub record GivesFlushed (dealing : Dealing) (region : Region) (position : Option ℕ)
+    (reply : List ℕ) : Type 0 where
+  pub entry : ℕ
+  pub flushes : HasFlushed dealing.before dealing.after region entry
+  pub unasked : dealing.asked ≡ []
+  pub position_is : position ≡ Some entry
+  pub text : reply ≡ flushed_reply entry
+
+-- the reply to a flush of a cube, by what it means: the region is flushed; or there was no memory for that, and no entry
+-- was made; or it is the first refusal
+abbrev pub AnswersFlush : Dealing → ℕ → Result Region RegionRefusal → Option ℕ → List ℕ → Type 0
+AnswersFlush dealing cube (Ok region) position reply =
+    GivesFlushed dealing region position reply
+    ⊎ (LacksMemory dealing position reply × (dealing.asked ≡ []))
+AnswersFlush dealing cube (Err refused) position reply =
+    StandsStill dealing position
+    × ((reply ≡ flush_refusal_reply (catalog_of dealing.before) cube refused)
+    ⊎ (reply ≡ no_memory_reply))
+
+-- the text of what is kept at the end of a history, as the look that is its next entry finds it
+abbrev pub kept_text : Catalog → List Entry → List ℕ
+kept_text catalog history =
+    cache_text catalog (length history + 1) (cache_lines history)
+
+-- what is kept was shown, and the reply is its text; or, since there was no memory for the text, that
+pub record GivesKept (dealing : Dealing) (position : Option ℕ) (reply : List ℕ) : Type 0 where
+  pub view : CacheView
+  pub shows : HasShown dealing.before dealing.after view
+  pub position_is : position ≡ Some view.position
+  pub text : (reply ≡ kept_text (catalog_of dealing.before)
+      (with_more dealing.before.cache shows.more).entries)
+      ⊎ (reply ≡ no_memory_reply)
+
+-- the reply to a look at what is kept; and there may be no memory for it
+abbrev pub AnswersShow : Dealing → Option ℕ → List ℕ → Type 0
+AnswersShow dealing position reply =
+    (dealing.asked ≡ [])
+    × (GivesKept dealing position reply ⊎ LacksMemory dealing position reply)
 
 -- the reply to a line that asks for this, the position of its entry, and what it adds
 abbrev pub AnswersRequest : Texts → Dealing → Request → Option ℕ → List ℕ → Type 0
@@ -191,7 +230,9 @@ AnswersRequest texts dealing (Ask query) position reply =
     × AnswersMeaning texts dealing
     (axes_meant (catalog_of dealing.before) query) position reply
 AnswersRequest texts dealing (Flush text) position reply =
-    StandsStill dealing position × AnswersFlush (catalog_of dealing.before) text reply
+    AnswersFlush dealing (cube_named (catalog_of dealing.before) text)
+    (flush_meant (catalog_of dealing.before) text) position reply
+AnswersRequest texts dealing Show position reply = AnswersShow dealing position reply
 AnswersRequest texts dealing Unbuilt position reply =
     StandsStill dealing position × (reply ≡ unbuilt_reply)
 
@@ -202,12 +243,14 @@ pub record AnswersLine (texts : Texts) (dealing : Dealing) (handled : Handled) :
   pub only : (other : Request) → IsRequest handled.line other → other ≡ request
   pub answers : AnswersRequest texts dealing request handled.position handled.reply
 
--- there was no memory to read a line, which added nothing
+-- there was no memory to read a line, whose command has an argument that may take memory; it added nothing
 pub record LeavesUnread (dealing : Dealing) (handled : Handled) : Type 0 where
+  pub takes : MayTakeMemory handled.line
   pub nothing : StandsStill dealing handled.position
   pub no_memory : handled.reply ≡ no_memory_reply
 
--- a line was handled. That there was no memory is replied to three commands alone
+-- a line was handled. That there was no memory is replied to four commands alone, and to one of them only where its
+-- argument is of its form
 pub record Handles (texts : Texts) (dealing : Dealing) (handled : Handled) : Type 0 where
   pub answers : AnswersLine texts dealing handled ⊎ LeavesUnread dealing handled
   pub lack : handled.reply ≡ no_memory_reply → MayFindNoMemory handled.line

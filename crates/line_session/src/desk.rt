@@ -1,13 +1,13 @@
 //! Whoever a session asks for what it does: a seat at a cache.
 ghost use Rattle.std.specs.Prelude.{◌≡◌, ◌≤◌, ◌<◌, ◌+◌, IfErr, IfOk, IsTrue, OnErr, OnOk, length};
 ghost use Rattle.std.specs.List.{list_all};
-ghost use Rattle.olap_meaning.specs.Legal.{Legal, is_cell};
+ghost use Rattle.olap_meaning.specs.Legal.{Legal, is_cell, is_flushable};
 ghost use Rattle.segment_load.specs.Loads.{is_batch};
-ghost use Rattle.line_session.specs.Desks.{DeskOf, HasAppended, HasAsked, HasReadFront, HasNotAppended, HasNotAsked, IsIdle, rows_between};
+ghost use Rattle.line_session.specs.Desks.{AddsNone, DeskOf, HasAppended, HasAsked, HasFlushed, HasReadFront, HasNotAppended, HasNotAsked, HasShown, IsIdle, rows_between};
 
 use fact_versions::{AppendFault, Batch, Steps};
-use history_core::{Answer, Appended, NotYet};
-use olap_meaning::{Cell, CubeId, OutOfMemory};
+use history_core::{Answer, Appended, CacheView, NotYet};
+use olap_meaning::{Cell, CubeId, OutOfMemory, Region};
 use std::alloc::Global;
 use std::sync::ledger::Ledger;
 
@@ -47,6 +47,19 @@ pub trait Desk {
             (HasAppended (seen self.old) (seen self.new) cube batch.rows) }
         ensures refused { IfErr result
             (HasNotAppended (seen self.old) (seen self.new) cube batch.rows) };
+
+    /// Flushes a region: no load that was started before serves the cells that it covers. Gives the position of the entry.
+    /// Where memory is wanting, nothing is flushed.
+    fn flush(&mut self, region: Region) -> Result<u64, OutOfMemory>
+        requires flushable { IsTrue
+            (is_flushable (seen self.old).cache.setting.catalog region) }
+        ensures flushed { IfOk result (HasFlushed (seen self.old) (seen self.new) region) }
+        ensures refused { OnErr result (AddsNone (seen self.old) (seen self.new)) };
+
+    /// Shows what is kept, as the look finds it: a line for each kept load, by rising number.
+    fn show(&mut self) -> Result<CacheView, OutOfMemory>
+        ensures shown { IfOk result (HasShown (seen self.old) (seen self.new)) }
+        ensures refused { OnErr result (AddsNone (seen self.old) (seen self.new)) };
 
     /// Reads how many entries the cache has, and gives their number where there are so many. It takes no memory.
     fn after(&mut self, n: u64) -> Result<u64, NotYet>

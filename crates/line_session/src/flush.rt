@@ -1,16 +1,19 @@
 //! What is replied to a flush.
-ghost use Rattle.std.specs.Prelude.{◌≡◌, ◌⊎◌, ◌++◌, codes, IfOk, IsSomeAnd};
+ghost use Rattle.std.specs.Prelude.{◌≡◌, ◌⊎◌, ◌++◌, ℕ, [], codes, IfOk, IsSomeAnd, IsTrue, Ok, Option};
+ghost use Rattle.olap_meaning.specs.Legal.{is_flushable};
 ghost use Rattle.olap_meaning.specs.MemberOf.{IsMemberOf};
 ghost use Rattle.olap_meaning.specs.Texts.{line};
-ghost use Rattle.query_meaning.specs.RegionMeaning as meaning;
+ghost use Rattle.query_meaning.specs.RegionMeaning.{flush_meant};
 ghost use Rattle.query_meaning.specs.RegionReplies as replies;
+ghost use Rattle.query_meaning.specs.RegionReplies.{cube_named};
 ghost use Rattle.query_meaning.specs.Replies.{no_memory_reply};
 ghost use Rattle.region_algebra.specs.Faults.{NamesMembersOf, refusal_of};
 ghost use Rattle.line_session.specs.Replies.{AnswersFlush};
 
+use crate::desk::Desk;
 use crate::reply::Reply;
 use olap_catalog::Catalog;
-use olap_meaning::{CubeId, Member, OutOfMemory, RegionDim, Text, name_text, named_line};
+use olap_meaning::{CubeId, Member, OutOfMemory, Region, RegionDim, Text, name_text, named_line};
 use query_meaning::RegionText;
 use region_algebra::{RegionFault, resolve_region};
 use result_layout::member_title;
@@ -97,7 +100,7 @@ fn reply_to_fault(alloc: Global, catalog: &Catalog, text: &RegionText, fault: &R
     requires { NamesMembersOf catalog.now text.now fault.now }
     ensures { (result ≡ no_memory_reply) ⊎ IsSomeAnd (refusal_of fault.now)
         (λ refused. result ≡ replies.flush_refusal_reply catalog.now
-        (replies.cube_named catalog.now text.now) refused) }
+        (cube_named catalog.now text.now) refused) }
 {
     match fault {
         RegionFault::UnknownCube { name } => {
@@ -124,12 +127,33 @@ fn reply_to_fault(alloc: Global, catalog: &Catalog, text: &RegionText, fault: &R
     }
 }
 
-/// The reply to a flush: its first refusal, or that flushes are not built.
-pub(crate) fn reply_to_flush(alloc: Global, catalog: &Catalog, text: &RegionText) -> Reply
-    ensures { AnswersFlush catalog.now text.now result }
+// The reply to a region, which is flushed at a desk.
+fn reply_to_region<P: Desk>(desk: &mut P, region: Region) -> Reply
+    requires { IsTrue (is_flushable (P.seen desk.old).cache.setting.catalog region) }
+    ensures { (cube : ℕ) → (position : Option ℕ)
+        × AnswersFlush (record { before = P.seen desk.old; after = P.seen desk.new; asked = [] })
+        cube (Ok region) position result }
+{
+    match desk.flush(region) {
+        Ok(position) => Reply::number("FLUSHED ", position),
+        Err(OutOfMemory) => Reply::no_memory(),
+    }
+}
+
+/// The reply to a flush: the region that it means is flushed at a desk; or its first refusal.
+pub(crate) fn reply_to_flush<P: Desk>(
+    alloc: Global,
+    desk: &mut P,
+    catalog: &Catalog,
+    text: &RegionText,
+) -> Reply
+    requires { catalog.now ≡ (P.seen desk.old).cache.setting.catalog }
+    ensures { (position : Option ℕ)
+        × AnswersFlush (record { before = P.seen desk.old; after = P.seen desk.new; asked = [] })
+        (cube_named catalog.now text.now) (flush_meant catalog.now text.now) position result }
 {
     match resolve_region(alloc, catalog, text) {
-        Ok(_region) => Reply::fixed("ERR 17 UNBUILT\n"),
+        Ok(region) => reply_to_region(desk, region),
         Err(fault) => reply_to_fault(alloc, catalog, text, &fault),
     }
 }

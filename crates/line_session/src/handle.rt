@@ -14,6 +14,7 @@ use crate::desk::Desk;
 use crate::flush::reply_to_flush;
 use crate::query::reply_to_query;
 use crate::reply::Reply;
+use crate::show::reply_to_show;
 use crate::tools::Tools;
 use fact_versions::Steps;
 use input_lines::{Request, read_request};
@@ -67,7 +68,8 @@ fn reply_to_request<P: Desk, D: Depot, L: Ledger>(
         Request::After(count) => reply_to_after(desk, *count),
         Request::Append(argument) => reply_to_append(alloc, desk, depot, catalog, argument),
         Request::Ask(query) => reply_to_query(alloc, desk, catalog, tools, query, steps),
-        Request::Flush(text) => reply_to_flush(alloc, catalog, text),
+        Request::Flush(text) => reply_to_flush(alloc, desk, catalog, text),
+        Request::Show => reply_to_show(alloc, desk, catalog),
         Request::Unbuilt => Reply::fixed("ERR 17 UNBUILT\n"),
     }
 }

@@ -13,6 +13,7 @@ pub mod laws;
 mod query;
 mod reply;
 mod session;
+mod show;
 mod tools;
 
 pub use desk::Desk;

@@ -1,6 +1,6 @@
 -- What seat 1 has done at its manager, as a desk alone.
-use Rattle.std.proofs.Common.{◌≡◌, refl, sym, ◌∙◌, ap, subst, ℕ, ◌+◌, ◌≤◌, List, [], ◌∷◌, ◌++◌, append_assoc, length, map, filter, Bool, true, false, ◌==◌, inl, inr, None, Result, Ok, Err, arith, All}
-use Rattle.std.specs.Prelude.{OnErr}
+use Rattle.std.proofs.Common.{◌≡◌, refl, sym, ◌∙◌, ap, subst, ℕ, ◌+◌, ◌≤◌, List, [], ◌∷◌, ◌++◌, append_assoc, length, map, filter, Bool, true, false, ◌==◌, inl, inr, Some, None, Result, Ok, Err, arith, All}
+use Rattle.std.specs.Prelude.{OnErr, nat_lt}
 use Rattle.std.specs.List.{list_all}
 use Rattle.std.proofs.lemmas.Bool.{and_from, and_parts, eq-eqb, lt-ltb, ltb-true}
 use Rattle.std.proofs.lemmas.List.{append-nil}
@@ -8,18 +8,22 @@ use Rattle.std.proofs.lemmas.List.Elements.{All-append, All-cons, All-nil, filte
 use Rattle.std.proofs.lemmas.List.Folds.{list_all-append}
 use Rattle.olap_meaning.specs.declared.cells.Cell.{Cell}
 use Rattle.olap_meaning.specs.declared.cells.Who.{Who}
+use Rattle.olap_meaning.specs.declared.regions.Region.{Region}
 use Rattle.olap_meaning.specs.declared.tables.Row.{Row}
-use Rattle.olap_meaning.specs.History.{Entry, Append, Agg, Flush, Start, Done, Drop, Evict, Answer, Saw, version}
-use Rattle.olap_meaning.specs.Legal.{is_call_below, is_call_of, is_next_call, Legal}
+use Rattle.olap_meaning.specs.History.{Entry, Append, Agg, Flush, Start, Done, Drop, Evict, Answer, Saw, is_some_and, started, version}
+use Rattle.olap_meaning.specs.Legal.{caller, is_call_below, is_call_of, is_next_call, Legal}
 use Rattle.fact_versions.specs.Facts.{append_fault}
 use Rattle.history_core.specs.declared.answers.Answer.{Answer as Told}
 use Rattle.history_core.specs.declared.answers.Appended.{Appended}
+use Rattle.history_core.specs.declared.answers.CacheView.{CacheView}
 use Rattle.history_core.specs.Arrivals.{arrival_in}
 use Rattle.history_core.specs.Answers.{source_of}
 use Rattle.history_core.specs.Cache.{CacheOf}
 use Rattle.history_core.specs.Groups.{loads_for}
 use Rattle.history_core.specs.Seats.{NoneFlies, is_of_seat, entries_of}
-use Rattle.line_session.specs.Desks.{AddsCall, AreLoadsFor, DeskOf, GoesOnBy, HasAppended, HasAsked, HasNotAsked, is_start_or_done, load_numbers, loads_delivered, none_behind_drops, with_more}
+use Rattle.history_core.specs.Shown.{cache_lines}
+use Rattle.line_session.specs.Desks.{AddsCall, AreLoadsFor, DeskOf, GoesOnBy, HasAppended, HasAsked, HasFlushed, HasNotAsked, HasShown, is_start_or_done, load_numbers, loads_delivered, none_behind_drops, with_more}
+use Rattle.manager_desk.specs.Delivered.{rows_by}
 use Rattle.manager_desk.specs.Ends.{AddsAnswer, AddsEnded}
 use Rattle.manager_desk.specs.Keeping.{IsDesk}
 use Rattle.manager_desk.proofs.Counting.{count_one}
@@ -194,18 +198,32 @@ desk_refused entries who last read is desk =
       count = desk.count;
     }
 
--- and behind an append
+-- and behind a call of the seat which starts, ends and reads no load
+desk_called :
+    (before : CacheOf) (after : List Entry) (who : Who) (call : Entry) (last read : ℕ) → caller call ≡ Some who → started call ≡ None → rows_by after 1 call ≡ 0 → Legal before.setting before.entries → after ≡ before.entries ++ call ∷ [] → who ≡ record { seat = 1; call = last + 1 } → IsDesk before.entries last read
+    → IsDesk after who.call read
+desk_called before after who call last read calls starts none legal grown is desk =
+    let seat : who.seat ≡ 1 = ap (λ (w : Who). w.seat) is in
+    let number : who.call ≡ last + 1 = ap (λ (w : Who). w.call) is in
+    let own : is_call_of 1 call ≡ true = ap (is_some_and (λ (w : Who). w.seat == 1)) calls ∙ eq-eqb who.seat 1 seat in
+    let below : is_call_below (who.call + 1) call ≡ true = ap (is_some_and (λ (w : Who). nat_lt w.call (who.call + 1))) calls ∙ lt-ltb who.call (who.call + 1) (omega arith) in
+    record {
+      idle = still_idle before.entries after call starts grown desk.idle;
+      next = next_call before.entries after call 1 (last + 1) (who.call + 1) grown (omega (arith, number)) own below desk.next;
+      count = count_one before.setting before.entries after call read legal none grown desk.count;
+    }
+
+-- as an append, a flush and a look are
 pub desk_appended :
     (before : CacheOf) (after : List Entry) (who : Who) (cube v : ℕ) (rows : List Row) (last read : ℕ) → Legal before.setting before.entries → after ≡ before.entries ++ Append who cube v rows ∷ [] → who ≡ record { seat = 1; call = last + 1 } → IsDesk before.entries last read
     → IsDesk after who.call read
-desk_appended before after who cube v rows last read legal grown is desk =
-    let seat : who.seat ≡ 1 = ap (λ (w : Who). w.seat) is in
-    let number : who.call ≡ last + 1 = ap (λ (w : Who). w.call) is in
-    record {
-      idle = still_idle before.entries after (Append who cube v rows) refl grown desk.idle;
-      next = next_call before.entries after (Append who cube v rows) 1 (last + 1) (who.call + 1) grown (omega (arith, number)) (eq-eqb who.seat 1 seat) (lt-ltb who.call (who.call + 1) (omega arith)) desk.next;
-      count = count_one before.setting before.entries after (Append who cube v rows) read legal refl grown desk.count;
-    }
+desk_appended before after who cube v rows last read legal grown is desk = desk_called before after who (Append who cube v rows) last read refl refl refl legal grown is desk
+
+pub desk_flushed : (before : CacheOf) (after : List Entry) (who : Who) (region : Region) (last read : ℕ) → Legal before.setting before.entries → after ≡ before.entries ++ Flush who region ∷ [] → who ≡ record { seat = 1; call = last + 1 } → IsDesk before.entries last read → IsDesk after who.call read
+desk_flushed before after who region last read legal grown is desk = desk_called before after who (Flush who region) last read refl refl refl legal grown is desk
+
+pub desk_shown : (before : CacheOf) (after : List Entry) (who : Who) (last read : ℕ) → Legal before.setting before.entries → after ≡ before.entries ++ Saw who ∷ [] → who ≡ record { seat = 1; call = last + 1 } → IsDesk before.entries last read → IsDesk after who.call read
+desk_shown before after who last read legal grown is desk = desk_called before after who (Saw who) last read refl refl refl legal grown is desk
 
 -- rows that were appended
 pub has_appended :
@@ -225,6 +243,36 @@ has_appended before after who cube rows told seat setting grown admitted positio
       position = position;
       version_is = version_is;
     }
+
+-- a call of the seat, as the one entry that was added
+adds_one : (before after : CacheOf) (call : Entry) → after.setting ≡ before.setting → after.entries ≡ before.entries ++ call ∷ [] → is_of_seat 1 call ≡ true → AddsCall (desk_of before) (desk_of after) [] call
+adds_one before after call setting grown own =
+    adds_call before after [] call setting (grown ∙ ap (λ (es : List Entry). es ++ call ∷ []) (sym (append-nil before.entries))) (All-nil (λ e. is_of_seat 1 e ≡ true)) own
+
+-- a region that was flushed
+pub has_flushed :
+    (before after : CacheOf) (who : Who) (region : Region) (position : ℕ) → who.seat ≡ 1 → after.setting ≡ before.setting → after.entries ≡ before.entries ++ Flush who region ∷ [] → position ≡ length after.entries → HasFlushed (desk_of before) (desk_of after) region position
+has_flushed before after who region position seat setting grown is = record {
+  who = who;
+  own = seat;
+  more = [];
+  others = refl;
+  adds = adds_one before after (Flush who region) setting grown (eq-eqb who.seat 1 seat);
+  position_is = is;
+}
+
+-- what is kept was shown
+pub has_shown :
+    (before after : CacheOf) (who : Who) (view : CacheView) → who.seat ≡ 1 → after.setting ≡ before.setting → after.entries ≡ before.entries ++ Saw who ∷ [] → view.position ≡ length after.entries → view.lines ≡ cache_lines before.entries → HasShown (desk_of before) (desk_of after) view
+has_shown before after who view seat setting grown is lines = record {
+  who = who;
+  own = seat;
+  more = [];
+  others = refl;
+  adds = adds_one before after (Saw who) setting grown (eq-eqb who.seat 1 seat);
+  position_is = is;
+  lines = lines ∙ ap cache_lines (sym (append-nil before.entries));
+}
 
 -- what holds anyway holds on an error
 pub on_error : {T E P : Type 0} (r : Result T E) → P → OnErr r P

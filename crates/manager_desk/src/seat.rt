@@ -1,19 +1,19 @@
 //! A seat over a manager that nobody else has.
 ghost use Rattle.std.specs.Prelude.{◌≡◌, ◌≤◌, ◌<◌, ◌+◌, [], IfErr, IfNone, IfOk, IfSome, IsTrue, None, OnErr, OnOk, length, true};
 ghost use Rattle.std.specs.List.{list_all};
-ghost use Rattle.olap_meaning.specs.Legal.{Legal, is_cell};
+ghost use Rattle.olap_meaning.specs.Legal.{Legal, is_cell, is_flushable};
 ghost use Rattle.segment_load.specs.Loads.{is_batch};
 ghost use Rattle.history_core.specs.Seats.{NoneFlies, entries_of};
-ghost use Rattle.line_session.specs.Desks.{HasAppended, HasAsked, HasReadFront, HasNotAppended, HasNotAsked, IsIdle, rows_between};
+ghost use Rattle.line_session.specs.Desks.{AddsNone, HasAppended, HasAsked, HasFlushed, HasReadFront, HasNotAppended, HasNotAsked, HasShown, IsIdle, rows_between};
 ghost use Rattle.manager_desk.specs.Delivered.{rows_delivered};
 
 use crate::asking::ask;
 use cache_manager::Manager;
 use fact_versions::{AppendFault, Batch, Steps};
-use history_core::{Answer, Appended, NotYet};
+use history_core::{Answer, Appended, CacheView, NotYet};
 use line_session::Desk;
 use olap_catalog::Catalog;
-use olap_meaning::{Cell, CubeId, OutOfMemory, Who};
+use olap_meaning::{Cell, CubeId, OutOfMemory, Region, Who};
 use std::alloc::Global;
 use std::marker::Model;
 use std::sync::Arc;
@@ -114,6 +114,26 @@ impl Desk for ManagerDesk {
         self.manager.steps_are_legal();
         let appended = self.manager.append(who, cube, batch)?;
         Ok(appended)
+    }
+
+    fn flush(&mut self, region: Region) -> Result<u64, OutOfMemory> {
+        let Some(who) = next_call(self.last) else {
+            return Err(OutOfMemory);
+        };
+        self.last = who.call;
+        self.manager.steps_are_legal();
+        let position = self.manager.flush(who, region)?;
+        Ok(position)
+    }
+
+    fn show(&mut self) -> Result<CacheView, OutOfMemory> {
+        let Some(who) = next_call(self.last) else {
+            return Err(OutOfMemory);
+        };
+        self.last = who.call;
+        self.manager.steps_are_legal();
+        let view = self.manager.show(who)?;
+        Ok(view)
     }
 
     fn after(&mut self, n: u64) -> Result<u64, NotYet> {

@@ -1,9 +1,8 @@
 -- The replies to flushes that mean no region.
-use Rattle.std.specs.Prelude.{ℕ, ◌++◌, List, [], codes, map, slice_get, unwrap_or, Result, Ok, Err}
+use Rattle.std.specs.Prelude.{ℕ, ◌++◌, List, [], codes, map, slice_get, unwrap_or}
 use Rattle.std.specs.Fmt.{decimal}
 use Rattle.std.specs.Option.{option_map_or}
 use Rattle.olap_meaning.specs.declared.cells.Member.{Member}
-use Rattle.olap_meaning.specs.declared.regions.Region.{Region}
 use Rattle.olap_meaning.specs.declared.regions.RegionDim.{RegionDim}
 use Rattle.olap_meaning.specs.declared.regions.RegionDim.TheVariants as dim
 use Rattle.olap_meaning.specs.declared.tables.Catalog.{Catalog}
@@ -11,7 +10,7 @@ use Rattle.olap_meaning.specs.Catalog.{find_cube}
 use Rattle.olap_meaning.specs.Texts.{line, name_text, named_line}
 use Rattle.query_meaning.specs.declared.region_text.RegionText.{RegionText}
 use Rattle.query_meaning.specs.RegionMeaning.{RegionRefusal, NoCube, NoMember, CommonDimension, Mismatch, NoMeasures, RangeLevels, TooManyBoxes}
-use Rattle.query_meaning.specs.Replies.{no_cube_reply, no_member_reply, unbuilt_reply}
+use Rattle.query_meaning.specs.Replies.{no_cube_reply, no_member_reply}
 use Rattle.query_meaning.specs.Titles.{joined_by, title}
 
 -- the name of a dimension of regions: Measures, or the dimension's, as the schema has it
@@ -57,8 +56,3 @@ flush_refusal_reply catalog cube NoMeasures = line (codes "ERR 13 REGION MEASURE
 flush_refusal_reply catalog cube (RangeLevels first last) = levels_reply catalog cube first last
 flush_refusal_reply catalog cube (TooManyBoxes count limit) =
     line (codes "ERR 13 REGION BOXES " ++ decimal count ++ codes " " ++ decimal limit)
-
--- the reply to a flush by what it means: that flushes are not built, or its first refusal
-abbrev pub flush_reply : Catalog → RegionText → Result Region RegionRefusal → List ℕ
-flush_reply catalog text (Ok region) = unbuilt_reply
-flush_reply catalog text (Err refused) = flush_refusal_reply catalog (cube_named catalog text) refused

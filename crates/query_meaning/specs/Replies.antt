@@ -67,6 +67,10 @@ abbrev pub version_reply : ℕ → ℕ → List ℕ
 version_reply position version =
     line (codes "VERSION " ++ decimal position ++ codes " " ++ decimal version)
 
+-- the reply to a flush: the position of its entry
+abbrev pub flushed_reply : ℕ → List ℕ
+flushed_reply position = line (codes "FLUSHED " ++ decimal position)
+
 -- the reply where a cache has as many entries as were asked for: how many it has
 abbrev pub seen_reply : ℕ → List ℕ
 seen_reply front = line (codes "SEEN " ++ decimal front)

@@ -43,21 +43,31 @@ has_one_of words line = list_any (λ word. is_some (argument_of word line)) word
 
 -- the commands of which nothing is built yet
 abbrev pub unbuilt_commands : List (List ℕ)
-unbuilt_commands = codes "AGG" ∷ codes "CACHE" ∷ []
+unbuilt_commands = codes "AGG" ∷ []
 
 -- all commands
 abbrev pub commands : List (List ℕ)
 commands =
-    codes "MDX" ∷ codes "APPEND" ∷ codes "FLUSH" ∷ codes "AFTER" ∷ codes "QUIT" ∷ unbuilt_commands
+    codes "MDX" ∷ codes "APPEND" ∷ codes "FLUSH" ∷ codes "CACHE" ∷ codes "AFTER" ∷ codes "QUIT"
+    ∷ unbuilt_commands
 
 -- a line ends the session: QUIT, and white
 abbrev pub is_quit : List ℕ → Bool
 is_quit line = option_map_or is_blank (argument_of (codes "QUIT") line) false
 
--- a line of text has one of the commands to which want of memory may be replied
-abbrev pub MayFindNoMemory : List ℕ → Type 0
-MayFindNoMemory line =
+-- a line of text has one of the commands whose argument may take memory to read
+abbrev pub MayTakeMemory : List ℕ → Type 0
+MayTakeMemory line =
     (is_utf8 line ≡ true)
     × (IsSome (argument_of (codes "MDX") line)
     ⊎ IsSome (argument_of (codes "APPEND") line)
     ⊎ IsSome (argument_of (codes "FLUSH") line))
+
+-- a line of text asks for what is kept: CACHE, and white
+abbrev pub is_show : List ℕ → Bool
+is_show line = option_map_or is_blank (argument_of (codes "CACHE") line) false
+
+-- a line is one to which want of memory may be replied
+abbrev pub MayFindNoMemory : List ℕ → Type 0
+MayFindNoMemory line =
+    MayTakeMemory line ⊎ ((is_utf8 line ≡ true) × (is_show line ≡ true))

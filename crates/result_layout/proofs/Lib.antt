@@ -3,3 +3,4 @@ pub mod NamedFacts
 pub mod PlaceFacts
 pub mod RowFacts
 pub mod WholeFacts
+pub mod KeptFacts

@@ -1,3 +1,4 @@
 pub mod Named
 pub mod Axes
 pub mod Lines
+pub mod CacheTexts

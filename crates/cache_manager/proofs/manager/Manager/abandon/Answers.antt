@@ -1,4 +1,6 @@
 -- A load of its own may be dropped, and the manager keeps what its history says.
+use Rattle.std.proofs.Common.{[]}
+use Rattle.segment_index.proofs.PlaceFacts.{places_apart}
 use Rattle.cache_manager.specs.Kept.{has_places}
 use Rattle.cache_manager.proofs.Ends.{ends, flies, in_flight, spares}
 use Rattle.cache_manager.proofs.Managing.{places_but}
@@ -18,4 +20,4 @@ pub invariant_of-self : goal.invariant_of-self
 invariant_of-self c =
     rw (c.push.ensures.setting, c.push.ensures.entries, c.end.ensures.flights, c.who.ensures, c.load-load.ensures)
     (dropped _ _ _ _ (has_places c.self.inside.shelf) _ c.steps_are_legal.ensures _ _ c.args.job.who c.args.job.load c.self.invariant (flies _ c.self.inside.history _ _ c.self.view_is c.steps_are_legal.ensures c.requires.own.0 c.requires.own.1) c.push.ensures.spare
-    (places_but c.args.job.load c.self.inside.shelf c.self.inside.flights.flights c.self.invariant.places_fit))
+    (places_but c.args.job.load (has_places c.self.inside.shelf) (places_apart c.self.inside.shelf) [] c.self.inside.flights.flights c.self.invariant.places_fit))

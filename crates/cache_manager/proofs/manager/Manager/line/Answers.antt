@@ -7,7 +7,7 @@ use Rattle.history_core.specs.Cache.{CacheOf}
 use Rattle.cache_flush.specs.declared.kept.Kept.{Kept}
 use Rattle.cache_flush.specs.Loads.{KeptOf, kept_of}
 use Rattle.cache_manager.specs.Kept.{IsKept}
-use Rattle.cache_manager.specs.Shown.{kept_line}
+use Rattle.history_core.specs.Shown.{kept_line}
 use Rattle.cache_manager.proofs.Showing.{kept_found, line_told, some_kept}
 use Rattle.cache_manager.proofs.manager.Manager.line.Goals as goal
 

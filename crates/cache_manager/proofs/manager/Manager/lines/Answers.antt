@@ -4,7 +4,7 @@ use Rattle.olap_meaning.specs.Covering.{among}
 use Rattle.olap_meaning.specs.History.{kept}
 use Rattle.history_core.specs.Cache.{CacheOf}
 use Rattle.history_core.specs.Groups.{numbers_from}
-use Rattle.cache_manager.specs.Shown.{kept_line}
+use Rattle.history_core.specs.Shown.{kept_line}
 use Rattle.cache_manager.proofs.Managing.{numbers_kept}
 use Rattle.cache_manager.proofs.Showing.{lines_are, number_among, numbers_are}
 use Rattle.cache_manager.proofs.manager.Manager.lines.Goals as goal

@@ -1,6 +1,6 @@
 -- What holds at each turn of `lines`.
 use Rattle.std.proofs.Common.{◌≡◌, Some, map, take}
-use Rattle.cache_manager.specs.Shown.{kept_line}
+use Rattle.history_core.specs.Shown.{kept_line}
 use Rattle.cache_manager.proofs.manager.Manager.lines.Given as goal
 
 -- the loads so far have their lines

@@ -1,0 +1,101 @@
+//! What cells are found in, and what else covers them.
+use crate::many::find_many;
+use crate::steps::Step::{Candidates, Find, Keep, Numbers, Shut};
+use crate::steps::{Step, play_both};
+use segment_index::SegmentIndex;
+use std::test::Fail;
+
+const SHARED: [Step; 9] = [
+    Keep(1, (0, 0), &[(0, None)]),
+    Find((0, 0), &[(64, 5)], None),
+    Candidates((0, 0), &[(64, 5)], &[]),
+    Keep(2, (0, 0), &[(64, None)]),
+    Find((0, 0), &[(0, 5)], Some(1)),
+    Find((0, 0), &[(64, 5)], Some(2)),
+    // The mask of both columns together is that of each.
+    Find((0, 0), &[(0, 5), (64, 5)], None),
+    Keep(3, (0, 0), &[(0, None), (64, None)]),
+    Candidates((0, 0), &[(64, 5)], &[3]),
+];
+
+#[test]
+fn columns_0_and_64_share_a_mask_and_no_loads(rt: HostRuntime) -> Result<(), Fail> {
+    assert_eq!(rt; play_both(rt.alloc(), &SHARED)?, [None, None]);
+    Ok(())
+}
+
+const UNORDERED: [Step; 10] = [
+    Numbers(&[]),
+    Keep(7, (0, 0), &[(0, None), (1, None)]),
+    Keep(9, (0, 0), &[(0, None)]),
+    Keep(3, (0, 0), &[(0, None), (1, None)]),
+    Keep(4, (0, 0), &[(0, None)]),
+    Keep(5, (0, 0), &[(0, None), (2, None)]),
+    Find((0, 0), &[(0, 0)], Some(9)),
+    Find((0, 0), &[(0, 0), (1, 0)], Some(7)),
+    Candidates((0, 0), &[(0, 0)], &[3, 5, 7]),
+    Numbers(&[3, 4, 5, 7, 9]),
+];
+
+#[test]
+fn the_greatest_number_is_found_and_lists_rise(rt: HostRuntime) -> Result<(), Fail> {
+    assert_eq!(rt; play_both(rt.alloc(), &UNORDERED)?, [None, None]);
+    Ok(())
+}
+
+const SHUT: [Step; 16] = [
+    Keep(1, (0, 0), &[(0, None)]),
+    Keep(2, (0, 0), &[(0, None)]),
+    Keep(3, (0, 0), &[(0, None), (1, Some(4))]),
+    Find((0, 0), &[(0, 0)], Some(2)),
+    Find((0, 0), &[(0, 1)], Some(2)),
+    Shut(0, &[(0, 1)]),
+    Keep(5, (0, 0), &[(0, Some(1))]),
+    Shut(0, &[(0, 1), (1, 4)]),
+    Keep(4, (0, 0), &[(0, Some(2))]),
+    // The loads 1 and 2 are live for the value 0, and shut off for 1; so is the load 5, by a cell below.
+    Find((0, 0), &[(0, 0)], Some(2)),
+    Find((0, 0), &[(0, 1)], None),
+    Find((0, 0), &[(0, 2)], Some(4)),
+    Candidates((0, 0), &[(0, 0)], &[3]),
+    Candidates((0, 0), &[(0, 1)], &[]),
+    Find((0, 0), &[(0, 0), (1, 4)], Some(3)),
+    Find((0, 0), &[(0, 1), (1, 4)], None),
+];
+
+#[test]
+fn a_load_is_live_for_a_cell_and_shut_off_for_the_next(rt: HostRuntime) -> Result<(), Fail> {
+    assert_eq!(rt; play_both(rt.alloc(), &SHUT)?, [None, None]);
+    Ok(())
+}
+
+const TOTALS: [Step; 13] = [
+    Keep(1, (0, 0), &[(0, None)]),
+    Keep(2, (0, 1), &[(0, None)]),
+    Keep(3, (1, 0), &[(0, None)]),
+    Keep(4, (0, 0), &[(64, Some(9))]),
+    Find((0, 0), &[], None),
+    Keep(5, (0, 1), &[]),
+    Find((0, 0), &[], None),
+    Find((0, 1), &[], Some(5)),
+    Keep(6, (0, 0), &[]),
+    Find((0, 0), &[], Some(6)),
+    // All loads of its cube and measure but the load that has just its columns.
+    Candidates((0, 0), &[], &[1, 4]),
+    Candidates((0, 1), &[], &[2]),
+    Candidates((1, 1), &[], &[]),
+];
+
+#[test]
+fn a_cell_of_no_column_is_found_in_a_load_of_none(rt: HostRuntime) -> Result<(), Fail> {
+    assert_eq!(rt; play_both(rt.alloc(), &TOTALS)?, [None, None]);
+    Ok(())
+}
+
+#[test]
+fn each_of_many_cells_is_found_in_its_load(rt: HostRuntime) -> Result<(), Fail> {
+    // Each load from 1 to 1,000 is found ten times.
+    let mut index = SegmentIndex::new(rt.alloc());
+    assert_eq!(rt; find_many(rt.alloc(), &mut index, 10, 1)?, 5_005_000);
+    Ok(())
+}

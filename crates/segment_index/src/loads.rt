@@ -1,0 +1,156 @@
+//! The kept loads by their numbers.
+ghost use Rattle.std.specs.Prelude.{◌≡◌, ◌==◌, ◌<◌, ◌≤◌, ◌+◌, ◌++◌, ◌∷◌, [], All, IfOk, IsTrue, OnOk, false, length, map, option_copied, option_map};
+ghost use Rattle.std.specs.List.{find};
+ghost use Rattle.olap_meaning.specs.Covering.{among};
+ghost use Rattle.indexmap.specs.IndexMap.{spare};
+ghost use Rattle.cache_flush.specs.Handles.{AreHandles};
+ghost use Rattle.cache_flush.specs.Loads.{are_different, kept_of, numbers_of, shut_off};
+ghost use Rattle.segment_index.specs.Numbered.{rooms_of, seen};
+
+use cache_flush::{Kept, next_handle};
+use indexmap::IndexMap;
+use olap_meaning::{OutOfMemory, Region};
+use std::alloc::Global;
+use std::marker::Model;
+use std::sync::Arc;
+
+/// Kept loads in the order in which they were put in, found by the hash of their numbers.
+#[derive(Drop)]
+pub(crate) struct Loads {
+    by_number: IndexMap<u64, Kept>,
+}
+
+impl Model for Loads {
+    ghost use Rattle.std.specs.Prelude.{IsTrue, map};
+    ghost use Rattle.indexmap.specs.IndexMap.{spare};
+    ghost use Rattle.cache_flush.specs.Loads.{are_different, numbers_of};
+    ghost use Rattle.segment_index.specs.Numbered.{AreNumbered, NumberedOf, rooms_of, seen};
+
+    ghost Value = { NumberedOf };
+
+    ghost view = { λ a. record { loads = map (λ entry. entry.1) (seen a.by_number.entries); rooms = rooms_of a.by_number.entries; places = spare a.by_number } };
+
+    ghost invariant = { λ a. AreNumbered (seen a.by_number.entries)
+        × IsTrue (are_different (numbers_of (map (λ entry. entry.1) (seen a.by_number.entries)))) };
+}
+
+impl Loads {
+    /// No load. It takes no memory.
+    pub(crate) fn new(alloc: Global) -> Loads
+        ensures loads { result.loads ≡ [] }
+        ensures rooms { result.rooms ≡ [] }
+    {
+        Loads {
+            by_number: IndexMap::new(alloc),
+        }
+    }
+
+    /// How many there are.
+    pub(crate) fn len(&self) -> usize
+        ensures { result ≡ length self.now.loads }
+    {
+        self.by_number.len()
+    }
+
+    /// No number stands twice. This costs nothing.
+    pub(crate) fn numbers_differ(&self)
+        ensures { IsTrue (are_different (numbers_of self.now.loads)) }
+    {
+        let _ = &self.by_number;
+    }
+
+    /// The load of a number. It takes no memory.
+    pub(crate) fn get(&self, load: u64) -> Option<&Kept>
+        ensures { option_map kept_of (option_copied result)
+            ≡ find (λ kept. kept.load == load) self.now.loads }
+    {
+        self.by_number.get(&load)
+    }
+
+    /// The numbers of the loads, in their order.
+    pub(crate) fn numbers(&self, alloc: Global) -> Result<Vec<u64>, OutOfMemory>
+        ensures { IfOk result (λ numbers. numbers.items ≡ numbers_of self.now.loads) }
+    {
+        numbers_in(alloc, &self.by_number)
+    }
+
+    /// Makes room for so many more.
+    pub(crate) fn reserve(&mut self, places: usize) -> Result<(), OutOfMemory>
+        ensures ok { OnOk result (places ≤ self.new.places) }
+        ensures loads { self.new.loads ≡ self.old.loads }
+        ensures places { self.old.places ≤ self.new.places }
+    {
+        self.by_number.reserve(places)?;
+        Ok(())
+    }
+
+    /// Puts a load in. It takes no memory: the room is there.
+    pub(crate) fn insert(&mut self, kept: Kept)
+        requires place { 0 < self.old.places }
+        requires another { among (numbers_of self.old.loads) kept.load ≡ false }
+        ensures loads { self.new.loads ≡ self.old.loads ++ kept_of kept ∷ [] }
+        ensures places { self.old.places ≤ self.new.places + 1 }
+    {
+        let added = self.by_number.insert(kept.load, kept);
+        prove!(added.is_ok());
+    }
+
+    /// Makes room for one region more in what shuts off part of each load.
+    pub(crate) fn reserve_shut(&mut self) -> Result<(), OutOfMemory>
+        ensures rooms { OnOk result (All (λ room. 0 < room) self.new.rooms) }
+        ensures loads { self.new.loads ≡ self.old.loads }
+        ensures places { self.old.places ≤ self.new.places }
+    {
+        reserve_each(&mut self.by_number)
+    }
+
+    /// Adds a region to what shuts off part of each load that it concerns. It takes no memory: the room is there.
+    pub(crate) fn shut(&mut self, region: &Region, handles: Vec<Arc<Region>>)
+        requires handles { AreHandles region.now (length self.old.loads) handles.items }
+        requires rooms { All (λ room. 0 < room) self.old.rooms }
+        ensures loads { self.new.loads ≡ map (shut_off region.now) self.old.loads }
+        ensures places { self.old.places ≤ self.new.places }
+    {
+        shut_each(&mut self.by_number, region, handles);
+    }
+}
+
+// The keys of a map, in its order.
+fn numbers_in(alloc: Global, by_number: &IndexMap<u64, Kept>) -> Result<Vec<u64>, OutOfMemory>
+    ensures { IfOk result
+        (λ numbers. numbers.items ≡ map (λ entry. entry.0) by_number.now.entries) }
+{
+    let mut numbers = Vec::with_capacity(alloc, by_number.len())?;
+    for place in 0..by_number.len() {
+        let (number, _) = by_number.get_index(place).unwrap();
+        numbers.push(*number)?;
+    }
+    Ok(numbers)
+}
+
+// Makes room for one region more in what shuts off part of each load.
+fn reserve_each(by_number: &mut IndexMap<u64, Kept>) -> Result<(), OutOfMemory>
+    ensures rooms { OnOk result (All (λ room. 0 < room) (rooms_of by_number.new.entries)) }
+    ensures entries { seen by_number.new.entries ≡ seen by_number.old.entries }
+    ensures places { spare by_number.old ≤ spare by_number.new }
+{
+    for place in 0..by_number.len() {
+        let kept = &mut by_number[place];
+        kept.reserve_shut()?;
+    }
+    Ok(())
+}
+
+// Adds a region to what shuts off part of each load that it concerns.
+fn shut_each(by_number: &mut IndexMap<u64, Kept>, region: &Region, mut handles: Vec<Arc<Region>>)
+    requires handles { AreHandles region.now (length (seen by_number.old.entries)) handles.items }
+    requires rooms { All (λ room. 0 < room) (rooms_of by_number.old.entries) }
+    ensures entries { seen by_number.new.entries
+        ≡ map (λ entry. (entry.0, shut_off region.now entry.1)) (seen by_number.old.entries) }
+    ensures places { spare by_number.old ≤ spare by_number.new }
+{
+    for next in 0..by_number.len() {
+        let kept = &mut by_number[next];
+        kept.shut_off(next_handle(&mut handles, region));
+    }
+}
