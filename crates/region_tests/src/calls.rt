@@ -2,45 +2,32 @@
 ghost use Rattle.std.specs.Prelude.{◌<◌, length, IfOk};
 ghost use Rattle.olap_meaning.specs.MemberOf.{IsMemberOf};
 
-use crate::told::{told_fault, told_region};
+use crate::tables::{Asks, told_of_sample};
+use crate::told::{add_fault, add_region};
+use crate::trees::names_of;
 use olap_catalog::Catalog;
-use olap_meaning::{CubeId, List, Member, Region, Text};
+use olap_meaning::{CubeId, Member, Region};
 use region_algebra::{RegionFault, crossjoin, is_flushable, measures, member, range, union};
-use std::alloc::Global;
+use std::alloc::{AllocError, Global};
 use std::test::Fail;
-use test_samples::files::{schema, stores, times};
-use test_samples::open_catalog;
 
-// What is made, and whether it can be flushed.
-fn told(alloc: Global, made: Result<Region, RegionFault>) -> Result<String, Fail> {
-    match made {
-        Ok(region) => {
-            let can = is_flushable(&region);
-            let text = told_region(alloc, &region)?;
-            Ok(format!(in alloc; "{text}{can}")?)
-        }
-        Err(fault) => told_fault(alloc, &fault),
-    }
-}
+// A crossjoin of the measures and a range, and two unions of two members: of years, and of a measure and a year. Then
+// whether what is made can be flushed.
+const CALLS: &str = "\
+crossjoin Time/1997 Time/1998 => M 0 | m0m1 0=0 | m0m1 0=1 true\n\
+union Time/1998 Time/1997 => 0 | * 0=1 | * 0=0 false\n\
+union Measures/Count Time/1997 => mismatch M and 0 \n";
 
-// The member of two names.
-fn member_of(
-    alloc: Global,
-    catalog: &Catalog,
-    cube: CubeId,
-    root: &str,
-    name: &str,
-) -> Result<Member, Fail>
+// The member of a path.
+fn member_of(alloc: Global, catalog: &Catalog, cube: CubeId, path: &str) -> Result<Member, Fail>
     requires { cube < length catalog.now.cubes }
     ensures { IfOk result (IsMemberOf catalog.now cube) }
 {
-    let mut path = List::new(alloc);
-    path.push(Text::from_str(alloc, root)?)?;
-    path.push(Text::from_str(alloc, name)?)?;
-    if path.is_empty() {
+    let names = names_of(alloc, path)?;
+    if names.is_empty() {
         return Err(Fail::from("no path"));
     }
-    match catalog.find_member(alloc, cube, path.as_slice()) {
+    match catalog.find_member(alloc, cube, names.as_slice()) {
         Ok(found) => Ok(found),
         Err(_) => Err(Fail::from("no member")),
     }
@@ -53,16 +40,14 @@ fn crossed(
     cube: CubeId,
     first: &Member,
     last: &Member,
-) -> Result<String, Fail>
+) -> Result<Region, RegionFault>
     requires known { cube < length catalog.now.cubes }
     requires first { IsMemberOf catalog.now cube first.now }
     requires last { IsMemberOf catalog.now cube last.now }
 {
-    let Ok(years) = range(alloc, catalog, cube, first, last) else {
-        return Err(Fail::from("no range"));
-    };
+    let years = range(alloc, catalog, cube, first, last)?;
     let parts = [measures(alloc, catalog, cube)?, years];
-    told(alloc, crossjoin(alloc, &parts))
+    crossjoin(alloc, &parts)
 }
 
 // The union of two members.
@@ -72,46 +57,82 @@ fn united(
     cube: CubeId,
     first: &Member,
     second: &Member,
-) -> Result<String, Fail>
+) -> Result<Region, RegionFault>
     requires known { cube < length catalog.now.cubes }
     requires first { IsMemberOf catalog.now cube first.now }
     requires second { IsMemberOf catalog.now cube second.now }
 {
-    let parts = [
-        member(alloc, catalog, cube, first)?,
-        member(alloc, catalog, cube, second)?,
-    ];
-    told(alloc, union(alloc, &parts))
+    let first = member(alloc, catalog, cube, first)?;
+    let parts = [first, member(alloc, catalog, cube, second)?];
+    union(alloc, &parts)
 }
 
-// A crossjoin and two unions over the sample: of years, and of a year and a measure.
-fn all_calls(alloc: Global, catalog: &Catalog, cube: CubeId) -> Result<String, Fail>
+// The crossjoin or the union of two members.
+fn made(
+    alloc: Global,
+    catalog: &Catalog,
+    cube: CubeId,
+    call: &str,
+    paths: (&str, &str),
+) -> Result<Result<Region, RegionFault>, Fail>
     requires { cube < length catalog.now.cubes }
 {
-    let first = member_of(alloc, catalog, cube, "Time", "1997")?;
-    let second = member_of(alloc, catalog, cube, "Time", "1998")?;
-    let count = member_of(alloc, catalog, cube, "Measures", "Count")?;
-    let crossed = crossed(alloc, catalog, cube, &first, &second)?;
-    let years = united(alloc, catalog, cube, &second, &first)?;
-    let mixed = united(alloc, catalog, cube, &count, &first)?;
-    Ok(format!(in alloc; "{crossed}; {years}; {mixed}")?)
+    let first = member_of(alloc, catalog, cube, paths.0)?;
+    let second = member_of(alloc, catalog, cube, paths.1)?;
+    if call == "union" {
+        Ok(united(alloc, catalog, cube, &first, &second))
+    } else {
+        Ok(crossed(alloc, catalog, cube, &first, &second))
+    }
 }
 
-fn said(alloc: Global) -> Result<String, Fail> {
-    let Some(catalog) = open_catalog(alloc, schema(), &[times(), stores()]) else {
-        return Err(Fail::from("no catalog"));
+// Adds a region, and whether it can be flushed.
+fn add_flushable(text: &mut String, region: &Region) -> Result<(), AllocError> {
+    add_region(text, region)?;
+    write!(text, "{}", is_flushable(region))
+}
+
+// Adds what a call of two paths makes, and whether it can be flushed.
+fn add_joined(
+    alloc: Global,
+    catalog: &Catalog,
+    cube: CubeId,
+    call: &str,
+    paths: (&str, &str),
+    text: &mut String,
+) -> Result<(), Fail>
+    requires { cube < length catalog.now.cubes }
+{
+    match made(alloc, catalog, cube, call, paths)? {
+        Ok(region) => Ok(add_flushable(text, &region)?),
+        Err(fault) => Ok(add_fault(text, &fault)?),
+    }
+}
+
+/// Adds what a call makes, `union` or `crossjoin` with two paths.
+pub fn add_call(
+    alloc: Global,
+    catalog: &Catalog,
+    asked: &str,
+    text: &mut String,
+) -> Result<(), Fail> {
+    let Some((call, paths)) = asked.split_once(' ') else {
+        return Err(Fail::from("no call"));
+    };
+    let Some(paths) = paths.split_once(' ') else {
+        return Err(Fail::from("no paths"));
     };
     let Some(cube) = catalog.find_cube("Sales") else {
         return Err(Fail::from("no cube"));
     };
-    all_calls(alloc, &catalog, cube)
+    add_joined(alloc, catalog, cube, call, paths, text)
 }
 
 #[test]
 fn calls_make_regions(rt: HostRuntime) -> Result<(), Fail> {
     assert_eq!(rt;
-        said(rt.alloc())?.as_str(),
-        "M 0 | m0m1 0=0 | m0m1 0=1 true; 0 | * 0=1 | * 0=0 false; mismatch M and 0 "
+        told_of_sample(rt.alloc(), Asks::Calls, CALLS)?.as_str(),
+        CALLS
     );
     Ok(())
 }

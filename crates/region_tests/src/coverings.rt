@@ -1,14 +1,13 @@
 //! Which cells regions cover, beside the plain, slow body of the definition.
-use crate::trees::flush;
+use crate::tables::{Asks, told_of_sample};
+use crate::trees::meaning;
 use olap_catalog::Catalog;
 use olap_meaning::{Cell, ColumnId, CubeId, List, MeasureId, OutOfMemory, Region, ValueId};
 use olap_plain::history::region_covers;
-use region_algebra::{covers, resolve_region};
+use region_algebra::covers;
 use std::alloc::Global;
 use std::test::Fail;
-use test_samples::files::{schema, stores, times};
-use test_samples::lines::{add_line, asked, measured};
-use test_samples::open_catalog;
+use test_samples::lines::measured;
 
 // Flushes, each with cells by their measure and the values of their columns, and whether it covers each.
 const COVERED: &str = "\
@@ -57,38 +56,41 @@ fn covered(region: &Region, cell: &Cell) -> &'static str {
     }
 }
 
-// Whether a flush covers each of some cells.
-fn said_of(alloc: Global, catalog: &Catalog, line: &str) -> Result<String, Fail> {
-    let Some((text, cells)) = line.split_once(" @ ") else {
-        return Err(Fail::from("no cells"));
-    };
-    let flush = flush(alloc, text)?;
-    let Ok(region) = resolve_region(alloc, catalog, &flush) else {
-        return Err(Fail::from("no region"));
-    };
-    let mut said = String::new(alloc);
-    for word in cells.split(' ') {
-        let cell = cell_of(alloc, word)?;
-        said.push_str(covered(&region, &cell))?;
-    }
-    Ok(said)
+// Adds whether a region covers a cell.
+fn add_cell(alloc: Global, region: &Region, word: &str, text: &mut String) -> Result<(), Fail> {
+    let cell = cell_of(alloc, word)?;
+    Ok(text.push_str(covered(region, &cell))?)
 }
 
-// A table of flushes with cells, and what is said of each.
-fn told(alloc: Global, table: &str) -> Result<String, Fail> {
-    let Some(catalog) = open_catalog(alloc, schema(), &[times(), stores()]) else {
-        return Err(Fail::from("no catalog"));
-    };
-    let mut text = String::new(alloc);
-    for line in table.lines() {
-        let flush = asked(line);
-        add_line(&mut text, flush, said_of(alloc, &catalog, flush)?.as_str())?;
+// Adds whether a region covers each of some cells.
+fn add_cells(alloc: Global, region: &Region, cells: &str, text: &mut String) -> Result<(), Fail> {
+    for word in cells.split(' ') {
+        add_cell(alloc, region, word, text)?;
     }
-    Ok(text)
+    Ok(())
+}
+
+/// Adds whether a flush covers each of the cells behind it.
+pub fn add_covered(
+    alloc: Global,
+    catalog: &Catalog,
+    asked: &str,
+    text: &mut String,
+) -> Result<(), Fail> {
+    let Some((flush, cells)) = asked.split_once(" @ ") else {
+        return Err(Fail::from("no cells"));
+    };
+    match meaning(alloc, catalog, flush)? {
+        Ok(region) => add_cells(alloc, &region, cells, text),
+        Err(_) => Err(Fail::from("no region")),
+    }
 }
 
 #[test]
 fn regions_cover_cells(rt: HostRuntime) -> Result<(), Fail> {
-    assert_eq!(rt; told(rt.alloc(), COVERED)?.as_str(), COVERED);
+    assert_eq!(rt;
+        told_of_sample(rt.alloc(), Asks::Coverings, COVERED)?.as_str(),
+        COVERED
+    );
     Ok(())
 }

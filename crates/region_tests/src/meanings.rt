@@ -1,13 +1,12 @@
 //! What flushes mean, over the sample files, over two hierarchies of one dimension, and over catalogs with many members.
-use crate::told::{told_fault, told_region};
-use crate::trees::flush;
+use crate::tables::{Asks, told_of_sample, told_over};
+use crate::told::{add_fault, add_region};
+use crate::trees::meaning;
 use olap_catalog::Catalog;
-use region_algebra::{copy_region, resolve_region};
+use olap_meaning::Region;
+use region_algebra::copy_region;
 use std::alloc::{AllocError, Global};
 use std::test::Fail;
-use test_samples::files::{schema, stores, times};
-use test_samples::lines::{add_line, asked};
-use test_samples::open_catalog;
 
 // Over the sample: the columns of Time are 0 and 1, those of Store 2 and 3; Time has no all member, and Store has one.
 const SAMPLE: &str = "\
@@ -81,7 +80,7 @@ fn wide_schema() -> &'static [u8] {
 fn members(alloc: Global, count: u32) -> Result<String, AllocError> {
     let mut text = String::from_str(alloc, "k,l\n")?;
     for member in 0..count {
-        text.push_str(format!(in alloc; "{member},m{member}\n")?.as_str())?;
+        writeln!(text, "{member},m{member}")?;
     }
     Ok(text)
 }
@@ -102,55 +101,54 @@ C measures D/m0..D/m59999 D/m0..D/m39999 +2 *2 => M 0 100000 boxes \n\
 C D/m0..D/m59999 D/m0..D/m40000 D/m5 +3 => 100001 boxes, of 100000\n\
 C D/m0..D/m59999 D/m0..D/m40000 measures +3 => mismatch 0 and M \n";
 
-// What a flush means.
-fn meaning(alloc: Global, catalog: &Catalog, text: &str) -> Result<String, Fail> {
-    let flush = flush(alloc, text)?;
-    match resolve_region(alloc, catalog, &flush) {
-        Ok(region) => {
-            let copy = copy_region(alloc, &region)?;
-            Ok(told_region(alloc, &copy)?)
-        }
-        Err(fault) => told_fault(alloc, &fault),
+// The last table: two members.
+const TWO: &[u8] = b"k,l\n0,m0\n1,m1\n";
+
+// Adds the copy of a region.
+fn add_copy(alloc: Global, region: &Region, text: &mut String) -> Result<(), Fail> {
+    let copy = copy_region(alloc, region)?;
+    Ok(add_region(text, &copy)?)
+}
+
+/// Adds what a flush means.
+pub fn add_meaning(
+    alloc: Global,
+    catalog: &Catalog,
+    asked: &str,
+    text: &mut String,
+) -> Result<(), Fail> {
+    match meaning(alloc, catalog, asked)? {
+        Ok(region) => add_copy(alloc, &region, text),
+        Err(fault) => Ok(add_fault(text, &fault)?),
     }
 }
 
-// A table of flushes, and what each means.
-fn told(alloc: Global, catalog: &Catalog, table: &str) -> Result<String, Fail> {
-    let mut text = String::new(alloc);
-    for line in table.lines() {
-        let flush = asked(line);
-        add_line(&mut text, flush, meaning(alloc, catalog, flush)?.as_str())?;
-    }
-    Ok(text)
-}
-
-// The same over a catalog that is opened.
-fn told_over(alloc: Global, schema: &[u8], tables: &[&[u8]], table: &str) -> Result<String, Fail> {
-    match open_catalog(alloc, schema, tables) {
-        None => Err(Fail::from("no catalog")),
-        Some(catalog) => told(alloc, &catalog, table),
-    }
-}
-
-// The same over three dimensions of so many members.
-fn told_wide(alloc: Global, counts: (u32, u32, u32), table: &str) -> Result<String, Fail> {
+// What flushes mean over three dimensions, the first two of so many members and the third of two.
+fn told_wide(alloc: Global, counts: (u32, u32), table: &str) -> Result<String, Fail> {
     let first = members(alloc, counts.0)?;
     let second = members(alloc, counts.1)?;
-    let third = members(alloc, counts.2)?;
-    let tables = [first.as_bytes(), second.as_bytes(), third.as_bytes()];
-    told_over(alloc, wide_schema(), &tables, table)
+    let tables = [first.as_bytes(), second.as_bytes(), TWO];
+    told_over(alloc, wide_schema(), &tables, Asks::Meanings, table)
 }
 
 #[test]
 fn flushes_mean_regions(rt: HostRuntime) -> Result<(), Fail> {
-    let said = told_over(rt.alloc(), schema(), &[times(), stores()], SAMPLE)?;
-    assert_eq!(rt; said.as_str(), SAMPLE);
+    assert_eq!(rt;
+        told_of_sample(rt.alloc(), Asks::Meanings, SAMPLE)?.as_str(),
+        SAMPLE
+    );
     Ok(())
 }
 
 #[test]
 fn hierarchies_of_one_dimension_share_it(rt: HostRuntime) -> Result<(), Fail> {
-    let said = told_over(rt.alloc(), tree_schema(), &[tree_table()], TREES)?;
+    let said = told_over(
+        rt.alloc(),
+        tree_schema(),
+        &[tree_table()],
+        Asks::Meanings,
+        TREES,
+    )?;
     assert_eq!(rt; said.as_str(), TREES);
     Ok(())
 }
@@ -158,10 +156,7 @@ fn hierarchies_of_one_dimension_share_it(rt: HostRuntime) -> Result<(), Fail> {
 #[test]
 fn boxes_are_counted(rt: HostRuntime) -> Result<(), Fail> {
     let alloc = rt.alloc();
-    assert_eq!(rt;
-        told_wide(alloc, (317, 317, 2), PRODUCTS)?.as_str(),
-        PRODUCTS
-    );
-    assert_eq!(rt; told_wide(alloc, (100_001, 2, 2), SUMS)?.as_str(), SUMS);
+    assert_eq!(rt; told_wide(alloc, (317, 317), PRODUCTS)?.as_str(), PRODUCTS);
+    assert_eq!(rt; told_wide(alloc, (100_001, 2), SUMS)?.as_str(), SUMS);
     Ok(())
 }
