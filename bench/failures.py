@@ -94,7 +94,7 @@ def kept(appended, flushed):
         "[Time].[Year]={[1997]} [Store].[State]={[CA],[WA]} [Store].[City]={[LA],[SF],[Seattle]}"
     loads = [f"L\t1\t[Units]\t{quarters}\t{int(flushed)}", f"L\t1\t[Count]\t{quarters}\t0", f"L\t{later}\t[Units]\t{cities}\t{int(flushed)}"]
     loads += [f"L\t{later}\t[{it}]\t{cities}\t0" for it in ("Count", "Average", "Customers", "Least", "Greatest")]
-    loads += [f"L\t{later}\t[Average]\t[Time].[Year]={{[1997],[1998]}} [Store].[State]={{[CA]}}\t0"]
+    loads += [f"L\t{later}\t[Average]\t[Time].[Year]={{[1998]}} [Store].[State]={{[CA]}}\t0"]  # 1997 is rolled up from the cities
     loads += [f"L\t{later}\t[Units]\t[Time].[Year]={{[1997]}} [Time].[Quarter]={{[Q1]}} [Store].[State]={{[CA],[WA]}}\t0"] * flushed
     return "\n".join([f"CACHE # {len(loads)}", *sorted(loads), "."])
 

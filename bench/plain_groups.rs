@@ -1,8 +1,9 @@
 //! The plain program that grids of many groups are measured beside: std alone, no quotes in its files, and a panic at each fault.
 //!
-//! plain_groups LARGE SMALL: reads flat.csv and other.csv into hash maps by key, and groups.csv into columns of numbers; sums the units
-//! up by both members, in a hash map by the two members' numbers packed into one; and writes the grid of all members so many times, and
-//! then the grid of the first ten other members so many times. Each grid looks its cells up anew.
+//! plain_groups LARGE SMALL [ONE MANY]: reads flat.csv and other.csv into hash maps by key, and groups.csv into columns of numbers; sums
+//! the units up by both members, in a hash map by the two members' numbers packed into one; and writes the grid of all members so many
+//! times, and then the grid of the first ten other members so many times. Each grid looks its cells up anew. Then it rolls the groups up
+//! to the first flat member, and to all flat members, so many times each, anew each time, and writes these grids.
 
 use std::collections::HashMap;
 use std::io::Write;
@@ -51,13 +52,47 @@ fn grid(sums: &HashMap<u64, i128>, rows: &[String], columns: &[String], out: &mu
     out.extend(b".\n");
 }
 
+fn row(names: &[String], values: impl Iterator<Item = Option<i128>>, out: &mut Vec<u8>) {
+    writeln!(out, "GRID 1 {} 1", names.len()).unwrap();
+    for name in names {
+        writeln!(out, "C\t[Flat].[{name}]").unwrap();
+    }
+    out.extend(b"R\t");
+    for value in values {
+        match value {
+            Some(sum) => write!(out, "\t{sum}").unwrap(),
+            None => out.push(b'\t'),
+        }
+    }
+    out.extend(b"\n.\n");
+}
+
+fn one(sums: &HashMap<u64, i128>) -> Option<i128> {
+    let mut found = None;
+    for (key, sum) in sums {
+        if key >> 32 == 0 {
+            found = Some(found.unwrap_or(0) + sum);
+        }
+    }
+    found
+}
+
+fn many(sums: &HashMap<u64, i128>) -> HashMap<u64, i128> {
+    let mut cells = HashMap::new();
+    for (key, sum) in sums {
+        *cells.entry(key >> 32).or_insert(0) += sum;
+    }
+    cells
+}
+
 fn main() {
-    let times: Vec<usize> = std::env::args().skip(1).map(|word| word.parse().unwrap()).collect();
+    let mut times: Vec<usize> = std::env::args().skip(1).map(|word| word.parse().unwrap()).collect();
+    times.resize(4, 0);
     let (flat, rows) = table("flat.csv");
     let (other, columns) = table("other.csv");
     let facts = facts(&flat, &other);
     let mut sums: HashMap<u64, i128> = HashMap::new();
-    if times[0] + times[1] > 0 {
+    if times.iter().sum::<usize>() > 0 {
         for ((row, column), units) in facts.0.iter().zip(&facts.1).zip(&facts.2) {
             *sums.entry((*row as u64) << 32 | *column as u64).or_insert(0) += i128::from(*units);
         }
@@ -68,5 +103,16 @@ fn main() {
             grid(&sums, &rows, columns, &mut out);
             std::io::stdout().write_all(&out).unwrap();
         }
+    }
+    for _ in 0..times[2] {
+        let mut out = Vec::new();
+        row(&rows[..1], [one(&sums)].into_iter(), &mut out);
+        std::io::stdout().write_all(&out).unwrap();
+    }
+    for _ in 0..times[3] {
+        let mut out = Vec::new();
+        let cells = many(&sums);
+        row(&rows, (0..rows.len() as u64).map(|i| cells.get(&i).copied()), &mut out);
+        std::io::stdout().write_all(&out).unwrap();
     }
 }

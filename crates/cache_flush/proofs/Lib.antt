@@ -3,3 +3,5 @@ pub mod Differing
 pub mod Searching
 pub mod Sorting
 pub mod Shelves
+pub mod Naming
+pub mod Putting

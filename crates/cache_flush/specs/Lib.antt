@@ -1,4 +1,5 @@
 pub mod Shuts
+pub mod Named
 pub mod Handles
 pub mod Loads
 pub mod Flights

@@ -25,12 +25,12 @@ pub(crate) struct Flight {
 }
 
 impl Flight {
-    // Makes room for one region more in what shuts off part of the load.
-    fn reserve_shut(&mut self) -> Result<(), OutOfMemory>
+    // Makes room for a region in what shuts off part of the load.
+    fn reserve_shut(&mut self, region: &Region) -> Result<(), OutOfMemory>
         ensures room { OnOk result (0 < self.new.shut.spare) }
         ensures flight { flight_of self.new ≡ flight_of self.old }
     {
-        self.shut.reserve()
+        self.shut.reserve_for(region, &self.header)
     }
 
     // Adds a region to what shuts off part of the load, where it concerns the load.
@@ -158,7 +158,7 @@ impl Flights {
         ensures places { self.new.places ≡ self.old.places }
     {
         let handles = handles_of(self.alloc, region, self.flights.len())?;
-        reserve_each(&mut self.flights)?;
+        reserve_each(&mut self.flights, region)?;
         Ok(handles)
     }
 
@@ -210,13 +210,13 @@ fn place_of(flights: &[Flight], load: u64) -> usize
     position_of(flights, load).unwrap()
 }
 
-// Makes room for one region more in what shuts off part of each load.
-fn reserve_each(flights: &mut [Flight]) -> Result<(), OutOfMemory>
+// Makes room for a region in what shuts off part of each load.
+fn reserve_each(flights: &mut [Flight], region: &Region) -> Result<(), OutOfMemory>
     ensures rooms { OnOk result (All (λ flight. 0 < flight.shut.spare) flights.new) }
     ensures flights { map flight_of flights.new ≡ map flight_of flights.old }
 {
     for flight in flights.iter_mut() {
-        flight.reserve_shut()?;
+        flight.reserve_shut(region)?;
     }
     Ok(())
 }

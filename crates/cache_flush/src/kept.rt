@@ -45,12 +45,12 @@ impl Kept {
         covers(header, cell) && same_columns(header, cell)
     }
 
-    /// Makes room for one region more in what shuts off part of the load.
-    pub fn reserve_shut(&mut self) -> Result<(), OutOfMemory>
+    /// Makes room for a region in what shuts off part of the load.
+    pub fn reserve_shut(&mut self, region: &Region) -> Result<(), OutOfMemory>
         ensures room { OnOk result (0 < self.new.shut.spare) }
         ensures load { kept_of self.new ≡ kept_of self.old }
     {
-        self.shut.reserve()
+        self.shut.reserve_for(region, self.body.header())
     }
 
     /// Adds a region to what shuts off part of the load, where it concerns the load. It takes no memory: the room is there.

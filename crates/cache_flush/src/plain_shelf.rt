@@ -99,7 +99,7 @@ impl CacheShelf for PlainShelf {
 
     fn reserve_shut(&mut self, region: &Arc<Region>) -> Result<List<Arc<Region>>, OutOfMemory> {
         let handles = handles_of(self.alloc, region, self.kept.len())?;
-        reserve_each(&mut self.kept)?;
+        reserve_each(&mut self.kept, region)?;
         Ok(handles)
     }
 
@@ -189,13 +189,13 @@ fn reserve_one_more(kept: &mut Vec<Kept>) -> Result<(), OutOfMemory>
     Ok(())
 }
 
-// Makes room for one region more in what shuts off part of each load.
-fn reserve_each(kept: &mut [Kept]) -> Result<(), OutOfMemory>
+// Makes room for a region in what shuts off part of each load.
+fn reserve_each(kept: &mut [Kept], region: &Region) -> Result<(), OutOfMemory>
     ensures rooms { OnOk result (All (λ kept. 0 < kept.shut.spare) kept.new) }
     ensures loads { map kept_of kept.new ≡ map kept_of kept.old }
 {
     for one in kept.iter_mut() {
-        one.reserve_shut()?;
+        one.reserve_shut(region)?;
     }
     Ok(())
 }

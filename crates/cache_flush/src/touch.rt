@@ -4,6 +4,7 @@ ghost use Rattle.std.specs.List.{list_all, list_any};
 ghost use Rattle.olap_meaning.specs.Covering as covering;
 
 use olap_meaning::{Allowed, ColumnId, Header, List, MeasureId, Region, RegionBox, ValueId};
+use region_algebra::is_of_measure;
 
 /// Whether a region touches a header: the cube is the header's, and one of its boxes is of the header's measure and has,
 /// in each column that both name, a value that the header allows. It takes no memory.
@@ -25,7 +26,9 @@ pub fn concerns(region: &Region, header: &Header) -> bool
 fn some_box_is_of(boxes: &[RegionBox], measure: MeasureId) -> bool
     ensures { result ≡ list_any (λ box. covering.of_measure box.measures measure) boxes.now }
 {
-    boxes.iter().any(|one| is_of(&one.measures, measure))
+    boxes
+        .iter()
+        .any(|one| is_of_measure(&one.measures, measure))
 }
 
 // One of some boxes touches a header.
@@ -39,25 +42,8 @@ fn some_box_touches(boxes: &[RegionBox], header: &Header) -> bool
 fn box_touches(region_box: &RegionBox, header: &Header) -> bool
     ensures { result ≡ covering.box_touches region_box.now header.now }
 {
-    is_of(&region_box.measures, header.measure)
+    is_of_measure(&region_box.measures, header.measure)
         && meet_all(region_box.columns.as_slice(), header.columns.as_slice())
-}
-
-// Some measures have a measure, or none are named.
-fn is_of(measures: &Option<List<MeasureId>>, measure: MeasureId) -> bool
-    ensures { result ≡ covering.of_measure measures.now measure }
-{
-    match measures {
-        None => true,
-        Some(measures) => are_with(measures.as_slice(), measure),
-    }
-}
-
-// A measure is among some.
-fn are_with(measures: &[MeasureId], measure: MeasureId) -> bool
-    ensures { result ≡ covering.among measures.now measure }
-{
-    measures.iter().any(|one| *one == measure)
 }
 
 // The columns of a box meet each column of a header that they name.

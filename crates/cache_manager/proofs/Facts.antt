@@ -57,6 +57,7 @@ pub facts_on :
     → AreFactsOf setting entries facts → AreFactsOf setting (entries ++ entry ∷ []) facts
 facts_on setting entries facts entry none nothing are = record {
   limit = are.limit;
+  limit_fits = are.limit_fits;
   cubes = are.cubes;
   held = are.held ∙ sym (sum_by_push legal.rows_added entries entry ∙ ap (λ n. legal.rows_held entries + n) nothing ∙ omega arith);
   each = λ cube. are.each cube ∙ sym (filter_map-append (appended cube) entries (entry ∷ []) ∙ rw (none cube) (append-nil (filter_map (appended cube) entries)));
@@ -69,6 +70,7 @@ pub facts_more :
     → AreFactsOf setting entries facts → AreFactsOf setting (entries ++ Append who cube v batch.rows ∷ []) (with_batch facts cube batch)
 facts_more setting entries facts who cube v batch known fits are = record {
   limit = are.limit;
+  limit_fits = are.limit_fits;
   cubes = length-cubes facts cube batch ∙ are.cubes;
   held = omega (arith, held_more, are.held, sum_by_push legal.rows_added entries (Append who cube v batch.rows));
   each = λ other. by other (cases_eq other cube);

@@ -1,15 +1,18 @@
 -- The loads that a look starts.
-use Rattle.std.proofs.Common.{◌≡◌, refl, sym, ap, subst, ℕ, suc, ◌+◌, ◌≤◌, List, [], ◌∷◌, ◌++◌, length, map, Bool, true, false, not, ◌&&◌, Option, Some, None, is_some, option_to_list, filter, arith, All}
+use Rattle.std.proofs.Common.{◌≡◌, refl, sym, ap, subst, ℕ, suc, ◌+◌, ◌≤◌, List, [], ◌∷◌, ◌++◌, length, map, Bool, true, false, not, ◌&&◌, None, is_some, filter, arith, All}
 use Rattle.std.specs.List.{list_all}
 use Rattle.std.proofs.lemmas.Bool.{and_from, and_parts, both_ways, false_from_ne_true}
 use Rattle.std.proofs.lemmas.List.{length-append, length-map}
-use Rattle.std.proofs.lemmas.List.Elements.{All-cons, All-nil}
+use Rattle.std.proofs.lemmas.List.Elements.{All-cons, All-head, All-nil, All-tail}
 use Rattle.olap_meaning.specs.declared.cells.Cell.{Cell}
+use Rattle.olap_meaning.specs.declared.cells.CellSource.{CellSource}
+use Rattle.olap_meaning.specs.declared.tables.Catalog.{Catalog}
 use Rattle.olap_meaning.specs.declared.cells.Header.{Header}
 use Rattle.olap_meaning.specs.declared.cells.Who.{Who}
 use Rattle.olap_meaning.specs.declared.tables.Setting.{Setting}
 use Rattle.olap_meaning.specs.History.{Entry, awaited, awaited_load, exact_source, flushed_after, flying, load_just_covers}
-use Rattle.olap_meaning.specs.Legal.{Legal, is_cell}
+use Rattle.olap_meaning.specs.Legal.{IsSource, Legal, has_source, is_cell}
+use Rattle.olap_meaning.proofs.RolledSources.{sources_are_decided}
 use Rattle.fact_versions.specs.Facts.{FactsOf}
 use Rattle.cache_flush.specs.Loads.{KeptOf}
 use Rattle.cache_flush.specs.Flights.{FlightOf}
@@ -17,7 +20,6 @@ use Rattle.cache_manager.specs.declared.starts.Planned.{Planned}
 use Rattle.history_core.specs.Cache.{CacheOf}
 use Rattle.history_core.specs.Groups.{firsts, wanting}
 use Rattle.history_core.specs.Answers.{HasSource, SomeWants}
-use Rattle.cache_manager.proofs.Answering.{source_is}
 use Rattle.cache_manager.specs.Jobs.{IsJobOf}
 use Rattle.history_core.specs.Seats.{NoneFlies}
 use Rattle.cache_manager.specs.Kept.{IsFlight, IsManager, headers_of}
@@ -79,19 +81,13 @@ module _ (cache : CacheOf) (who : Who) (wanted : List Cell) (plans : List Planne
       planned_new cache who wanted (length cache.entries + 1) (firsts [] wanted) plans (map (λ f. f.load) flights) are
       (λ i h. let l : i ≤ length cache.entries = flights_below cache.entries flights i all h in omega (arith, l))
 
--- where no cell wants a source, each has one
-pub none_wanted : (entries : List Entry) (cells : List Cell) → length (wanting entries cells) ≡ 0 → list_all (λ cell. is_some (exact_source entries cell)) cells ≡ true
-none_wanted entries [] none = refl
-none_wanted entries (cell ∷ cells) none = by (is_some (exact_source entries cell)) refl none (none_wanted entries cells)
-  where
-    by : (b : Bool) → is_some (exact_source entries cell) ≡ b → length (wanting entries (cell ∷ cells)) ≡ 0 → (length (wanting entries cells) ≡ 0 → list_all (λ c. is_some (exact_source entries c)) cells ≡ true) → list_all (λ c. is_some (exact_source entries c)) (cell ∷ cells) ≡ true
-    by true e few rest = and_from _ _ e (rest (rw e at few))
-    by false e few rest = let more : length (cell ∷ wanting entries cells) ≡ 0 = rw e at few in absurd (omega (arith, more))
-
-pub all_served : (cache : CacheOf) (cells : List Cell) → list_all (λ cell. is_some (exact_source cache.entries cell)) cells ≡ true → All (HasSource cache) cells
+-- cells that are taken from sources have sources
+pub all_served : (cache : CacheOf) (sources : List CellSource) → All (λ source. IsSource cache.setting.catalog cache.entries source.cell source.loads) sources → All (HasSource cache) (map (λ source. source.cell) sources)
 all_served cache [] served = All-nil (HasSource cache)
-all_served cache (cell ∷ cells) served =
-    All-cons (HasSource cache) cell cells (option_to_list (exact_source cache.entries cell), source_is cache.setting.catalog cache.entries cell (and_parts _ _ served).0) (all_served cache cells (and_parts _ _ served).1)
+all_served cache (source ∷ sources) served =
+    All-cons (HasSource cache) source.cell (map (λ s. s.cell) sources)
+    ((sources_are_decided.has cache.setting.catalog cache.entries source.cell).1 (source.loads, All-head (λ s. IsSource cache.setting.catalog cache.entries s.cell s.loads) source sources served))
+    (all_served cache sources (All-tail (λ s. IsSource cache.setting.catalog cache.entries s.cell s.loads) source sources served))
 
 -- what holds of all cells holds of those that a test keeps, and so does the test
 pub kept_all : (p keep : Cell → Bool) (cells : List Cell) → list_all p cells ≡ true → list_all p (filter keep cells) ≡ true
@@ -110,17 +106,24 @@ kept_pass keep (cell ∷ cells) = by (keep cell) refl (kept_pass keep cells)
     by true e rest = rw e (and_from _ _ e rest)
     by false e rest = rw e rest
 
-unserved_none : (o : Option ℕ) → is_some o ≡ false → o ≡ None
-unserved_none None h = refl
-unserved_none (Some j) h = absurd (cc)
+-- a cell without a source has no exact one
+pub unserved_all : (catalog : Catalog) (entries : List Entry) (cells : List Cell) → list_all (λ cell. not (has_source catalog entries cell)) cells ≡ true → list_all (λ cell. not (is_some (exact_source entries cell))) cells ≡ true
+unserved_all catalog entries [] all = refl
+unserved_all catalog entries (cell ∷ cells) all =
+    let parts = and_parts (not (has_source catalog entries cell)) (list_all (λ c. not (has_source catalog entries c)) cells) all in
+    and_from (not (is_some (exact_source entries cell))) (list_all (λ c. not (is_some (exact_source entries c))) cells) (by (is_some (exact_source entries cell)) refl parts.0) (unserved_all catalog entries cells parts.1)
+  where
+    by : (b : Bool) → is_some (exact_source entries cell) ≡ b → not (has_source catalog entries cell) ≡ true → not (is_some (exact_source entries cell)) ≡ true
+    by true e h = absurd (let none : not (has_source catalog entries cell) ≡ false = rw e refl in cc)
+    by false e h = rw e refl
 
 -- where cells want a source, some cell has none
-pub some_wants : (cache : CacheOf) (cells : List Cell) → (length (wanting cache.entries cells) ≡ 0 → ⊥) → SomeWants cache cells
+pub some_wants : (cache : CacheOf) (cells : List Cell) → (length (wanting cache.setting.catalog cache.entries cells) ≡ 0 → ⊥) → SomeWants cache cells
 some_wants cache [] many = absurd (many refl)
-some_wants cache (cell ∷ cells) many = by (is_some (exact_source cache.entries cell)) refl (some_wants cache cells)
+some_wants cache (cell ∷ cells) many = by (has_source cache.setting.catalog cache.entries cell) refl (some_wants cache cells)
   where
-    by : (b : Bool) → is_some (exact_source cache.entries cell) ≡ b → ((length (wanting cache.entries cells) ≡ 0 → ⊥) → SomeWants cache cells) → SomeWants cache (cell ∷ cells)
+    by : (b : Bool) → has_source cache.setting.catalog cache.entries cell ≡ b → ((length (wanting cache.setting.catalog cache.entries cells) ≡ 0 → ⊥) → SomeWants cache cells) → SomeWants cache (cell ∷ cells)
     by true e rest =
         let later = rest (λ few. many (rw e few)) in
         (later.0, (suc later.1.0, omega (arith, later.1.1), later.1.2), later.2)
-    by false e rest = (cell, (0, omega arith, refl), record { exact = unserved_none (exact_source cache.entries cell) e; rolled = λ loads rolled. rolled })
+    by false e rest = (cell, (0, omega arith, refl), e)

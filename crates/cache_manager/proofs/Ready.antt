@@ -1,25 +1,26 @@
 -- After the loads of a look were delivered, each of its cells has a source.
-use Rattle.std.proofs.Common.{◌≡◌, refl, sym, ◌∙◌, ap, subst, ℕ, zero, suc, ◌+◌, ◌<◌, ◌≤◌, List, [], ◌∷◌, ◌++◌, append_assoc, length, map, filter, Bool, true, false, not, ◌&&◌, ◌||◌, ◌⊎◌, inl, inr, Option, Some, None, is_some, option_map, option_to_list, slice_get, arith, All}
+use Rattle.std.proofs.Common.{◌≡◌, refl, sym, ◌∙◌, ap, subst, ℕ, zero, suc, ◌+◌, ◌<◌, ◌≤◌, List, [], ◌∷◌, ◌++◌, append_assoc, length, map, filter, filter_map, Bool, true, false, not, ◌&&◌, ◌||◌, ◌⊎◌, inl, inr, Option, Some, None, is_some, option_map, slice_get, arith, All}
 use Rattle.std.specs.Prelude.{IsTrue}
 use Rattle.std.specs.List.{list_all, list_any}
 use Rattle.std.proofs.lemmas.Bool.{and_from, and_parts, both_ways, false_from_ne_true, not_from_false, or_cases, or_left, or_right}
 use Rattle.std.proofs.lemmas.List.{append-nil}
-use Rattle.std.proofs.lemmas.List.Elements.{All-cons, All-head, All-nil, All-tail}
+use Rattle.std.proofs.lemmas.List.Elements.{All-cons, All-head, All-nil, All-tail, All-weaker}
 use Rattle.std.proofs.lemmas.List.Folds.{list_any-append}
 use Rattle.std.proofs.lemmas.Option.{slice_get-map}
 use Rattle.olap_meaning.specs.declared.cells.Cell.{Cell}
 use Rattle.olap_meaning.specs.declared.cells.Who.{Who}
 use Rattle.olap_meaning.specs.Covering.{header_covers, just_covers, names_column}
 use Rattle.olap_meaning.specs.History.{Entry, Start, Load, entry_at, evicts, exact_source, flushed_after, flushes, is_some_and, kept, live, load_at, load_covers, load_just_covers}
-use Rattle.olap_meaning.proofs.Loads.{live_on, load_start, some_and, start_load}
+use Rattle.olap_meaning.proofs.Loads.{live_load, live_on, load_start, some_and, start_load}
 use Rattle.olap_meaning.proofs.Positions.{after_passes, entry-append, entry_within, latest_bounds, latest_found}
 use Rattle.history_core.specs.Answers.{HasSource}
 use Rattle.history_core.specs.Cache.{CacheOf}
 use Rattle.history_core.specs.Groups.{alike, firsts, header_for, load_for, loads_for, wanting}
-use Rattle.olap_meaning.specs.Legal.{is_cell}
+use Rattle.olap_meaning.specs.Legal.{has_source, is_cell}
+use Rattle.olap_meaning.specs.Rolled.{IsRolled, IsRolledSource, Offer, has_rolled_source, offered, value_count}
+use Rattle.olap_meaning.proofs.RolledSources.{rolled_decided, rolled_found}
 use Rattle.history_core.specs.Groups.{numbers_from}
 use Rattle.cache_manager.specs.Laws.{DeliveredLooksAreReady}
-use Rattle.cache_manager.proofs.Answering.{source_is}
 use Rattle.cache_manager.proofs.Grouping.{alike_from, alike_self, alike_told, group_covered, kept_place, Alike}
 
 -- a load that serves a cell makes for an exact source
@@ -131,7 +132,7 @@ get_within (y ∷ ys) (suc k) x at = let l = get_within ys k x at in omega (arit
 
 module _ (cache : CacheOf) (who : Who) (cells : List Cell) (later : List Entry) where
   abbrev wanted : List Cell
-  wanted = wanting cache.entries cells
+  wanted = wanting cache.setting.catalog cache.entries cells
 
   abbrev loads : List Load
   loads = loads_for cache who cells
@@ -166,9 +167,9 @@ module _ (cache : CacheOf) (who : Who) (cells : List Cell) (later : List Entry) 
           serves_source final (suc (length cache.entries + k)) cell (load_for cache who wanted first) at_final
           (and_from (kept final (suc (length cache.entries + k)) && load_covers final (suc (length cache.entries + k)) cell) (not (flushed_after final (suc (length cache.entries + k)) cell)) (and_from _ _ delivered wide) (not_from_false _ open_still)) just
 
-  -- a cell that had a source still has one
-  served_still : (cell : Cell) (j : ℕ) → exact_source cache.entries cell ≡ Some j → list_any (flushes cell) later ≡ false → list_any (evicts j) later ≡ false → is_some (exact_source final cell) ≡ true
-  served_still cell j source none stays =
+  -- a cell that had an exact source still has one
+  exact_still : (cell : Cell) (j : ℕ) → exact_source cache.entries cell ≡ Some j → list_any (flushes cell) later ≡ false → list_any (evicts j) later ≡ false → is_some (exact_source final cell) ≡ true
+  exact_still cell j source none stays =
       let found = latest_found (length cache.entries) (λ k. live cache.entries k cell && load_just_covers cache.entries k cell) j source in
       let parts = and_parts (live cache.entries j cell) (load_just_covers cache.entries j cell) found.0 in
       let load : (load : Load) × (load_at cache.entries j ≡ Some load) × (just_covers load.header cell ≡ true) = some_and (λ (l : Load). just_covers l.header cell) (load_at cache.entries j) parts.1 in
@@ -176,25 +177,57 @@ module _ (cache : CacheOf) (who : Who) (cells : List Cell) (later : List Entry) 
       serves_source final j cell load.0 at_final (live_stays cache.entries (map Start loads ++ later) j cell (starts_flush_none cell loads later none) (starts_evict_none j loads later stays) parts.0)
       (ap (is_some_and (λ (l : Load). just_covers l.header cell)) at_final ∙ load.2)
 
+  -- what live loads offer is what they offered
+  offers_stay : (cell : Cell) (js : List ℕ) → All (λ j. live cache.entries j cell ≡ true) js → filter_map (offered final) js ≡ filter_map (offered cache.entries) js
+  offers_stay cell [] lives = refl
+  offers_stay cell (j ∷ js) lives =
+      let load : (load : Load) × (load_at cache.entries j ≡ Some load) × (header_covers load.header cell ≡ true) = live_load cache.entries j cell (All-head (λ i. live cache.entries i cell ≡ true) j js lives) in
+      let at_final : load_at final j ≡ Some load.0 = load_stays cache.entries (map Start loads ++ later) j load.0 load.1 in
+      rw (at_final, load.1) (ap (λ (os : List Offer). record { header = load.0.header; version = load.0.version } ∷ os) (offers_stay cell js (All-tail (λ i. live cache.entries i cell ≡ true) j js lives)))
+
+  -- a cell that had a rolled source still has it
+  rolled_still : (cell : Cell) → has_rolled_source cache.setting.catalog cache.entries cell ≡ true → list_any (flushes cell) later ≡ false → ((j : ℕ) → list_any (evicts j) later ≡ false) → has_rolled_source cache.setting.catalog final cell ≡ true
+  rolled_still cell has none stays =
+      let found = rolled_found cache.setting.catalog cache.entries cell has in
+      let source : IsRolledSource cache.setting.catalog cache.entries cell found.0 = found.1 in
+      rolled_decided cache.setting.catalog final cell found.0
+      (record {
+        lives = All-weaker (λ j. live cache.entries j cell ≡ true) (λ j. live final j cell ≡ true)
+            (λ j lives. live_stays cache.entries (map Start loads ++ later) j cell (starts_flush_none cell loads later none) (starts_evict_none j loads later (stays j)) lives) found.0 source.lives;
+        measure = source.measure;
+        is_measure = source.is_measure;
+        rolled = subst (IsRolled source.measure.aggregator (value_count cache.setting.catalog) cell) (sym (offers_stay cell found.0 source.lives)) source.rolled;
+      })
+
+  -- a cell that had a source still has one
+  served_still : (cell : Cell) → has_source cache.setting.catalog cache.entries cell ≡ true → list_any (flushes cell) later ≡ false → ((j : ℕ) → list_any (evicts j) later ≡ false) → has_source cache.setting.catalog final cell ≡ true
+  served_still cell has none stays = by (exact_source cache.entries cell) refl
+    where
+      by : (o : Option ℕ) → exact_source cache.entries cell ≡ o → has_source cache.setting.catalog final cell ≡ true
+      by (Some j) e = or_left (is_some (exact_source final cell)) (has_rolled_source cache.setting.catalog final cell) (exact_still cell j e none (stays j))
+      by None e = or_right (is_some (exact_source final cell)) (has_rolled_source cache.setting.catalog final cell) (rolled_still cell (rw e at has) none stays)
+
   -- each cell, with its place among all
   all_sourced :
-      (some : List Cell) → ((i : ℕ) (cell : Cell) → slice_get some i ≡ Some cell → is_some (exact_source cache.entries cell) ≡ false → (k : ℕ) × (slice_get wanted k ≡ Some cell))
+      (some : List Cell) → ((i : ℕ) (cell : Cell) → slice_get some i ≡ Some cell → has_source cache.setting.catalog cache.entries cell ≡ false → (k : ℕ) × (slice_get wanted k ≡ Some cell))
       → list_all (is_cell cache.setting.catalog) some ≡ true → All (λ cell. list_any (flushes cell) later ≡ false) some → ((j : ℕ) → list_any (evicts j) later ≡ false) → All (λ j. IsTrue (kept final j)) (numbers_from (length cache.entries + 1) (length loads))
       → All (HasSource (record { setting = cache.setting; entries = final })) some
   all_sourced [] places known none stays all = All-nil _
   all_sourced (cell ∷ others) places known none stays all =
       All-cons (HasSource (record { setting = cache.setting; entries = final })) cell others
-      (option_to_list (exact_source final cell), source_is cache.setting.catalog final cell (by (exact_source cache.entries cell) refl))
+      (by (has_source cache.setting.catalog cache.entries cell) refl)
       (all_sourced others (λ i c at unserved. places (suc i) c at unserved) (and_parts _ _ known).1 (All-tail (λ c. list_any (flushes c) later ≡ false) cell others none) stays all)
     where
       unflushed : list_any (flushes cell) later ≡ false
       unflushed = All-head (λ c. list_any (flushes c) later ≡ false) cell others none
 
-      by : (o : Option ℕ) → exact_source cache.entries cell ≡ o → is_some (exact_source final cell) ≡ true
-      by (Some j) e = served_still cell j e unflushed (stays j)
-      by None e = let place = places 0 cell refl (ap is_some e) in wanted_served place.0 cell (and_parts _ _ known).0 place.1 unflushed all
+      by : (b : Bool) → has_source cache.setting.catalog cache.entries cell ≡ b → has_source cache.setting.catalog final cell ≡ true
+      by true e = served_still cell e unflushed stays
+      by false e =
+          let place = places 0 cell refl e in
+          or_left (is_some (exact_source final cell)) (has_rolled_source cache.setting.catalog final cell) (wanted_served place.0 cell (and_parts _ _ known).0 place.1 unflushed all)
 
 pub delivered_looks_are_ready : DeliveredLooksAreReady
 delivered_looks_are_ready cache who cells later known none stays all =
     all_sourced cache who cells later cells
-    (λ i cell at unserved. kept_place (λ c. not (is_some (exact_source cache.entries c))) cells i cell at (not_from_false _ unserved)) known none stays all
+    (λ i cell at unserved. kept_place (λ c. not (has_source cache.setting.catalog cache.entries c)) cells i cell at (not_from_false _ unserved)) known none stays all

@@ -1,5 +1,5 @@
 -- The kept load that serves a cell is its exact source.
-use Rattle.std.proofs.Common.{◌≡◌, refl, sym, ◌∙◌, ap, ℕ, zero, suc, ◌≤◌, List, [], ◌∷◌, length, map, Bool, true, false, cond, not, ◌&&◌, ◌==◌, inl, inr, Option, Some, None, slice_get, option_map, option_and_then, option_to_list, arith, le_antisymm, All}
+use Rattle.std.proofs.Common.{◌≡◌, refl, sym, ◌∙◌, ap, ℕ, zero, suc, ◌≤◌, List, [], ◌∷◌, length, map, Bool, true, false, cond, not, ◌&&◌, ◌==◌, inl, inr, Option, Some, None, option_map, arith, le_antisymm, All}
 use Rattle.std.specs.Prelude.{IfSome, option_copied}
 use Rattle.std.specs.Borrow.{Bor}
 use Rattle.std.specs.List.{list_all, list_any}
@@ -9,14 +9,13 @@ use Rattle.olap_meaning.specs.declared.cells.Cell.{Cell}
 use Rattle.olap_meaning.specs.declared.cells.Header.{Header}
 use Rattle.olap_meaning.specs.declared.tables.Catalog.{Catalog}
 use Rattle.olap_meaning.specs.Covering.{among, header_covers, just_covers, names_column, region_covers}
-use Rattle.olap_meaning.specs.History.{Entry, Load, exact_source, flushed_after, is_some_and, kept, latest, live, load_at, load_covers, load_just_covers, load_version}
-use Rattle.olap_meaning.specs.Worth.{value, worth}
+use Rattle.olap_meaning.specs.History.{Entry, Load, exact_source, flushed_after, is_some_and, kept, latest, live, load_at, load_covers, load_just_covers}
+use Rattle.olap_meaning.specs.Worth.{answered_version, value, worth}
 use Rattle.olap_meaning.proofs.Loads.{live_parts, some_and}
 use Rattle.olap_meaning.proofs.Positions.{latest_bounds, latest_found}
 use Rattle.olap_meaning.proofs.Shutting.{regions_shut_off}
 use Rattle.segment_load.specs.Loads.{body_value}
 use Rattle.segment_load.proofs.LawFacts.{held_rows_are_worth_in_versions}
-use Rattle.history_core.specs.Answers.{source_of}
 use Rattle.cache_flush.specs.declared.kept.Kept.{Kept}
 use Rattle.cache_flush.specs.Loads as of_loads
 use Rattle.cache_flush.specs.Loads.{IsGreatest, KeptOf, kept_of}
@@ -54,7 +53,7 @@ module _ (catalog : Catalog) (entries : List Entry) (cell : Cell) where
   serves j = live entries j cell && load_just_covers entries j cell
 
   -- what shuts off part of a kept load tells the flushes since its Start
-  flushed_told : (k : KeptOf) (is : IsKept catalog entries k) → header_covers is.load.header cell ≡ true → flushed_after entries k.load cell ≡ list_any (λ region. region_covers region cell) k.shut
+  pub flushed_told : (k : KeptOf) (is : IsKept catalog entries k) → header_covers is.load.header cell ≡ true → flushed_after entries k.load cell ≡ list_any (λ region. region_covers region cell) k.shut
   flushed_told k is wide = regions_shut_off entries k.load is.load cell is.started wide ∙ ap (list_any (λ region. region_covers region cell)) (sym is.shut)
 
   wide_told : (header : Header) → just_covers header cell ≡ true → header_covers header cell ≡ true
@@ -122,13 +121,14 @@ pub found_serves : (held : List KeptOf) (cell : Cell) (r : Option (Bor Kept)) �
 found_serves held cell None g = tt
 found_serves held cell (Some b) g = (and_parts (just_covers b.now.body.header cell) (is_live b.now.shut.regions cell) g.1).0
 
--- what a cell is worth, by the body of its source
+-- what a cell is worth, by the body of its exact source, and in which version
+pub kept_version : (catalog : Catalog) (entries : List Entry) (k : KeptOf) (cell : Cell) → IsKept catalog entries k → answered_version entries (record { cell = cell; loads = k.load ∷ [] }) ≡ Some k.version
+kept_version catalog entries k cell is = ap (option_map (λ (load : Load). load.version)) is.started ∙ ap Some (sym is.version)
+
 pub kept_worth :
-    (catalog : Catalog) (entries : List Entry) (k : KeptOf) (cell : Cell) → IsKept catalog entries k → just_covers k.body.header cell ≡ true → exact_source entries cell ≡ Some k.load
-    → worth catalog entries (source_of entries cell) ≡ Some (body_value k.body cell)
-kept_worth catalog entries k cell is covers source =
-    let version : load_version entries k.load ≡ Some is.load.version = ap (option_map (λ (load : Load). load.version)) is.started in
+    (catalog : Catalog) (entries : List Entry) (k : KeptOf) (cell : Cell) → IsKept catalog entries k → just_covers k.body.header cell ≡ true
+    → worth catalog entries (record { cell = cell; loads = k.load ∷ [] }) ≡ Some (body_value k.body cell)
+kept_worth catalog entries k cell is covers =
     let here : just_covers is.load.header cell ≡ true = ap (λ (h : Header). just_covers h cell) (sym (kept_header catalog entries k is)) ∙ covers in
-    ap (λ (o : Option ℕ). option_map (value catalog entries cell) (option_and_then (load_version entries) (slice_get (option_to_list o) 0))) source
-    ∙ ap (option_map (value catalog entries cell)) version
+    ap (option_map (value catalog entries cell)) (kept_version catalog entries k cell is ∙ ap Some is.version)
     ∙ ap Some (sym (held_rows_are_worth_in_versions catalog entries is.load.header is.load.version k.body cell is.formed here is.holds))

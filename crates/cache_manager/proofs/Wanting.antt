@@ -51,7 +51,7 @@ module _ (setting : Setting) (history : List Entry) (who : Who) (wanted : List C
     rising = ap rise (group_columns setting.catalog cell (filter (alike cell) wanted)) ∙ known_rises setting.catalog cell known;
     covers = covers_self cell known has;
     present = sym (versions cell.cube);
-    needed = record { exact = free.0; rolled = λ loads rolled. rolled };
+    needed = free.0;
     unawaited = free.1;
   }
 

@@ -1,5 +1,6 @@
 -- What a manager keeps beside its history, and what that means in the history.
 use Rattle.std.specs.Prelude.{ℕ, ◌≡◌, ◌≤◌, List, All, IsTrue, Some, filter_map, length, map}
+use Rattle.olap_meaning.specs.declared.TheConstants.{ROW_LIMIT}
 use Rattle.olap_meaning.specs.declared.cells.Header.{Header}
 use Rattle.olap_meaning.specs.declared.tables.Catalog.{Catalog}
 use Rattle.olap_meaning.specs.declared.tables.Setting.{Setting}
@@ -14,12 +15,12 @@ use Rattle.cache_flush.specs.Loads as kept
 use Rattle.cache_flush.specs.Loads.{KeptOf}
 use Rattle.cache_flush.specs.Flights as flight
 use Rattle.cache_flush.specs.Flights.{FlightOf}
-use Rattle.segment_index.specs.Index as index
-use Rattle.segment_index.specs.Index.{IndexOf}
 
--- the facts are those that the history has appended to each cube, and each batch is one of its cube
+-- the facts are those that the history has appended to each cube, each batch is one of its cube, and the limit of rows is
+-- no greater than may be
 pub record AreFactsOf (setting : Setting) (entries : List Entry) (facts : FactsOf) : Type 0 where
   pub limit : facts.limit ≡ setting.row_limit
+  pub limit_fits : setting.row_limit ≤ ROW_LIMIT
   pub cubes : length facts.cubes ≡ length setting.catalog.cubes
   pub held : rows_held facts ≡ legal.rows_held entries
   pub each : (cube : ℕ)
@@ -48,14 +49,6 @@ pub record IsFlight (entries : List Entry) (flight : FlightOf) : Type 0 where
   pub header : flight.header ≡ load.header
   pub version : flight.version ≡ load.version
   pub shut : flight.shut ≡ shutting entries flight.load
-
--- a shelf has a place for a load of each of these headers
-abbrev pub has_places : IndexOf → List Header → Type 0
-has_places shelf headers = index.has_places shelf headers
-
--- a shelf has room for one region more in what shuts off part of each load
-abbrev pub has_rooms : IndexOf → Type 0
-has_rooms shelf = index.has_rooms shelf
 
 -- the headers of loads in flight
 abbrev pub headers_of : List FlightOf → List Header

@@ -5,3 +5,5 @@ pub mod Plans
 pub mod Laws
 pub mod Runs
 pub mod Lent
+pub mod Rollups
+pub mod Found

@@ -17,7 +17,7 @@ use Rattle.cache_manager.specs.declared.calls.Call.{Call}
 use Rattle.cache_manager.specs.declared.calls.Call.TheVariants.{Append, Look, Deliver, Abandon, Flush, Show}
 use Rattle.cache_manager.specs.declared.calls.Reply.{Reply}
 use Rattle.cache_manager.specs.declared.calls.Reply.TheVariants.{Appended, Refused, Ready, Loading, Busy, Ended, NoJob, Flushed, Shown, OutOfMemory}
-use Rattle.history_core.specs.Answers.{HasSource, IsAnswer, SomeWants, source_of}
+use Rattle.history_core.specs.Answers.{HasSource, IsAnswer, SomeWants}
 use Rattle.history_core.specs.Cache.{CacheOf}
 use Rattle.history_core.specs.Arrivals.{arrival_in}
 use Rattle.history_core.specs.Groups.{loads_for}
@@ -65,7 +65,7 @@ added stage (Append seat cube batch) (Appended appended) =
     history.Append (who_calls stage seat) cube
     (version stage.cache.entries cube + 1) batch.rows ∷ []
 added stage (Look seat cells) (Ready answer) =
-    history.Answer (who_calls stage seat) (map (source_of stage.cache.entries) cells) ∷ []
+    history.Answer (who_calls stage seat) answer.sources.value ∷ []
 added stage (Look seat cells) Loading =
     map history.Start (loads_for stage.cache (who_calls stage seat) cells)
 added stage (Deliver job) Ended = ending history.Done stage job

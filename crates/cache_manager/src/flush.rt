@@ -6,7 +6,7 @@ ghost use Rattle.olap_meaning.specs.Legal.{LegalStep};
 ghost use Rattle.cache_flush.specs.Handles.{AreHandles};
 ghost use Rattle.cache_flush.specs.Loads as of_loads;
 ghost use Rattle.cache_flush.specs.Flights as of_flights;
-ghost use Rattle.cache_manager.specs.Kept.{has_places, has_rooms};
+ghost use Rattle.segment_index.specs.Index.{has_places, has_rooms};
 
 use crate::look::sum;
 use cache_flush::{CacheShelf, Flights};

@@ -25,7 +25,7 @@ fn have_same_columns(one: &[(ColumnId, ValueId)], other: &[(ColumnId, ValueId)])
 }
 
 /// Whether two cells may share a load: they have one cube, one measure and the same columns.
-fn are_alike(one: &Cell, other: &Cell) -> bool
+pub(crate) fn are_alike(one: &Cell, other: &Cell) -> bool
     ensures { result ≡ groups.alike one.now other.now }
 {
     one.cube == other.cube

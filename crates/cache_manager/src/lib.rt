@@ -5,13 +5,16 @@
 //! does; other forms of these may take their place under the same contracts.
 #![tactic(auto)]
 
+mod answers;
 mod calls;
+mod findings;
 mod flush;
 mod groups;
 pub mod laws;
 mod look;
 mod manager;
 mod outcome;
+mod rollups;
 mod shared;
 mod show;
 mod starts;

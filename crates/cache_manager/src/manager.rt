@@ -36,7 +36,8 @@ pub struct Manager {
 
 impl Model for Manager {
     ghost use Rattle.history_core.specs.Cache.{CacheOf};
-    ghost use Rattle.cache_manager.specs.Kept.{IsManager, has_places};
+    ghost use Rattle.segment_index.specs.Index.{has_places};
+    ghost use Rattle.cache_manager.specs.Kept.{IsManager};
 
     ghost Value = { CacheOf };
 

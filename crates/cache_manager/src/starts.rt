@@ -4,7 +4,7 @@ ghost use Rattle.std.specs.Vec.{vec_len, vec_capacity};
 ghost use Rattle.olap_meaning.specs.declared.cells.Header.{Header};
 ghost use Rattle.history_core.specs.Entries.{entry_of};
 ghost use Rattle.cache_flush.specs.Flights.{numbers_of};
-ghost use Rattle.cache_manager.specs.Kept.{has_places};
+ghost use Rattle.segment_index.specs.Index.{has_places};
 ghost use Rattle.cache_manager.specs.Plans.{AreLegalSteps, AreNew, flight_for};
 
 use cache_flush::{CacheShelf, Flights};

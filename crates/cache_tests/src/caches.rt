@@ -9,7 +9,7 @@ deliver => 3 entries, idle
 look 1/2 0:0=0 => answer 4: Whole(15) of 1
 look 1/3 0:0=0 => answer 5: Whole(15) of 1
 entry 1 => append 1/1: cube 0, version 1, rows 4
-entry 2 => start 1/2: measure 0, version 1, for 1 columns
+entry 2 => start 1/2: cube 0, measure 0, version 1, columns 1, for 1
 entry 3 => done 1/2: load 2
 entry 4 => answer 1/2: cells 1
 entry 5 => answer 1/3: cells 1
@@ -29,9 +29,9 @@ look 2/1 0:0=0 => load 4 of measure 0 by 0=0, 4 rows;
 deliver => 5 entries, idle
 look 2/1 0:0=0 => answer 6: Whole(15) of 1
 entry 1 => append 1/1: cube 0, version 1, rows 4
-entry 2 => start 1/2: measure 0, version 1, for 1 columns
+entry 2 => start 1/2: cube 0, measure 0, version 1, columns 1, for 1
 entry 3 => drop 1/2: load 2
-entry 4 => start 2/1: measure 0, version 1, for 1 columns
+entry 4 => start 2/1: cube 0, measure 0, version 1, columns 1, for 1
 entry 5 => done 2/1: load 4
 entry 6 => answer 2/1: cells 1
 entry 7 => nothing
@@ -52,11 +52,11 @@ look 1/3 0:0=0,1=0 => load 6 of measure 0 by 0=0 by 1=0, 5 rows;
 deliver => 7 entries, idle
 look 1/3 0:0=0,1=0 0:0=0 => answer 8: Whole(112) of 2 Whole(15) of 1
 entry 1 => append 1/1: cube 0, version 1, rows 4
-entry 2 => start 1/2: measure 0, version 1, for 1 columns
+entry 2 => start 1/2: cube 0, measure 0, version 1, columns 1, for 1
 entry 3 => append 2/1: cube 0, version 2, rows 1
 entry 4 => done 1/2: load 2
 entry 5 => answer 1/2: cells 1
-entry 6 => start 1/3: measure 0, version 2, for 2 columns
+entry 6 => start 1/3: cube 0, measure 0, version 2, columns 2, for 2
 entry 7 => done 1/3: load 6
 entry 8 => answer 1/3: cells 2
 entry 9 => nothing
@@ -74,8 +74,8 @@ deliver => 4 entries, busy
 deliver => 5 entries, idle
 look 1/2 0:0=1 1:0=1 0:0=0 => answer 6: Empty of 1 Whole(0) of 1 Whole(15) of 1
 entry 1 => append 1/1: cube 0, version 1, rows 4
-entry 2 => start 1/2: measure 0, version 1, for 1 columns
-entry 3 => start 1/2: measure 1, version 1, for 1 columns
+entry 2 => start 1/2: cube 0, measure 0, version 1, columns 1, for 1
+entry 3 => start 1/2: cube 0, measure 1, version 1, columns 1, for 1
 entry 4 => done 1/2: load 2
 entry 5 => done 1/2: load 3
 entry 6 => answer 1/2: cells 3
@@ -96,7 +96,7 @@ present => version 2 of 5 rows
 look 1/3 0:0=0 => load 3 of measure 0 by 0=0, 5 rows;
 entry 1 => append 1/1: cube 0, version 1, rows 4
 entry 2 => append 1/2: cube 0, version 2, rows 1
-entry 3 => start 1/3: measure 0, version 2, for 1 columns
+entry 3 => start 1/3: cube 0, measure 0, version 2, columns 1, for 1
 entry 4 => nothing
 ";
 

@@ -13,10 +13,10 @@ look 1/2 0:0=0,1=0 0:0=0,1=1 => load 5 of measure 0 by 0=0 by 1=0, 4 rows;
 deliver => 6 entries, idle
 look 1/2 0:0=0,1=0 0:0=0,1=1 => answer 7: Whole(12) of 1 Whole(3) of 1
 show 2/2 => view 8: load 2 of version 1 of measure 0 by 0=0 by 1=0=1, 1 flushes; load 5 of version 1 of measure 0 by 0=0 by 1=0, 0 flushes;
-entry 2 => start 1/2: measure 0, version 1, for 2 columns
+entry 2 => start 1/2: cube 0, measure 0, version 1, columns 2, for 2
 entry 3 => flush 2/1: cube 0, boxes 1
 entry 4 => done 1/2: load 2
-entry 5 => start 1/2: measure 0, version 1, for 2 columns
+entry 5 => start 1/2: cube 0, measure 0, version 1, columns 2, for 2
 entry 8 => saw 2/2
 ";
 

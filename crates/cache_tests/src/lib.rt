@@ -8,4 +8,6 @@ mod drawn;
 #[cfg(test)]
 mod flushes;
 #[cfg(test)]
+mod rolled;
+#[cfg(test)]
 mod runs;

@@ -1,5 +1,5 @@
 -- Which loads some cells lack.
-use Rattle.std.specs.Prelude.{ℕ, zero, suc, List, [], ◌∷◌, ◌++◌, Bool, not, ◌&&◌, ◌==◌, Option, if◌then◌else◌, bytes_eq, filter, is_some, length, map, option_map}
+use Rattle.std.specs.Prelude.{ℕ, zero, suc, List, [], ◌∷◌, ◌++◌, Bool, not, ◌&&◌, ◌==◌, Option, if◌then◌else◌, bytes_eq, filter, length, map, option_map}
 use Rattle.std.specs.List.{find, list_any}
 use Rattle.olap_meaning.specs.declared.cells.Allowed.TheVariants.{Set}
 use Rattle.olap_meaning.specs.declared.cells.Cell.{Cell}
@@ -7,7 +7,8 @@ use Rattle.olap_meaning.specs.declared.cells.Header.{Header}
 use Rattle.olap_meaning.specs.declared.cells.Who.{Who}
 use Rattle.olap_meaning.specs.declared.tables.Catalog.{Catalog}
 use Rattle.olap_meaning.specs.Catalog.{values}
-use Rattle.olap_meaning.specs.History.{Entry, Load, exact_source, is_some_and, version}
+use Rattle.olap_meaning.specs.History.{Entry, Load, is_some_and, version}
+use Rattle.olap_meaning.specs.Legal.{has_source}
 use Rattle.history_core.specs.Cache.{CacheOf}
 
 -- so many numbers, from one on
@@ -15,9 +16,9 @@ abbrev pub numbers_from : ℕ → ℕ → List ℕ
 numbers_from first zero = []
 numbers_from first (suc count) = first ∷ numbers_from (suc first) count
 
--- the cells that have no source, in order
-abbrev pub wanting : List Entry → List Cell → List Cell
-wanting history cells = filter (λ cell. not (is_some (exact_source history cell))) cells
+-- the cells that have no source, exact or rolled, in order
+abbrev pub wanting : Catalog → List Entry → List Cell → List Cell
+wanting catalog history cells = filter (λ cell. not (has_source catalog history cell)) cells
 
 -- the columns of a cell
 abbrev pub columns_of : Cell → List ℕ
@@ -75,4 +76,5 @@ load_for cache who wanted first =
 -- the loads that a look starts for some cells: one for each group of those that have no source
 abbrev pub loads_for : CacheOf → Who → List Cell → List Load
 loads_for cache who cells =
-    map (load_for cache who (wanting cache.entries cells)) (firsts [] (wanting cache.entries cells))
+    let wanted = wanting cache.setting.catalog cache.entries cells in
+    map (load_for cache who wanted) (firsts [] wanted)

@@ -1,5 +1,6 @@
 pub mod Cache
 pub mod Answers
+pub mod CellSources
 pub mod Entries
 pub mod History
 pub mod Laws

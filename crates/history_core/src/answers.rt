@@ -2,7 +2,9 @@
 ghost use Rattle.std.specs.Prelude.{◌<◌};
 ghost use Rattle.olap_meaning.specs.Texts.{CanBeShown};
 
+use crate::cell_sources::CellSources;
 use olap_meaning::{CellValue, Header, List, Version};
+use std::sync::Arc;
 
 /// What a cell is worth, and in which version of its cube. Each value that is answered can be shown.
 #[derive(Clone, Copy, Debug, PartialEq, Eq)]
@@ -12,11 +14,13 @@ pub struct Answered {
     pub ghost shown: { CanBeShown value },
 }
 
-/// The answer to some cells, in their order, and the position of its entry. Positions count from 1.
+/// The answer to some cells, in their order: the position of its entry, what each cell is worth, and which loads it was
+/// taken from, which the entry shares. Positions count from 1.
 #[derive(Drop)]
 pub struct Answer {
     pub position: u64,
     pub cells: List<Answered>,
+    pub sources: Arc<CellSources>,
     pub ghost first: { 0 < position },
 }
 

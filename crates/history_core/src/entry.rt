@@ -1,6 +1,7 @@
 //! Entries of a history.
+use crate::cell_sources::CellSources;
 use fact_versions::Batch;
-use olap_meaning::{Cell, CellSource, CubeId, Header, List, Region, Version, Who};
+use olap_meaning::{Cell, CubeId, Header, Region, Version, Who};
 use std::sync::Arc;
 
 /// One event of the cache. A load is named by the position of its Start.
@@ -48,7 +49,7 @@ pub enum Entry {
     /// A call is answered, each cell from some loads.
     Answer {
         who: Who,
-        cells: List<CellSource>,
+        cells: Arc<CellSources>,
     },
     /// A call is shown what is kept.
     Saw {

@@ -3,12 +3,18 @@
 #![tactic(auto)]
 
 mod answers;
+mod cell_sources;
 mod cells;
 mod entry;
 mod history;
+mod kinds;
+mod load_lists;
+mod numbers;
+mod register;
 mod shared;
 
 pub use answers::{AggBuilt, Answer, Answered, Appended, CacheLine, CacheView, NotYet};
+pub use cell_sources::CellSources;
 pub use cells::is_cell;
 pub use entry::Entry;
 pub use history::History;

@@ -1,80 +1,17 @@
 //! What is read back of a history.
 use history_core::Entry;
 use olap_meaning::CubeId;
-use std::alloc::{AllocError, Global};
 use std::test::Fail;
 use test_plays::small::{empty_history, small_history};
-
-// An entry in words: its kind, its call, and its numbers.
-fn told(alloc: Global, entry: Option<&Entry>) -> Result<String, AllocError> {
-    match entry {
-        None => format!(in alloc; "nothing"),
-        Some(
-            Entry::Append {
-                who,
-                cube,
-                version,
-                batch,
-            },
-        ) => format!(in alloc;
-            "append {}/{}: cube {}, version {}, rows {}",
-            who.seat,
-            who.call,
-            cube.0,
-            version.0,
-            batch.len()
-        ),
-        Some(
-            Entry::Start {
-                who,
-                header,
-                version,
-                reason,
-            },
-        ) => format!(in alloc;
-            "start {}/{}: cube {}, version {}, columns {}, for {}",
-            who.seat,
-            who.call,
-            header.cube.0,
-            version.0,
-            header.columns.len(),
-            reason.at.len()
-        ),
-        Some(
-            Entry::Agg {
-                who,
-                table,
-                version,
-            },
-        ) => format!(in alloc;
-            "aggregate {}/{}: table {table}, version {}",
-            who.seat, who.call, version.0
-        ),
-        Some(Entry::Flush { who, region }) => format!(in alloc;
-            "flush {}/{}: cube {}, boxes {}",
-            who.seat,
-            who.call,
-            region.cube.0,
-            region.boxes.len()
-        ),
-        Some(Entry::Done { who, load }) => {
-            format!(in alloc; "done {}/{}: load {load}", who.seat, who.call)
-        }
-        Some(Entry::Drop { who, load }) => {
-            format!(in alloc; "drop {}/{}: load {load}", who.seat, who.call)
-        }
-        Some(Entry::Evict { load }) => format!(in alloc; "evict: load {load}"),
-        Some(Entry::Answer { who, cells }) => {
-            format!(in alloc; "answer {}/{}: cells {}", who.seat, who.call, cells.len())
-        }
-        Some(Entry::Saw { who }) => format!(in alloc; "saw {}/{}", who.seat, who.call),
-    }
-}
+use test_plays::told::told_entry;
 
 const ENTRIES: [(u64, &str); 7] = [
     (0, "nothing"),
     (1, "append 3/1: cube 0, version 1, rows 1"),
-    (2, "start 3/2: cube 0, version 1, columns 0, for 0"),
+    (
+        2,
+        "start 3/2: cube 0, measure 0, version 1, columns 0, for 0",
+    ),
     (3, "done 3/2: load 2"),
     (4, "answer 3/2: cells 1"),
     (5, "nothing"),
@@ -86,7 +23,7 @@ fn entries_are_read_back_by_their_positions(rt: HostRuntime) -> Result<(), Fail>
     let alloc = rt.alloc();
     let history = small_history(alloc)?;
     for (position, want) in &ENTRIES {
-        let text = told(alloc, history.entry(*position))?;
+        let text = told_entry(alloc, history.entry(*position))?;
         assert_eq!(rt; text.as_str(), *want);
     }
     assert_eq!(rt; history.len(), 4);
@@ -100,7 +37,8 @@ fn an_answer_names_its_loads(rt: HostRuntime) -> Result<(), Fail> {
     let Some(Entry::Answer { who: _, cells }) = history.entry(4) else {
         return Err(Fail::from("no answer"));
     };
-    for source in cells.as_slice() {
+    assert!(rt; cells.loads_at(0) == Some([2].as_slice()));
+    for source in cells.to_list(rt.alloc())?.as_slice() {
         assert_eq!(rt; source.cell.cube, CubeId(0));
         assert_eq!(rt; source.loads.as_slice(), [2].as_slice());
     }
@@ -124,6 +62,8 @@ fn the_laws_cost_nothing(rt: HostRuntime) -> Result<(), Fail> {
     let history = small_history(rt.alloc())?;
     history.steps_are_legal();
     history.answers_are_fresh();
+    history.flushes_are_heeded();
+    history.flushes_last();
     history.answers_are_served();
     history.versions_rise();
     history.calls_rise();

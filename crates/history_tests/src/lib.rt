@@ -3,6 +3,10 @@
 #![tactic(auto)]
 
 #[cfg(test)]
+mod cell_sources;
+#[cfg(test)]
 mod histories;
 #[cfg(test)]
 mod plain;
+#[cfg(test)]
+mod sources;

@@ -32,7 +32,7 @@ pub struct Counts {
 }
 
 // A number below another, drawn by a linear congruential generator.
-fn below(state: &mut u64, n: u32) -> u32
+pub(crate) fn below(state: &mut u64, n: u32) -> u32
     requires { 0 < n }
     ensures { result < n }
 {
@@ -43,7 +43,7 @@ fn below(state: &mut u64, n: u32) -> u32
 }
 
 // One of the sets of columns.
-fn drawn_set(state: &mut u64) -> &'static [u16] {
+pub(crate) fn drawn_set(state: &mut u64) -> &'static [u16] {
     SETS[below(state, 10) as usize]
 }
 
@@ -63,7 +63,7 @@ fn drawn_columns(alloc: Global, state: &mut u64) -> Result<Vec<Only>, Fail> {
 }
 
 // Columns, each with a value.
-fn drawn_at(alloc: Global, state: &mut u64) -> Result<Vec<(u16, u32)>, Fail> {
+pub(crate) fn drawn_at(alloc: Global, state: &mut u64) -> Result<Vec<(u16, u32)>, Fail> {
     let mut at = Vec::new(alloc);
     for column in drawn_set(state) {
         at.push((*column, below(state, 6)))?;

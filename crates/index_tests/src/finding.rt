@@ -69,6 +69,30 @@ fn a_load_is_live_for_a_cell_and_shut_off_for_the_next(rt: HostRuntime) -> Resul
     Ok(())
 }
 
+const NAMED: [Step; 13] = [
+    Keep(1, (0, 0), &[(0, None)]),
+    Keep(2, (0, 0), &[(0, None), (1, None)]),
+    Keep(3, (0, 0), &[(1, None)]),
+    Shut(0, &[(0, 1)]),
+    Shut(0, &[(0, 2)]),
+    // Both regions name the column 0: a cell that has another value there is live, and one that lacks it is not.
+    Find((0, 0), &[(0, 3)], Some(1)),
+    Find((0, 0), &[(0, 2)], None),
+    Find((0, 0), &[(1, 5)], None),
+    Shut(0, &[(1, 4)]),
+    // The third names the column 1 alone.
+    Find((0, 0), &[(0, 3)], None),
+    Find((0, 0), &[(0, 3), (1, 4)], None),
+    Find((0, 0), &[(0, 3), (1, 5)], Some(2)),
+    Find((0, 0), &[(0, 2), (1, 5)], None),
+];
+
+#[test]
+fn a_cell_is_live_beside_what_each_region_names(rt: HostRuntime) -> Result<(), Fail> {
+    assert_eq!(rt; play_both(rt.alloc(), &NAMED)?, [None, None]);
+    Ok(())
+}
+
 const TOTALS: [Step; 13] = [
     Keep(1, (0, 0), &[(0, None)]),
     Keep(2, (0, 1), &[(0, None)]),

@@ -11,4 +11,5 @@ pub mod made;
 pub mod many;
 #[cfg(test)]
 mod promises;
+pub mod shuts;
 pub mod steps;

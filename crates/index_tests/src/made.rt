@@ -57,8 +57,8 @@ pub fn cell_of(alloc: Global, of: Measure, at: &[(u16, u32)]) -> Result<Cell, Ou
     })
 }
 
-// The box of all measures, and of one value on each of some columns.
-fn box_of(alloc: Global, at: &[(u16, u32)]) -> Result<RegionBox, OutOfMemory> {
+/// The box of all measures, and of one value on each of some columns.
+pub(crate) fn box_of(alloc: Global, at: &[(u16, u32)]) -> Result<RegionBox, OutOfMemory> {
     let mut columns = List::new(alloc);
     for (column, value) in at {
         let mut values = List::new(alloc);

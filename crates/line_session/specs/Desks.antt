@@ -12,7 +12,7 @@ use Rattle.olap_meaning.specs.Worth.{load_rows}
 use Rattle.fact_versions.specs.Facts.{append_fault}
 use Rattle.fact_versions.specs.declared.faults.AppendFault.{AppendFault}
 use Rattle.fact_versions.specs.declared.faults.AppendFault.TheVariants as fault
-use Rattle.history_core.specs.Answers.{IsAnswer, source_of}
+use Rattle.history_core.specs.Answers.{IsAnswer}
 use Rattle.history_core.specs.Arrivals.{arrival_in}
 use Rattle.history_core.specs.Cache.{CacheOf}
 use Rattle.history_core.specs.Groups.{loads_for, numbers_from}
@@ -145,14 +145,13 @@ AreLoadsEnded cache who cells more =
     × (more ≡ map Start (loads_for cache who cells) ++ ends))
 
 -- cells were answered: the loads that they lack, each delivered, and then, as the last entry, the answer to the cells
--- at that time; no load of the seat flies. A desk alone starts the loads of one look, and none where each cell has a
--- source
+-- at that time, with the sources that it tells; no load of the seat flies. A desk alone starts the loads of one look, and
+-- none where each cell has a source
 pub record HasAsked (before after : DeskOf) (cells : List Cell) (answer : Answer) : Type 0 where
   pub who : Who
   pub own : who.seat ≡ before.seat
   pub more : List Entry
-  pub adds : AddsCall before after more
-      (history.Answer who (map (source_of (with_more before.cache more).entries) cells))
+  pub adds : AddsCall before after more (history.Answer who answer.sources.value)
   pub loads : AreLoadsFor before.cache who cells more
   pub delivered : list_all is_start_or_done (entries_of more before.seat) ≡ true
   pub alone : before.alone ≡ true → more ≡ loads_delivered before.cache who cells

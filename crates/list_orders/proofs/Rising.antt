@@ -6,7 +6,7 @@ use Rattle.std.proofs.lemmas.Bool.{and_from, and_parts, cases_Bool}
 use Rattle.std.proofs.lemmas.Bool.Decides.{nat_tests}
 use Rattle.olap_meaning.specs.Covering.{among}
 use Rattle.olap_meaning.specs.Legal.{rise}
-use Rattle.list_orders.proofs.Members.{any_member, in_first, in_rest}
+use Rattle.olap_meaning.proofs.Members.{any_member, in_first, in_rest}
 
 lt_true : (a b : ℕ) → nat_lt a b ≡ true → a < b
 lt_true a b h = grind (arith, nat_tests)

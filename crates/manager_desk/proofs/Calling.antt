@@ -17,7 +17,6 @@ use Rattle.history_core.specs.declared.answers.Answer.{Answer as Told}
 use Rattle.history_core.specs.declared.answers.Appended.{Appended}
 use Rattle.history_core.specs.declared.answers.CacheView.{CacheView}
 use Rattle.history_core.specs.Arrivals.{arrival_in}
-use Rattle.history_core.specs.Answers.{source_of}
 use Rattle.history_core.specs.Cache.{CacheOf}
 use Rattle.history_core.specs.Groups.{loads_for}
 use Rattle.history_core.specs.Seats.{NoneFlies, is_of_seat, entries_of}
@@ -67,7 +66,7 @@ module _ (before : CacheOf) (who : Who) (cells : List Cell) where
         who = who;
         own = seat;
         more = loads_delivered before who cells;
-        adds = adds_call before after (loads_delivered before who cells) (Answer who (map (source_of (before.entries ++ loads_delivered before who cells)) cells)) adds.setting adds.entries own (eq-eqb who.seat 1 seat);
+        adds = adds_call before after (loads_delivered before who cells) (Answer who answer.sources.value) adds.setting adds.entries own (eq-eqb who.seat 1 seat);
         loads = are_loads_for before who cells (map (Done who) (load_numbers before who cells)) idle (dones_are_ends who (load_numbers before who cells));
         delivered = ap (list_all is_start_or_done) (own_entries 1 (loads_delivered before who cells) own) ∙ delivered_all who (loads_for before who cells) (load_numbers before who cells);
         alone = λ _. refl;
@@ -155,7 +154,7 @@ pub next_answered : (before after : CacheOf) (who : Who) (cells : List Cell) (an
 next_answered before after who cells answer last is adds next =
     let seat : who.seat ≡ 1 = ap (λ (w : Who). w.seat) is in
     let number : who.call ≡ last + 1 = ap (λ (w : Who). w.call) is in
-    next_call (before.entries ++ loads_delivered before who cells) after.entries (Answer who (map (source_of (before.entries ++ loads_delivered before who cells)) cells)) 1 (last + 1) (who.call + 1) adds.entries (omega (arith, number)) (eq-eqb who.seat 1 seat)
+    next_call (before.entries ++ loads_delivered before who cells) after.entries (Answer who answer.sources.value) 1 (last + 1) (who.call + 1) adds.entries (omega (arith, number)) (eq-eqb who.seat 1 seat)
     (lt-ltb who.call (who.call + 1) (omega arith))
     (next_parts before.entries (before.entries ++ loads_delivered before who cells) (loads_delivered before who cells) who 1 (last + 1) (last + 1) refl (omega arith) (delivered_parts before who cells) next)
 

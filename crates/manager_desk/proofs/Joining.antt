@@ -1,23 +1,23 @@
 -- What an ask adds, joined from its looks and its loads.
-use Rattle.std.proofs.Common.{◌≡◌, refl, sym, ◌∙◌, ap, subst, ℕ, suc, ◌+◌, List, [], ◌∷◌, ◌++◌, append_assoc, length, map, filter, true, false, not, ◌==◌, ◌⊎◌, inl, inr, Option, Some, None, is_some, arith, All, Contains}
+use Rattle.std.proofs.Common.{◌≡◌, refl, sym, ◌∙◌, ap, subst, ℕ, suc, ◌+◌, List, [], ◌∷◌, ◌++◌, append_assoc, length, map, filter, true, false, not, ◌==◌, ◌⊎◌, inl, inr, Some, None, is_some, arith, All}
 use Rattle.std.specs.Prelude.{IsTrue, sum_by}
 use Rattle.std.specs.List.{list_all, list_any}
 use Rattle.std.proofs.lemmas.Bool.{and_parts, both_ways, eq-eqb, false_from_ne_true, or_cases, or_left, or_right}
 use Rattle.std.proofs.lemmas.List.{append-nil, length-append}
-use Rattle.std.proofs.lemmas.List.Elements.{All-append, All-cons, All-head, All-nil, All-tail, filter-append}
+use Rattle.std.proofs.lemmas.List.Elements.{All-append, All-cons, All-contains, All-head, All-nil, All-tail, filter-append}
 use Rattle.std.proofs.lemmas.List.Folds.{list_any-append}
 use Rattle.std.proofs.lemmas.List.Sums.{sum_by-append, sum_by-cons}
 use Rattle.olap_meaning.specs.declared.cells.Cell.{Cell}
 use Rattle.olap_meaning.specs.declared.cells.Who.{Who}
 use Rattle.olap_meaning.specs.declared.tables.Setting.{Setting}
 use Rattle.olap_meaning.specs.Covering.{among}
-use Rattle.olap_meaning.specs.History.{Entry, Append, Agg, Flush, Start, Done, Drop, Evict, Answer, Saw, Load, delivers, evicts, exact_source, flushes, flying, is_some_and, kept, started}
-use Rattle.olap_meaning.specs.Legal.{Legal, is_call_below, is_call_of, is_cell, is_next_call}
+use Rattle.olap_meaning.specs.History.{Entry, Append, Agg, Flush, Start, Done, Drop, Evict, Answer, Saw, Load, delivers, evicts, flushes, flying, is_some_and, kept, started}
+use Rattle.olap_meaning.specs.Legal.{Legal, has_source, is_call_below, is_call_of, is_cell, is_next_call}
 use Rattle.segment_load.specs.Loads.{JobOf}
 use Rattle.olap_meaning.proofs.Loads.{kept_from}
 use Rattle.olap_meaning.proofs.Steps.{none_evicted}
 use Rattle.history_core.specs.declared.answers.Answer.{Answer as Told}
-use Rattle.history_core.specs.Answers.{HasSource, IsAnswer, SomeWants, source_of}
+use Rattle.history_core.specs.Answers.{HasSource, IsAnswer, SomeWants}
 use Rattle.history_core.specs.Cache.{CacheOf}
 use Rattle.history_core.specs.Groups.{loads_for, numbers_from, wanting}
 use Rattle.history_core.specs.Seats.{NoneFlies, actor, is_of_seat}
@@ -83,26 +83,13 @@ still_idle before after entry none grown idle j =
 
 -- a cell has a source, or none
 pub source_or_none : (cache : CacheOf) (cells : List Cell) → All (HasSource cache) cells → SomeWants cache cells → ⊥
-source_or_none cache cells all wants = by (has_at cells wants.0 all wants.1)
-  where
-    has_at : (cells : List Cell) (cell : Cell) → All (HasSource cache) cells → Contains cells cell → HasSource cache cell
-    has_at cells cell all has = subst (HasSource cache) has.2 (all has.0 cell has.1)
-
-    by : HasSource cache wants.0 → ⊥
-    by has = let none = rw wants.2.exact at has.1 in none
+source_or_none cache cells all wants = both_ways (has_source cache.setting.catalog cache.entries wants.0) wants.2 (All-contains (HasSource cache) cells wants.0 all wants.1)
 
 -- where each cell has a source, no load is missing
-source_is_some : (cache : CacheOf) (cell : Cell) → HasSource cache cell → is_some (exact_source cache.entries cell) ≡ true
-source_is_some cache cell has = by (exact_source cache.entries cell) refl
-  where
-    by : (o : Option ℕ) → exact_source cache.entries cell ≡ o → is_some (exact_source cache.entries cell) ≡ true
-    by None at = let none = rw at at has.1 in absurd none
-    by (Some j) at = ap is_some at
-
-none_wanting : (cache : CacheOf) (cells : List Cell) → All (HasSource cache) cells → wanting cache.entries cells ≡ []
+none_wanting : (cache : CacheOf) (cells : List Cell) → All (HasSource cache) cells → wanting cache.setting.catalog cache.entries cells ≡ []
 none_wanting cache [] all = refl
 none_wanting cache (cell ∷ cells) all =
-    let here : not (is_some (exact_source cache.entries cell)) ≡ false = ap not (source_is_some cache cell (All-head (HasSource cache) cell cells all)) in
+    let here : not (has_source cache.setting.catalog cache.entries cell) ≡ false = ap not (All-head (HasSource cache) cell cells all) in
     rw here (none_wanting cache cells (All-tail (HasSource cache) cell cells all))
 
 pub none_missing : (cache : CacheOf) (who : Who) (cells : List Cell) → All (HasSource cache) cells → loads_for cache who cells ≡ []
@@ -120,10 +107,10 @@ same_cache one other setting entries =
 -- the answer to cells behind the loads that they lack, each delivered
 pub adds_answer :
     (before middle after : CacheOf) (who : Who) (cells : List Cell) (answer : Told) → middle.setting ≡ before.setting → middle.entries ≡ before.entries ++ loads_delivered before who cells → after.setting ≡ middle.setting
-    → after.entries ≡ middle.entries ++ Answer who (map (source_of middle.entries) cells) ∷ [] → IsAnswer middle cells answer → AddsAnswer before after who cells answer
+    → after.entries ≡ middle.entries ++ Answer who answer.sources.value ∷ [] → IsAnswer middle cells answer → AddsAnswer before after who cells answer
 adds_answer before middle after who cells answer same loaded kept grown is = record {
   setting = kept ∙ same;
-  entries = grown ∙ ap (λ (es : List Entry). es ++ Answer who (map (source_of es) cells) ∷ []) loaded;
+  entries = grown ∙ ap (λ (es : List Entry). es ++ Answer who answer.sources.value ∷ []) loaded;
   answered = subst (λ (cache : CacheOf). IsAnswer cache cells answer) (same_cache middle (with_more before (loads_delivered before who cells)) same loaded) is;
 }
 

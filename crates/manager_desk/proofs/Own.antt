@@ -38,7 +38,7 @@ for_call cache who wanted [] = All-nil (λ load. load.who ≡ who)
 for_call cache who wanted (cell ∷ cells) = All-cons (λ load. load.who ≡ who) (load_for cache who wanted cell) (map (load_for cache who wanted) cells) refl (for_call cache who wanted cells)
 
 pub loads_own : (cache : CacheOf) (who : Who) (cells : List Cell) → All (λ load. load.who ≡ who) (loads_for cache who cells)
-loads_own cache who cells = for_call cache who (wanting cache.entries cells) (firsts [] (wanting cache.entries cells))
+loads_own cache who cells = for_call cache who (wanting cache.setting.catalog cache.entries cells) (firsts [] (wanting cache.setting.catalog cache.entries cells))
 
 pub starts_parts : (who : Who) (loads : List Load) → All (λ load. load.who ≡ who) loads → All (IsPartOf who) (map Start loads)
 starts_parts who loads own = All-map (IsPartOf who) Start loads (All-weaker (λ load. load.who ≡ who) (λ load. IsPartOf who (Start load)) (λ load is. record { part = refl; own = ap (λ (w : Who). Some w) is }) loads own)

@@ -5,7 +5,7 @@ use Rattle.olap_meaning.specs.declared.cells.Who.{Who}
 use Rattle.olap_meaning.specs.Covering.{among}
 use Rattle.olap_meaning.specs.History.{Entry, Done, Drop, Answer, flying}
 use Rattle.segment_load.specs.Loads.{JobOf, rows_in}
-use Rattle.history_core.specs.Answers.{IsAnswer, source_of}
+use Rattle.history_core.specs.Answers.{IsAnswer}
 use Rattle.history_core.specs.Cache.{CacheOf}
 use Rattle.history_core.specs.declared.answers.Answer.{Answer as Told}
 use Rattle.line_session.specs.Desks.{AreLoadsEnded, loads_delivered, with_more}
@@ -41,14 +41,14 @@ pub record EndsJobs (before after : List Entry) (jobs : List JobOf) : Type 0 whe
   pub are : AreEndsOf jobs ends
   pub entries : after ≡ before ++ ends
 
--- the loads that some cells lack were delivered, and then the cells were answered, as the last entry
+-- the loads that some cells lack were delivered, and then the cells were answered, as the last entry, with the sources
+-- that the answer tells
 pub record AddsAnswer (before after : CacheOf) (who : Who) (cells : List Cell)
     (answer : Told) : Type 0 where
   pub setting : after.setting ≡ before.setting
   pub entries : after.entries
       ≡ (before.entries ++ loads_delivered before who cells)
-      ++ Answer who (map (source_of (before.entries ++ loads_delivered before who cells)) cells)
-      ∷ []
+      ++ Answer who answer.sources.value ∷ []
   pub answered : IsAnswer (with_more before (loads_delivered before who cells)) cells answer
 
 -- nothing was added, or the loads that some cells lack were started and ended

@@ -6,7 +6,7 @@ ghost use Rattle.olap_meaning.specs.Legal.{is_next_call, is_cell};
 ghost use Rattle.segment_load.specs.Loads.{rows_in};
 ghost use Rattle.cache_manager.specs.Jobs.{IsJobOf, IsOwnBody};
 ghost use Rattle.cache_manager.specs.Runs.{apart};
-ghost use Rattle.history_core.specs.Answers.{HasSource, IsAnswer, source_of};
+ghost use Rattle.history_core.specs.Answers.{HasSource, IsAnswer};
 ghost use Rattle.history_core.specs.Seats.{NoneFlies};
 ghost use Rattle.line_session.specs.Desks.{rows_started};
 ghost use Rattle.manager_desk.specs.Ends.{AddsAnswer, AddsEnded, AreOut, EndsJobs, done_of, end_of, rows_of_job};
@@ -100,9 +100,9 @@ fn answer_ready(manager: &mut Manager, who: Who, cells: &[Cell]) -> Result<Answe
     requires idle { NoneFlies manager.old.entries }
     requires ready { All (HasSource manager.old) cells.now }
     ensures setting { manager.new.setting ≡ manager.old.setting }
-    ensures entry { OnOk result
-        (manager.new.entries ≡ manager.old.entries
-        ++ history.Answer who (map (source_of manager.old.entries) cells.now) ∷ []) }
+    ensures entry { IfOk result
+        (λ answer. manager.new.entries ≡ manager.old.entries
+        ++ history.Answer who answer.sources.value ∷ []) }
     ensures answer { IfOk result (λ answer. IsAnswer manager.old cells.now answer) }
     ensures unchanged { OnErr result (manager.new ≡ manager.old) }
 {

@@ -11,3 +11,4 @@ pub mod OwnFacts
 pub mod MemberFacts
 pub mod NameFacts
 pub mod LevelFacts
+pub mod LeafFacts

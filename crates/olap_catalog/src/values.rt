@@ -1,6 +1,7 @@
 //! Looking up what a catalog holds. No look-up takes memory.
-ghost use Rattle.std.specs.Prelude.{◌≡◌, ◌<◌, ◌≤◌, flat_map, length, map, slice_get, true, Some, IfSome};
+ghost use Rattle.std.specs.Prelude.{ℕ, ◌≡◌, ◌<◌, ◌≤◌, flat_map, length, map, nat_lt, slice_get, true, Some, IfSome, IsTrue};
 ghost use Rattle.std.specs.List.{list_all};
+ghost use Rattle.olap_meaning.specs.History.{is_some_and};
 ghost use Rattle.olap_meaning.specs.Legal.{rise};
 ghost use Rattle.olap_meaning.specs.Schema.{cube_over};
 ghost use Rattle.olap_meaning.specs.Whole.{IsWhole};
@@ -108,6 +109,17 @@ impl Catalog {
     {
         let _ = &self.columns;
         self.field_of(column).value_at(leaf)
+    }
+
+    /// That each leaf has one of a column's values in each column of its dimension. This costs nothing.
+    pub fn leaves_have_values(&self)
+        ensures { (column : ℕ) (leaf : ℕ) → leaf < column_leaves self.now column
+            → IsTrue
+            (is_some_and
+            (λ value. nat_lt value (length (meaning.values self.now column)))
+            (meaning.leaf_value self.now column leaf)) }
+    {
+        let _ = &self.columns;
     }
 
     /// How many leaves a dimension has: one for each record of its table, and none where the schema has no such dimension.

@@ -1,5 +1,5 @@
 -- The answers of a legal history are fresh.
-use Rattle.std.proofs.Common.{◌≡◌, refl, sym, ◌∙◌, ap, subst, ℕ, zero, suc, ◌<◌, ◌≤◌, List, [], ◌∷◌, ◌++◌, length, take, Bool, true, false, ◌&&◌, inl, inr, Option, Some, None, slice_get, arith, option_and_then, option_map, unwrap_or, zero-le, take-take, Contains, MatchOption, le_trans, le_of_eq}
+use Rattle.std.proofs.Common.{◌≡◌, refl, sym, ◌∙◌, ap, subst, ℕ, zero, suc, ◌<◌, ◌≤◌, List, [], ◌∷◌, ◌++◌, length, take, Bool, true, false, ◌&&◌, inl, inr, Option, Some, None, slice_get, arith, filter_map, option_and_then, option_map, unwrap_or, zero-le, take-take, All, Contains, MatchOption, le_trans, le_of_eq}
 use Rattle.std.proofs.lemmas.Bool.{both_ways, and_parts, cases_order}
 use Rattle.std.proofs.lemmas.List.Elements.{All-contains, All-from_recursion}
 use Rattle.olap_meaning.specs.declared.cells.Who.{Who}
@@ -9,9 +9,11 @@ use Rattle.olap_meaning.specs.declared.tables.Catalog.{Catalog}
 use Rattle.olap_meaning.specs.Covering.{header_covers}
 use Rattle.olap_meaning.specs.History.{Entry, Start, Answer, Load, entry_at, is_some_and, load_at, flushes, flushed_after, live, version, floor, latest, exact_source, load_just_covers, load_version}
 use Rattle.olap_meaning.specs.declared.tables.Setting.{Setting}
-use Rattle.olap_meaning.specs.Legal.{Legal, IsSource, IsRolledSource, IsAnswered}
+use Rattle.olap_meaning.specs.Rolled.{Offer, IsRolledSource, offered}
+use Rattle.olap_meaning.specs.Legal.{Legal, IsSource, IsAnswered}
 use Rattle.olap_meaning.specs.Worth.{answered_version, value}
 use Rattle.olap_meaning.specs.Laws.{AnswersAreFresh, AnswersAreServed}
+use Rattle.olap_meaning.proofs.Members.{filter_map_member, in_first}
 use Rattle.olap_meaning.proofs.Positions.{entry_from-take, entry-take, passes_after, latest_found, take-push, entry-append}
 use Rattle.olap_meaning.proofs.Loads.{some_and, live_parts, live_load, load_start, start_load, covered_cube, live_on}
 use Rattle.olap_meaning.proofs.Versions.{versions_rise}
@@ -56,12 +58,38 @@ exact_serve history cell loads j found same = record {
     lives : live history j cell ≡ true
     lives = (and_parts _ _ (latest_found (length history) (λ k. live history k cell && load_just_covers history k cell) j found).0).0
 
+-- what a live load offers
+pub live_offer : (history : List Entry) (cell : Cell) (k : ℕ) → live history k cell ≡ true → (offer : Offer) × (offered history k ≡ Some offer) × (load_version history k ≡ Some offer.version)
+live_offer history cell k lives =
+    let load : (load : Load) × (load_at history k ≡ Some load) × (header_covers load.header cell ≡ true) = live_load history k cell lives in
+    (record { header = load.0.header; version = load.0.version }, ap (option_map (λ (l : Load). record { header = l.header; version = l.version })) load.1, ap (option_map (λ (l : Load). l.version)) load.1)
+
+-- each load of a rolled source has the one version
+version_in : (history : List Entry) (cell : Cell) (loads : List ℕ) (v : ℕ) → All (λ j. live history j cell ≡ true) loads → All (λ (offer : Offer). offer.version ≡ v) (filter_map (offered history) loads)
+    → (k : ℕ) → Contains loads k → load_version history k ≡ Some v
+version_in history cell loads v lives versions k among =
+    let offer : (offer : Offer) × (offered history k ≡ Some offer) × (load_version history k ≡ Some offer.version) = live_offer history cell k (All-contains (λ j. live history j cell ≡ true) loads k lives among) in
+    offer.2 ∙ ap Some (All-contains (λ (offer : Offer). offer.version ≡ v) (filter_map (offered history) loads) offer.0 versions (filter_map_member (offered history) loads k offer.0 among offer.1))
+
+rolled_serve : (catalog : Catalog) (history : List Entry) (cell : Cell) (loads : List ℕ) → IsRolledSource catalog history cell loads → Serve history cell loads
+rolled_serve catalog history cell [] source = absurd (omega (arith, source.rolled.some))
+rolled_serve catalog history cell (first ∷ rest) source = record {
+  first = first;
+  is_first = refl;
+  first_lives = All-contains (λ j. live history j cell ≡ true) (first ∷ rest) first source.lives (in_first first rest);
+  each_lives = λ k c. All-contains (λ j. live history j cell ≡ true) (first ∷ rest) k source.lives c;
+  one_version = λ k c. of_one k c ∙ sym (of_one first (in_first first rest));
+}
+  where
+    of_one : (k : ℕ) → Contains (first ∷ rest) k → load_version history k ≡ Some source.rolled.version
+    of_one = version_in history cell (first ∷ rest) source.rolled.version source.lives source.rolled.one_version
+
 -- a source serves
 pub source_serve : (catalog : Catalog) (history : List Entry) (cell : Cell) (loads : List ℕ) → IsSource catalog history cell loads → Serve history cell loads
 source_serve catalog history cell loads h = by (exact_source history cell) refl h
   where
     by : (o : Option ℕ) → exact_source history cell ≡ o → MatchOption o (IsRolledSource catalog history cell loads) (λ j. loads ≡ j ∷ []) → Serve history cell loads
-    by None e r = absurd r
+    by None e source = rolled_serve catalog history cell loads source
     by (Some j) e same = exact_serve history cell loads j e same
 
 -- the load of a legal history that is live at an answer, after the first i entries

@@ -1,14 +1,18 @@
 -- Which steps are legal after small histories.
-use Rattle.std.proofs.Common.{◌≡◌, refl, subst, ap, ℕ, zero, suc, lit≤, lit<, [], ◌∷◌, true, false, Option, Some, None, arith}
+use Rattle.std.proofs.Common.{◌≡◌, refl, subst, ap, ℕ, zero, suc, lit≤, lit<, List, [], ◌∷◌, true, false, Option, Some, None, arith}
+use Rattle.std.proofs.lemmas.Bool.{both_ways}
+use Rattle.std.proofs.lemmas.List.Elements.{All-contains}
 use Rattle.olap_meaning.specs.declared.cells.Who.{Who}
 use Rattle.olap_meaning.specs.declared.cells.Cell.{Cell}
 use Rattle.olap_meaning.specs.declared.cells.Allowed.TheVariants.{Any}
 use Rattle.olap_meaning.specs.declared.cells.CellSource.{CellSource}
-use Rattle.olap_meaning.specs.History.{Entry, Append, Done, Answer, Saw}
+use Rattle.olap_meaning.specs.History.{Entry, Append, Done, Answer, Saw, live}
 use Rattle.olap_meaning.specs.declared.tables.Setting.{Setting}
 use Rattle.olap_meaning.specs.Legal.{Legal, LegalStep}
 use Rattle.olap_meaning.specs.Laws.{SomeAnswerIsLegal}
-use Rattle.olap_meaning.proofs.Examples.{who, year, load, flush_q1, rows, catalog}
+use Rattle.olap_meaning.proofs.Examples.{who, year, load, first_quarter, flush_q1, rows, catalog}
+use Rattle.olap_meaning.proofs.Loads.{flush_shuts_off}
+use Rattle.olap_meaning.proofs.Members.{in_first}
 
 abbrev setting : Setting
 setting = record { catalog = catalog; row_limit = 100; budget = 10 }
@@ -30,7 +34,7 @@ legal_append : LegalStep setting [] first_rows
 legal_append = record { call = refl; known = lit< tt; next = refl; versions = lit≤ tt; fit = refl; room = lit≤ tt }
 
 legal_start : LegalStep setting (first_rows ∷ []) start_year
-legal_start = record { known = refl; rising = refl; covers = refl; present = refl; needed = record { exact = refl; rolled = λ loads h. h }; unawaited = refl }
+legal_start = record { known = refl; rising = refl; covers = refl; present = refl; needed = refl; unawaited = refl }
 
 legal_done : LegalStep setting (first_rows ∷ start_year ∷ []) (Done (who 0) 2)
 legal_done = record { flies = refl; own = refl }
@@ -55,15 +59,19 @@ no_second_start s = let h : ◌≡◌ {A = Option ℕ} (Some 2) None = s.unawait
 
 -- a Start for a cell with a live load
 no_start_for_live : LegalStep setting (first_rows ∷ start_year ∷ Done (who 0) 2 ∷ []) start_year → ⊥
-no_start_for_live s = let h : ◌≡◌ {A = Option ℕ} (Some 2) None = s.needed.exact in cc
+no_start_for_live s = let h : ◌≡◌ {A = Option ℕ} (Some 2) None = s.needed in cc
 
 -- an answer from a load of an older version, after an append
 legal_old_answer : LegalStep setting (first_rows ∷ start_year ∷ Done (who 0) 2 ∷ Append (who 2) 0 2 [] ∷ []) (Answer (who 3) (from year 2 ∷ []))
 legal_old_answer = (refl, (record { known = refl; source = refl }, tt))
 
 -- and after a flush that covers the cell
-no_flushed_answer : LegalStep setting (first_rows ∷ start_year ∷ Done (who 0) 2 ∷ flush_q1 ∷ []) (Answer (who 4) (from year 2 ∷ [])) → ⊥
-no_flushed_answer s = s.1.0.source
+no_flushed_answer : (loads : List ℕ) → LegalStep setting (first_rows ∷ start_year ∷ Done (who 0) 2 ∷ flush_q1 ∷ []) (Answer (who 4) (record { cell = year; loads = loads } ∷ [])) → ⊥
+no_flushed_answer [] s = absurd (omega (arith, s.1.0.source.rolled.some))
+no_flushed_answer (j ∷ js) s = both_ways _ (flush_shuts_off (first_rows ∷ start_year ∷ Done (who 0) 2 ∷ []) (who 3) first_quarter year j refl) lives
+  where
+    lives : live (first_rows ∷ start_year ∷ Done (who 0) 2 ∷ flush_q1 ∷ []) j year ≡ true
+    lives = All-contains (λ k. live (first_rows ∷ start_year ∷ Done (who 0) 2 ∷ flush_q1 ∷ []) k year ≡ true) (j ∷ js) j s.1.0.source.lives (in_first j js)
 
 -- a Done by another seat
 no_other_done : LegalStep setting (first_rows ∷ start_year ∷ []) (Done (record { seat = 2; call = 0 }) 2) → ⊥

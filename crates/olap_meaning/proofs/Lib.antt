@@ -1,3 +1,4 @@
+pub mod Members
 pub mod Positions
 pub mod Versions
 pub mod Loads
@@ -11,3 +12,5 @@ pub mod Examples
 pub mod Legality
 pub mod Appearances
 pub mod Shutting
+pub mod Rolling
+pub mod RolledSources

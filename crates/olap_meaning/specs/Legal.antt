@@ -1,5 +1,5 @@
 -- Which histories are legal.
-use Rattle.std.specs.Prelude.{ℕ, suc, ◌+◌, ◌≤◌, ◌<◌, ◌≡◌, List, [], ◌∷◌, Bool, true, false, ◌==◌, ◌&&◌, Option, Some, None, length, take, filter, map, sum_by, IsTrue, MatchOption, nat_lt, slice_get}
+use Rattle.std.specs.Prelude.{ℕ, suc, ◌+◌, ◌≤◌, ◌<◌, ◌≡◌, List, [], ◌∷◌, Bool, true, false, ◌==◌, ◌&&◌, ◌||◌, Option, Some, None, is_some, length, take, filter, map, sum_by, IsTrue, MatchOption, nat_lt, slice_get}
 use Rattle.std.specs.List.{list_any, list_all, zip, AllByRecursion as Each}
 use Rattle.olap_meaning.specs.declared.TheConstants.{VERSION_LIMIT}
 use Rattle.olap_meaning.specs.declared.tables.Catalog.{Catalog}
@@ -16,6 +16,7 @@ use Rattle.olap_meaning.specs.Covering.{among, just_covers}
 use Rattle.olap_meaning.specs.Catalog.{records, values, fact_columns, table_cube}
 use Rattle.olap_meaning.specs.History.{Entry, Append, Agg, Flush, Start, Done, Drop, Evict, Answer, Saw, Load, entry_at, version, flying, awaited_load, starter, exact_source, is_some_and}
 use Rattle.olap_meaning.specs.Worth.{measure_of}
+use Rattle.olap_meaning.specs.Rolled.{IsRolledSource, has_rolled_source}
 
 -- whose call an entry is; the parts of a load and evictions are no calls
 abbrev pub caller : Entry → Option Who
@@ -118,15 +119,16 @@ is_flushable catalog region =
     nat_lt region.cube (length catalog.cubes) && list_any is_measures region.dims
     && list_all (is_box catalog) region.boxes
 
--- the loads are a rolled source of a cell (none are, before loads are rolled up)
-abbrev pub IsRolledSource : Catalog → List Entry → Cell → List ℕ → Type 0
-IsRolledSource catalog history cell loads = ⊥
-
 -- the loads are a source of a cell: its exact source alone, or, where it has none, a rolled source
 abbrev pub IsSource : Catalog → List Entry → Cell → List ℕ → Type 0
 IsSource catalog history cell loads =
     MatchOption (exact_source history cell) (IsRolledSource catalog history cell loads)
     (λ j. loads ≡ j ∷ [])
+
+-- a cell has a source, as a decision
+abbrev pub has_source : Catalog → List Entry → Cell → Bool
+has_source catalog history cell =
+    is_some (exact_source history cell) || has_rolled_source catalog history cell
 
 -- a cell has no source
 pub record HasNoSource (catalog : Catalog) (history : List Entry) (cell : Cell) : Type 0 where
@@ -152,13 +154,13 @@ pub record IsLegalAgg (setting : Setting) (history : List Entry) (who : Who) (ta
   pub reached : v ≤ version history cube
 
 -- a Start is legal: its load is of the present version, covers its reason with just the reason's columns, and the
--- reason is a cell of the catalog that has no source and that no load is awaited for
+-- reason is a cell of the catalog that has no exact source and that no load is awaited for
 pub record IsLegalStart (setting : Setting) (history : List Entry) (load : Load) : Type 0 where
   pub known : IsTrue (is_cell setting.catalog load.reason)
   pub rising : IsTrue (rise (map (λ column. column.0) load.header.columns))
   pub covers : IsTrue (just_covers load.header load.reason)
   pub present : load.version ≡ version history load.header.cube
-  pub needed : HasNoSource setting.catalog history load.reason
+  pub needed : exact_source history load.reason ≡ None
   pub unawaited : awaited_load history load.reason ≡ None
 
 -- the end of a load is legal: the load is flying, and who ends it has started it

@@ -14,7 +14,10 @@ pub mod Whole
 pub mod Covering
 pub mod History
 pub mod Worth
+pub mod Rolled
 pub mod Legal
+pub mod Sources
+pub mod RolledCases
 pub mod Laws
 pub mod Equivalents
 pub mod Growth

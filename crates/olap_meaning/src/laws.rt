@@ -3,6 +3,8 @@
 ghost use Rattle.olap_meaning.specs.Equivalents.{FloorIsGreatest, LiveIsByPosition, AwaitedIsByPosition, ExactSourceIsGreatest};
 ghost use Rattle.olap_meaning.specs.Growth.{LegalGrows, VersionGrows, FloorGrows, ExactSourceGrows, AwaitedLoadGrows, RegionsGrow, ShuttingGrows, LoadsStartWhole};
 ghost use Rattle.olap_meaning.specs.Limits.{LimitsAreStated};
+ghost use Rattle.olap_meaning.specs.RolledCases.{RolledCasesAreDecided};
+ghost use Rattle.olap_meaning.specs.Sources.{FlushesLeaveNoSource, RolledSourcesAreDecided, SomeRollExactly, SourcesAreDecided};
 ghost use Rattle.olap_meaning.specs.Laws.{PrefixesAreLegal, VersionsRise, AnswersAreFresh, AnswersAreServed, FlushesShutOff, OthersServeOn, RegionsReachUp, RegionsConcern, RegionsShutOff, TouchingAreCounted, DeliveredAreKept, LoadsAreNotDoubled, LoadsEndOnce, CallsRise, SomeAnswerIsLegal};
 
 /// The limits of the code are the numbers of the definitions.
@@ -138,6 +140,31 @@ pub fn loads_start_whole()
 /// A legal history goes on by a legal step.
 pub fn legal_grows()
     ensures { LegalGrows }
+{}
+
+/// Among some offers there are some that are rolled up to a cell exactly where `can_roll` says so.
+pub fn some_roll_exactly()
+    ensures { SomeRollExactly }
+{}
+
+/// Some offers, decided by hand.
+pub fn rolled_cases_are_decided()
+    ensures { RolledCasesAreDecided }
+{}
+
+/// A cell has a rolled source exactly where `has_rolled_source` says so.
+pub fn rolled_sources_are_decided()
+    ensures { RolledSourcesAreDecided }
+{}
+
+/// A cell has a source, exact or rolled, exactly where `has_source` says so.
+pub fn sources_are_decided()
+    ensures { SourcesAreDecided }
+{}
+
+/// A flush that covers a cell leaves it without a source, exact or rolled.
+pub fn flushes_leave_no_source()
+    ensures { FlushesLeaveNoSource }
 {}
 
 /// Some legal history ends with an answer.

@@ -49,7 +49,7 @@ module _ (setting : Setting) (history : List Entry) (load : Load) where
         rising = a.1;
         covers = b.1;
         present = eqb-true load.version (version history load.header.cube) d.1;
-        needed = record { exact = nothing (exact_source history load.reason) e.1; rolled = λ loads r. r };
+        needed = nothing (exact_source history load.reason) e.1;
         unawaited = nothing (awaited_load history load.reason) f.1;
       }
 
@@ -58,7 +58,7 @@ module _ (setting : Setting) (history : List Entry) (load : Load) where
       and_from _ _
       (and_from _ _
       (and_from _ _ (and_from _ _ (and_from _ _ is.known is.rising) is.covers) (eq-eqb load.version (version history load.header.cube) is.present))
-      (ap is_none is.needed.exact))
+      (ap is_none is.needed))
       (ap is_none is.unawaited)
 
   pub start_decided : (b : Bool) → b ≡ passes → (b ≡ true) ↔ (IsLegalStart setting history load)

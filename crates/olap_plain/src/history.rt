@@ -53,7 +53,7 @@ pub fn header_covers(header: &Header, cell: &Cell) -> bool
         && columns_allow(header.columns.as_slice(), cell.at.as_slice())
 }
 
-fn names_column(cell: &Cell, column: ColumnId) -> bool
+pub(crate) fn names_column(cell: &Cell, column: ColumnId) -> bool
     ensures { result ≡ covering.names_column cell.now column }
 {
     cell.at.as_slice().iter().any(|pair| pair.0 == column)
@@ -310,7 +310,7 @@ fn ended(entries: &[PlainEntry], j: u64) -> bool
 }
 
 #[tactic(auto, using(crate::proofs::EntryFacts::entry_here, crate::proofs::EntryFacts::entry_past, crate::proofs::EntryFacts::entry_zero))]
-fn entry_at(entries: &[PlainEntry], p: u64) -> Option<&PlainEntry>
+pub(crate) fn entry_at(entries: &[PlainEntry], p: u64) -> Option<&PlainEntry>
     ensures { option_map plain_view.entry_of (option_copied result)
         ≡ meaning.entry_at (plain_view.entries entries.now) p }
 {

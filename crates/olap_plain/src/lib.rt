@@ -9,6 +9,8 @@ mod bodies;
 pub mod catalogs;
 mod entries;
 pub mod history;
+mod offers;
+pub mod sources;
 pub mod steps;
 
 pub use bodies::RowList;

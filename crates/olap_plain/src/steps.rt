@@ -15,6 +15,7 @@ use crate::catalogs::{fact_column_count, records, table_cube, value_count};
 use crate::history::{
     awaited_load, exact_source, flying, just_covers, starter, version, version_at,
 };
+use crate::sources::is_source;
 use olap_meaning::tables::{Catalog, Cube, Row, Setting};
 use olap_meaning::{
     Cell, CellSource, ColumnId, CubeId, Header, LeafId, List, Region, RegionBox, RegionDim,
@@ -433,18 +434,6 @@ fn is_legal_end(history: &[PlainEntry], who: Who, j: u64) -> bool
     ensures { IsTrue result ↔ legal.IsLegalEnd (entries history.now) who j }
 {
     flying(history, j) && is_own(history, who, j)
-}
-
-fn is_source(catalog: &Catalog, history: &[PlainEntry], cell: &Cell, loads: &[u64]) -> bool
-    ensures { IsTrue result ↔ legal.IsSource catalog.now (entries history.now) cell.now loads.now }
-{
-    match exact_source(history, cell) {
-        None => false,
-        Some(j) => match loads {
-            [k] => *k == j,
-            _ => false,
-        },
-    }
 }
 
 fn is_answered(setting: &Setting, history: &[PlainEntry], answered: &CellSource) -> bool

@@ -1,8 +1,9 @@
 //! Answers with given values.
-use history_core::{Answer, Answered};
+use history_core::{Answer, Answered, CellSources};
 use olap_meaning::{List, Version};
 use shown_values::read_value;
 use std::alloc::Global;
+use std::sync::Arc;
 use std::test::Fail;
 
 // A cell with a value, by a text that shows it.
@@ -25,5 +26,11 @@ pub fn answer(alloc: Global, position: u64, shown: &[&str]) -> Result<Answer, Fa
     for text in shown {
         cells.push(answered(alloc, text)?)?;
     }
-    Ok(Answer { position, cells })
+    // No grid shows where its cells were taken from.
+    let sources = Arc::new(alloc, CellSources::new(alloc))?;
+    Ok(Answer {
+        position,
+        cells,
+        sources,
+    })
 }

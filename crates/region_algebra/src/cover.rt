@@ -30,8 +30,8 @@ fn box_covers(region_box: &RegionBox, cell: &Cell) -> bool
         && hold_all(region_box.columns.as_slice(), cell.at.as_slice())
 }
 
-// Some measures have a measure, or none are named.
-fn is_of_measure(measures: &Option<List<MeasureId>>, measure: MeasureId) -> bool
+/// Whether a box of these measures is of a measure: it is one of them, or none are named. It takes no memory.
+pub fn is_of_measure(measures: &Option<List<MeasureId>>, measure: MeasureId) -> bool
     ensures { result ≡ covering.of_measure measures.now measure }
 {
     match measures {

@@ -19,7 +19,7 @@ mod unions;
 
 pub use bounds::is_bounded;
 pub use copies::copy_region;
-pub use cover::{covers, is_flushable};
+pub use cover::{covers, is_flushable, is_of_measure};
 pub use crossjoins::crossjoin;
 pub use fault::RegionFault;
 pub use flushes::resolve_region;

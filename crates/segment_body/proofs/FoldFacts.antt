@@ -14,7 +14,7 @@ use Rattle.olap_meaning.specs.declared.TheConstants.{ROW_LIMIT}
 use Rattle.olap_meaning.specs.declared.cells.Header.{Header}
 use Rattle.measure_folds.specs.Tallied.{Tallied}
 use Rattle.list_orders.specs.Parts.{hold_keys}
-use Rattle.list_orders.proofs.Members.{any_member, in_first}
+use Rattle.olap_meaning.proofs.Members.{any_member, in_first}
 use Rattle.list_orders.proofs.Parts.{parts_permute}
 use Rattle.list_orders.proofs.Permutations.{filter-filter}
 use Rattle.segment_body.specs.Groups.{Group}
@@ -29,7 +29,7 @@ all_numbers groups = flat_map (λ (group : Group). group.tally.values) groups
 
 module _ (test : List ℕ → Bool) where
   -- those of one group more
-  picked_more : (groups : List Group) (i : ℕ) (g : Group) → i < length groups → g ≡ get_or groups i g → picked test (take (i + 1) groups) ≡ picked test (take i groups) ++ (if test g.values then g.tally.values else [])
+  pub picked_more : (groups : List Group) (i : ℕ) (g : Group) → i < length groups → g ≡ get_or groups i g → picked test (take (i + 1) groups) ≡ picked test (take i groups) ++ (if test g.values then g.tally.values else [])
   picked_more groups i g inside here =
       rw (take_more groups i g inside, flat_map-append (λ (group : Group). if test group.values then group.tally.values else []) (take i groups) (get_or groups i g ∷ []), ← here)
       (ap (λ (ns : List (Option ℤ)). picked test (take i groups) ++ ns) (append-nil (if test g.values then g.tally.values else [])))

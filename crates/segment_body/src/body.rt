@@ -1,23 +1,24 @@
 //! The cells of a segment.
-ghost use Rattle.std.specs.Prelude.{◌≡◌, ◌≢◌, ◌<◌, ◌≤◌, ◌+◌, ◌++◌, ◌∷◌, [], IfOk, OnOk, OnErr, IfSome, IfNone, IsTrue, length, map, filter, is_some};
+ghost use Rattle.std.specs.Prelude.{◌≡◌, ◌≢◌, ◌<◌, ◌≤◌, ◌+◌, ◌++◌, ◌∷◌, [], All, IfOk, OnOk, OnErr, IfSome, IfNone, IsTrue, length, map, filter, is_some};
 ghost use Rattle.std.specs.List.{AllZip, list_all};
 ghost use Rattle.std.specs.List.Sorted.{IsPermutation};
 ghost use Rattle.olap_meaning.specs.Covering.{header_covers, just_covers};
 ghost use Rattle.olap_meaning.specs.Legal.{rise};
 ghost use Rattle.olap_meaning.specs.Texts.{CanBeShown};
 ghost use Rattle.olap_meaning.specs.Values.{aggregate};
-ghost use Rattle.segment_header.specs.Headers.{are_allowed, is_header};
-ghost use Rattle.segment_body.specs.AllFolds.{IsFolded, are_alike};
+ghost use Rattle.segment_header.specs.Headers.{are_allowed, is_header, is_set};
+ghost use Rattle.segment_body.specs.AllFolds.{IsFolded, are_alike, fold_of, folded_numbers};
 ghost use Rattle.segment_body.specs.BodyOf.{body_row_in, different_values, has_row, numbers_at};
-ghost use Rattle.segment_body.specs.Folds.{body_row_at, numbers_where};
+ghost use Rattle.segment_body.specs.Folds.{body_row_at, body_row_within, numbers_where};
 
-use crate::all_folds::{fold_into, places_in, tallies_of, wanted_by};
-use crate::folds::{fold_in, fold_valued};
+use crate::folds::{fold_allowed, fold_in, fold_valued};
 use crate::group::{Block, GroupTable};
 use crate::search::place_in;
+use crate::tables::CellTable;
+use crate::tallies::CellTallies;
 use measure_folds::Tally;
 use olap_meaning::{
-    Aggregator, Cell, CellValue, ColumnId, Header, List, OutOfMemory, ROW_LIMIT, ValueId,
+    Aggregator, Allowed, Cell, CellValue, ColumnId, Header, List, OutOfMemory, ROW_LIMIT, ValueId,
 };
 use std::alloc::Global;
 use std::marker::Model;
@@ -176,6 +177,30 @@ impl Body {
         )
     }
 
+    /// The tally of the rows that are in a cell and have in one column a value that is allowed, in some order. It takes no
+    /// memory.
+    pub fn fold_within(&self, cell: &Cell, column: ColumnId, own: &Allowed) -> Tally
+        requires adds_up { self.now.aggregator ≢ Aggregator.DistinctCount }
+        requires formed { IsTrue (is_set own.now) }
+        ensures aggregator { result.aggregator ≡ self.now.aggregator }
+        ensures rows { IsPermutation
+            (numbers_where (body_row_within self.now.header cell.now column own.now) self.now.rows)
+            result.values }
+        ensures worth { aggregate result.aggregator result.values
+            ≡ aggregate self.now.aggregator
+            (numbers_where (body_row_within self.now.header cell.now column own.now) self.now.rows) }
+    {
+        fold_allowed(
+            self.alloc,
+            self.aggregator,
+            self.header.columns.as_slice(),
+            &self.groups,
+            cell.at.as_slice(),
+            column,
+            own,
+        )
+    }
+
     /// The tallies of the rows that are in each of some cells of the same columns, in one pass over the groups.
     pub fn fold_all(&self, cells: &[Cell]) -> Result<List<Tally>, OutOfMemory>
         requires adds_up { self.now.aggregator ≢ Aggregator.DistinctCount }
@@ -183,21 +208,33 @@ impl Body {
         requires covered { IsTrue (list_all (header_covers self.now.header) cells.now) }
         ensures { IfOk result (AllZip (IsFolded self.now) cells.now) }
     {
-        if cells.is_empty() {
-            return Ok(List::new(self.alloc));
-        }
-        let columns = self.header.columns.as_slice();
-        let places = places_in(self.alloc, columns, cells[0].at.as_slice())?;
-        let wanted = wanted_by(self.alloc, self.aggregator, cells)?;
-        let table = fold_into(
-            self.alloc,
+        let mut table = CellTable::new(self.alloc, self.aggregator, cells)?;
+        table.take(
             self.aggregator,
+            self.header.columns.as_slice(),
             &self.groups,
-            &places,
-            wanted,
-            cells,
-        )?;
-        tallies_of(self.alloc, self.aggregator, &table, cells)
+            ColumnId(0),
+            None,
+        );
+        table.tallies(self.alloc, self.aggregator)
+    }
+
+    /// Adds to the tally of each of some cells the rows that are in the cell and have in one column a value that is allowed,
+    /// in one pass over the groups. It takes no memory.
+    pub fn fold_into(&self, tallies: &mut CellTallies, column: ColumnId, own: &Allowed)
+        requires aggregator { self.now.aggregator ≡ tallies.old.aggregator }
+        requires formed { IsTrue (is_set own.now) }
+        requires covered { IsTrue (list_all (header_covers self.now.header) tallies.old.cells) }
+        requires room { All
+            (λ cell. length
+            (folded_numbers cell (tallies.old.folds ++ fold_of self.now column own.now ∷ []))
+            ≤ ROW_LIMIT) tallies.old.cells }
+        ensures { tallies.new
+            ≡ record tallies.old {
+              folds = tallies.old.folds ++ fold_of self.now column own.now ∷ [];
+            } }
+    {
+        tallies.take(self, &self.groups, column, own);
     }
 
     /// How many different lists of values the rows have. It takes no memory.

@@ -104,8 +104,9 @@ impl GroupTable {
         requires adds_up { tally.now.aggregator ≢ Aggregator.DistinctCount }
         requires alike { All
             (λ group. group.tally.aggregator ≡ tally.now.aggregator) self.old }
-        requires room { All
-            (λ group. length group.tally.values + length tally.now.values ≤ ROW_LIMIT) self.old }
+        requires room { (d : Group)
+            → length (slice_index_or self.old place d).tally.values + length tally.now.values
+            ≤ ROW_LIMIT }
         ensures { (d : Group) → self.new
             ≡ slice_set self.old place
             (with_numbers (slice_index_or self.old place d) tally.now.values) }

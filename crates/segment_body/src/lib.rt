@@ -3,12 +3,15 @@
 //! A group is found by the hash of its values. Tallies of groups are merged, which takes no memory and no row.
 #![tactic(auto)]
 
-mod all_folds;
+mod alike;
 mod body;
 mod folds;
 mod group;
 mod key;
 mod search;
+mod tables;
+mod tallies;
 
-pub use all_folds::are_alike;
+pub use alike::are_alike;
 pub use body::Body;
+pub use tallies::CellTallies;

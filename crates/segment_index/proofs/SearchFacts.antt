@@ -1,10 +1,13 @@
 -- What a search among the loads of one mask finds.
-use Rattle.std.proofs.Common.{◌≡◌, ◌<◌, ◌≤◌, ℕ, true, false, not, zero, suc, get_or, List, [], ◌∷◌, Option, Some, None, refl, sym, arith, inl, inr, true≢false, Contains}
-use Rattle.std.specs.Prelude.{◌==◌, nat_lt}
+use Rattle.std.proofs.Common.{◌≡◌, ◌∙◌, ◌<◌, ◌≤◌, ℕ, ◌+◌, add-one, length, reverse, take, true, false, not, zero, suc, get_or, List, [], ◌∷◌, Option, Some, None, refl, sym, arith, inl, inr, true≢false, Contains}
+use Rattle.std.specs.Prelude.{◌==◌, nat_le, nat_lt}
+use Rattle.std.proofs.Math.Seq.{take-suc}
 use Rattle.std.proofs.lemmas.Bool.{and_parts, cases_Bool}
 use Rattle.std.proofs.lemmas.Bool.Decides.{nat_tests}
+use Rattle.std.proofs.lemmas.List.{reverse-append}
+use Rattle.std.proofs.lemmas.List.Sorted.{IsPermutation-reverse, list_any-IsPermutation}
 use Rattle.std.proofs.lemmas.List.Elements.{All-contains, All-from_recursion, Contains-get_or}
-use Rattle.list_orders.proofs.Members.{in_first, in_rest, none_in}
+use Rattle.olap_meaning.proofs.Members.{in_first, in_rest, none_in}
 use Rattle.olap_meaning.specs.declared.cells.Cell.{Cell}
 use Rattle.olap_meaning.specs.Covering.{among, just_covers}
 use Rattle.cache_flush.specs.Shuts.{is_live}
@@ -12,7 +15,7 @@ use Rattle.cache_flush.specs.Loads.{IsGreatest, KeptOf, are_different, numbers_o
 use Rattle.segment_index.specs.Grouping.{loads_at}
 use Rattle.segment_index.specs.Keeping.{AreGrouped, IsGrouped}
 use Rattle.segment_index.specs.Masks.{cell_mask, header_mask}
-use Rattle.segment_index.specs.Search.{later, later_serving, latest_serving, load_of}
+use Rattle.segment_index.specs.Search.{later, later_serving, latest_serving, load_of, reaches, serving}
 use Rattle.segment_index.proofs.MaskFacts.{cell_same}
 
 eq_of : (a b : ℕ) → (a == b) ≡ true → a ≡ b
@@ -26,6 +29,12 @@ not_below a b h = grind (arith, nat_tests)
 
 below : (a b : ℕ) → nat_lt a b ≡ true → a ≤ b
 below a b h = grind (arith, nat_tests)
+
+not_above : (a b : ℕ) → nat_le b a ≡ true → nat_lt a b ≡ false
+not_above a b h = grind (arith, nat_tests)
+
+is_above : (a b : ℕ) → nat_le b a ≡ false → nat_lt a b ≡ true
+is_above a b h = grind (arith, nat_tests)
 
 -- ---- loads by their numbers
 
@@ -151,12 +160,67 @@ greatest_of loads cell (Some best) s all = (s.0, s.1, λ k d lt. all (get_or loa
 
 -- the search among the loads under the cell's mask finds the greatest that serves the cell
 pub greatest_found : (loads : List KeptOf) (groups : List (ℕ × (List ℕ × ℕ))) (cell : Cell) → AreGrouped groups loads → are_different (numbers_of loads) ≡ true
-    → IsGreatest loads cell (latest_serving loads cell None (loads_at groups (cell_mask cell)))
+    → IsGreatest loads cell (latest_serving loads cell None (reverse (loads_at groups (cell_mask cell))))
 greatest_found loads groups cell grouped differ =
-    greatest_of loads cell (latest_serving loads cell None (loads_at groups (cell_mask cell))) (all-serves loads cell (loads_at groups (cell_mask cell)) None tt)
+    greatest_of loads cell (latest_serving loads cell None (reverse (loads_at groups (cell_mask cell)))) (all-serves loads cell (reverse (loads_at groups (cell_mask cell))) None tt)
     (λ other there served.
     let right : IsGrouped groups other = All-contains (IsGrouped groups) loads other (All-from_recursion (IsGrouped groups) loads grouped) there in
     let covers = (and_parts (just_covers other.body.header cell) (is_live other.shut cell) served).0 in
     let same : header_mask other.body.header ≡ cell_mask cell = cell_same other.body.header cell covers in
     let under : among (loads_at groups (cell_mask cell)) other.load ≡ true = rw same at right in
-    all-reached loads cell (loads_at groups (cell_mask cell)) None other under (load_found loads other differ there) served)
+    let turned : among (reverse (loads_at groups (cell_mask cell))) other.load ≡ true = sym (list_any-IsPermutation (λ v. v == other.load) (loads_at groups (cell_mask cell)) (reverse (loads_at groups (cell_mask cell))) (IsPermutation-reverse (loads_at groups (cell_mask cell)))) ∙ under in
+    all-reached loads cell (reverse (loads_at groups (cell_mask cell))) None other turned (load_found loads other differ there) served)
+
+-- ---- the search from the last number on
+
+-- what was found reaches a number whose load is not the later one
+pub not_later : (loads : List KeptOf) (cell : Cell) (best : Option KeptOf) (n : ℕ) → reaches best n ≡ true → best ≡ later_serving cell best (load_of loads n)
+not_later loads cell None n h = absurd (cc)
+not_later loads cell (Some best) n h = by (load_of loads n) refl
+  where
+    by : (next : Option KeptOf) → load_of loads n ≡ next → Some best ≡ later_serving cell (Some best) next
+    by None at = refl
+    by (Some next) at =
+        let same : next.load ≡ n = eq_of next.load n (load_there loads n next at).1 in
+        let more : nat_lt best.load next.load ≡ false = rw same (not_above best.load n h) in
+        elim (cases_Bool (serves next cell)) [ inl served ↦ rw (served, more) refl | inr other ↦ rw other refl ]
+
+-- and else the next load is the later one,
+is_later : (loads : List KeptOf) (best : Option KeptOf) (n : ℕ) (next : KeptOf) → reaches best n ≡ false → load_of loads n ≡ Some next → later best next ≡ Some next
+is_later loads None n next h at = refl
+is_later loads (Some best) n next h at =
+    let same : next.load ≡ n = eq_of next.load n (load_there loads n next at).1 in
+    let less : nat_lt best.load next.load ≡ true = rw same (is_above best.load n h) in
+    rw less refl
+
+-- where it serves the cell
+pub serving_is_later : (loads : List KeptOf) (cell : Cell) (best : Option KeptOf) (n : ℕ) (next : KeptOf) → reaches best n ≡ false → serving cell (load_of loads n) ≡ Some next → Some next ≡ later_serving cell best (load_of loads n)
+serving_is_later loads cell best n next h found = by (load_of loads n) refl found
+  where
+    by : (o : Option KeptOf) → load_of loads n ≡ o → serving cell o ≡ Some next → Some next ≡ later_serving cell best o
+    by None at is = absurd (cc)
+    by (Some kept) at is =
+        elim (cases_Bool (serves kept cell)) [
+          | inl served ↦
+              let some : Some kept ≡ Some next = rw served at is in
+              let same : kept ≡ next = cc in
+              let next_at : load_of loads n ≡ Some next = at ∙ some in
+              rw (served, same) (sym (is_later loads best n next h next_at))
+          | inr other ↦ absurd (let none : None ≡ Some next = rw other at is in cc)
+        ]
+
+-- and where it does not, the other stays
+pub other_stays : (loads : List KeptOf) (cell : Cell) (best : Option KeptOf) (n : ℕ) → serving cell (load_of loads n) ≡ None → best ≡ later_serving cell best (load_of loads n)
+other_stays loads cell best n none = by (load_of loads n) none
+  where
+    by : (o : Option KeptOf) → serving cell o ≡ None → best ≡ later_serving cell best o
+    by None is = refl
+    by (Some kept) is =
+        elim (cases_Bool (serves kept cell)) [
+          | inl served ↦ absurd (let some : Some kept ≡ None = rw served at is in cc)
+          | inr other ↦ rw other refl
+        ]
+
+-- one number less is left
+pub one_less : (xs : List ℕ) (i : ℕ) → i < length xs → reverse (take (i + 1) xs) ≡ get_or xs i 0 ∷ reverse (take i xs)
+one_less xs i below = rw (add-one, take-suc xs i 0 below) (reverse-append (take i xs) (get_or xs i 0 ∷ []))

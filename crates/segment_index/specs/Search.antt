@@ -1,5 +1,5 @@
 -- The search among the loads of some numbers.
-use Rattle.std.specs.Prelude.{ℕ, ◌==◌, List, Option, Some, None, if◌then◌else◌, Bool, false, fold, nat_lt}
+use Rattle.std.specs.Prelude.{ℕ, ◌==◌, List, Option, Some, None, if◌then◌else◌, Bool, false, fold, nat_le, nat_lt}
 use Rattle.std.specs.List.{find}
 use Rattle.olap_meaning.specs.declared.cells.Cell.{Cell}
 use Rattle.cache_flush.specs.Loads as loads
@@ -8,6 +8,16 @@ use Rattle.cache_flush.specs.Loads.{KeptOf, serves}
 -- the load of a number
 abbrev pub load_of : List KeptOf → ℕ → Option KeptOf
 load_of loads number = find (λ kept. kept.load == number) loads
+
+-- a load of this number or of a greater one was found
+abbrev pub reaches : Option KeptOf → ℕ → Bool
+reaches None number = false
+reaches (Some best) number = nat_le number best.load
+
+-- a load, where it serves a cell
+abbrev pub serving : Cell → Option KeptOf → Option KeptOf
+serving cell None = None
+serving cell (Some kept) = if serves kept cell then Some kept else None
 
 -- the later of two loads
 abbrev pub later : Option KeptOf → KeptOf → Option KeptOf

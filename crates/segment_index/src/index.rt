@@ -112,7 +112,7 @@ impl CacheShelf for SegmentIndex {
 
     fn reserve_shut(&mut self, region: &Arc<Region>) -> Result<List<Arc<Region>>, OutOfMemory> {
         let handles = handles_of(self.alloc, region, self.loads.len())?;
-        self.loads.reserve_shut()?;
+        self.loads.reserve_shut(region)?;
         Ok(handles)
     }
 

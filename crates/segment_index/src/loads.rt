@@ -95,13 +95,13 @@ impl Loads {
         prove!(added.is_ok());
     }
 
-    /// Makes room for one region more in what shuts off part of each load.
-    pub(crate) fn reserve_shut(&mut self) -> Result<(), OutOfMemory>
+    /// Makes room for a region in what shuts off part of each load.
+    pub(crate) fn reserve_shut(&mut self, region: &Region) -> Result<(), OutOfMemory>
         ensures rooms { OnOk result (All (λ room. 0 < room) self.new.rooms) }
         ensures loads { self.new.loads ≡ self.old.loads }
         ensures places { self.old.places ≤ self.new.places }
     {
-        reserve_each(&mut self.by_number)
+        reserve_each(&mut self.by_number, region)
     }
 
     /// Adds a region to what shuts off part of each load that it concerns. It takes no memory: the room is there.
@@ -128,15 +128,15 @@ fn numbers_in(alloc: Global, by_number: &IndexMap<u64, Kept>) -> Result<Vec<u64>
     Ok(numbers)
 }
 
-// Makes room for one region more in what shuts off part of each load.
-fn reserve_each(by_number: &mut IndexMap<u64, Kept>) -> Result<(), OutOfMemory>
+// Makes room for a region in what shuts off part of each load.
+fn reserve_each(by_number: &mut IndexMap<u64, Kept>, region: &Region) -> Result<(), OutOfMemory>
     ensures rooms { OnOk result (All (λ room. 0 < room) (rooms_of by_number.new.entries)) }
     ensures entries { seen by_number.new.entries ≡ seen by_number.old.entries }
     ensures places { spare by_number.old ≤ spare by_number.new }
 {
     for place in 0..by_number.len() {
         let kept = &mut by_number[place];
-        kept.reserve_shut()?;
+        kept.reserve_shut(region)?;
     }
     Ok(())
 }

@@ -1,5 +1,5 @@
 //! The search among the loads of some numbers.
-ghost use Rattle.std.specs.Prelude.{◌≡◌, IfOk, None, filter, option_copied, option_map};
+ghost use Rattle.std.specs.Prelude.{◌≡◌, IfOk, None, filter, option_copied, option_map, reverse};
 ghost use Rattle.cache_flush.specs.Loads.{kept_of};
 ghost use Rattle.segment_index.specs.Search as words;
 
@@ -8,41 +8,56 @@ use cache_flush::Kept;
 use olap_meaning::{Cell, OutOfMemory};
 use std::alloc::Global;
 
-// The later of two loads.
-fn later<'a>(best: Option<&'a Kept>, next: &'a Kept) -> Option<&'a Kept>
-    ensures { option_map kept_of (option_copied result)
-        ≡ words.later (option_map kept_of (option_copied best.entry)) (kept_of next.now) }
+// Whether a load of this number or of a greater one was found.
+fn reaches(best: Option<&Kept>, number: u64) -> bool
+    ensures { result ≡ words.reaches (option_map kept_of (option_copied best.entry)) number }
 {
     match best {
-        Some(found) if found.load >= next.load => best,
-        _ => Some(next),
+        Some(found) => found.load >= number,
+        None => false,
     }
 }
 
-// The later of two loads, where the next serves the cell.
+// A load, where it serves a cell.
+fn serving<'a>(cell: &Cell, next: Option<&'a Kept>) -> Option<&'a Kept>
+    ensures { option_map kept_of (option_copied result)
+        ≡ words.serving cell.now (option_map kept_of (option_copied next.entry)) }
+{
+    match next {
+        Some(kept) if kept.serves(cell) => Some(kept),
+        _ => None,
+    }
+}
+
+// The later of two loads, where the next serves the cell. It has to be the later one to be asked that.
 fn later_serving<'a>(
+    loads: &'a Loads,
     cell: &Cell,
     best: Option<&'a Kept>,
-    next: Option<&'a Kept>,
+    number: u64,
 ) -> Option<&'a Kept>
     ensures { option_map kept_of (option_copied result)
         ≡ words.later_serving cell.now (option_map kept_of (option_copied best.entry))
-        (option_map kept_of (option_copied next.entry)) }
+        (words.load_of loads.entry.now.loads number) }
 {
-    match next {
-        Some(kept) if kept.serves(cell) => later(best, kept),
-        _ => best,
+    if reaches(best, number) {
+        return best;
+    }
+    match serving(cell, loads.get(number)) {
+        Some(kept) => Some(kept),
+        None => best,
     }
 }
 
-/// Of the loads with some numbers, the latest that serves a cell. It takes no memory.
+/// Of the loads with some numbers, the latest that serves a cell. They are asked from the last number on, which most often is
+/// the latest. It takes no memory.
 pub(crate) fn latest_serving<'a>(loads: &'a Loads, numbers: &[u64], cell: &Cell) -> Option<&'a Kept>
     ensures { option_map kept_of (option_copied result)
-        ≡ words.latest_serving loads.now.loads cell.now None numbers.now }
+        ≡ words.latest_serving loads.now.loads cell.now None (reverse numbers.now) }
 {
     let mut best = None;
-    for number in numbers {
-        best = later_serving(cell, best, loads.get(*number));
+    for place in (0..numbers.len()).rev() {
+        best = later_serving(loads, cell, best, numbers[place]);
     }
     best
 }

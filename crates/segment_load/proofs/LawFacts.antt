@@ -55,28 +55,28 @@ first_allowed allowed (Some v) rest vs h =
     here (Some others) e passes = (v, others, refl, passes, refl, cc)
 
 module _ (f : ℕ → Option ℕ) where
-  -- a value stands in a column where the column is one of them and has the value
-  stands : (columns : List (ℕ × Allowed)) (vs : List ℕ) (pair : ℕ × ℕ) → allowed_values f columns ≡ Some vs
-      → list_any (λ own. (own.0.0 == pair.0) && (own.1 == pair.1)) (zip columns vs) ≡ (among (map (λ column. column.0) columns) pair.0 && is_some_and (λ value. value == pair.1) (f pair.0))
-  stands [] vs pair h = refl
-  stands (c ∷ cs) vs pair h =
+  -- a value that passes a test stands in a column where the column is one of them and has such a value
+  pub stands_where : (test : ℕ → Bool) (columns : List (ℕ × Allowed)) (vs : List ℕ) (x : ℕ) → allowed_values f columns ≡ Some vs
+      → list_any (λ own. (own.0.0 == x) && test own.1) (zip columns vs) ≡ (among (map (λ column. column.0) columns) x && is_some_and test (f x))
+  stands_where test [] vs x h = refl
+  stands_where test (c ∷ cs) vs x h =
       let parts = first_allowed c.1 (f c.0) (allowed_values f cs) vs h in
-      let rest = stands cs parts.1 pair parts.4 in
-      elim (cases_Bool (c.0 == pair.0)) [
+      let rest = stands_where test cs parts.1 x parts.4 in
+      elim (cases_Bool (c.0 == x)) [
         | inl same ↦
-            let here : f pair.0 ≡ Some parts.0 = rw (← eq_of c.0 pair.0 same) parts.2 in
-            rw (parts.5, same, rest, here) (or_twice (among (map (λ column. column.0) cs) pair.0) (parts.0 == pair.1))
+            let here : f x ≡ Some parts.0 = rw (← eq_of c.0 x same) parts.2 in
+            rw (parts.5, same, rest, here) (or_twice (among (map (λ column. column.0) cs) x) (test parts.0))
         | inr other ↦ rw (parts.5, other) rest
       ]
 
   -- values on columns are those of a cell where the cell's columns have the cell's values
-  all_stand : (columns : List (ℕ × Allowed)) (vs : List ℕ) (at : List (ℕ × ℕ)) → allowed_values f columns ≡ Some vs
+  pub all_stand : (columns : List (ℕ × Allowed)) (vs : List ℕ) (at : List (ℕ × ℕ)) → allowed_values f columns ≡ Some vs
       → list_all (λ pair. list_any (λ column. (column.0 == pair.0) && allows column.1 pair.1) columns) at ≡ true
       → list_all (λ pair. list_any (λ own. (own.0.0 == pair.0) && (own.1 == pair.1)) (zip columns vs)) at ≡ list_all (λ pair. is_some_and (λ value. value == pair.1) (f pair.0)) at
   all_stand columns vs [] h covered = refl
   all_stand columns vs (p ∷ ps) h covered =
       let parts = and_parts (list_any (λ column. (column.0 == p.0) && allows column.1 p.1) columns) (list_all (λ pair. list_any (λ column. (column.0 == pair.0) && allows column.1 pair.1) columns) ps) covered in
-      rw (stands columns vs p h, known columns p parts.0, all_stand columns vs ps h parts.1) refl
+      rw (stands_where (λ v. v == p.1) columns vs p.0 h, known columns p parts.0, all_stand columns vs ps h parts.1) refl
     where
       known : (cs : List (ℕ × Allowed)) (pair : ℕ × ℕ) → list_any (λ column. (column.0 == pair.0) && allows column.1 pair.1) cs ≡ true → among (map (λ column. column.0) cs) pair.0 ≡ true
       known [] pair found = absurd (cc)
@@ -84,7 +84,7 @@ module _ (f : ℕ → Option ℕ) where
           elim (cases_Bool (c.0 == pair.0)) [ inl same ↦ rw same refl | inr other ↦ rw other (known cs pair (rw other at found)) ]
 
   -- where no values are allowed, some column has none that it allows
-  missed : (columns : List (ℕ × Allowed)) → allowed_values f columns ≡ None → list_all (is_kept f) columns ≡ false
+  pub missed : (columns : List (ℕ × Allowed)) → allowed_values f columns ≡ None → list_all (is_kept f) columns ≡ false
   missed [] h = absurd (cc)
   missed (c ∷ cs) h = by (f c.0) (allowed_values f cs) h (missed cs)
     where

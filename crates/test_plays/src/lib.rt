@@ -2,6 +2,7 @@
 //! twice.
 #![tactic(auto)]
 
+mod answers;
 mod checks;
 pub mod many;
 mod mirror;
@@ -13,4 +14,4 @@ pub mod runs;
 pub mod shuts;
 pub mod small;
 pub mod steps;
-mod told;
+pub mod told;

@@ -3,7 +3,7 @@ ghost use Rattle.std.specs.Prelude.{◌≡◌, ◌<◌, length};
 
 use fact_versions::{Batch, Piece, Steps};
 use history_core::{Entry, History};
-use olap_meaning::{CellSource, List, OutOfMemory, Row};
+use olap_meaning::{List, OutOfMemory, Row};
 use olap_plain::PlainEntry;
 use region_algebra::copy_region;
 use segment_header::{copy_cell, copy_header};
@@ -41,22 +41,6 @@ fn rows_of<L: Ledger>(alloc: Global, batch: &Batch, blank: Blank) -> Result<List
 {
     let mut steps: Steps<L> = Steps::new(blank);
     rows_in(alloc, &batch.read(&mut steps))
-}
-
-fn copy_source(alloc: Global, source: &CellSource) -> Result<CellSource, OutOfMemory> {
-    let loads = Vec::from_slice(alloc, source.loads.as_slice())?;
-    Ok(CellSource {
-        cell: copy_cell(alloc, &source.cell)?,
-        loads: List::from_vec(loads),
-    })
-}
-
-fn copy_sources(alloc: Global, cells: &[CellSource]) -> Result<List<CellSource>, OutOfMemory> {
-    let mut copies = List::new(alloc);
-    for source in cells {
-        copies.push(copy_source(alloc, source)?)?;
-    }
-    Ok(copies)
 }
 
 fn plain_entry(alloc: Global, entry: &Entry) -> Result<PlainEntry, OutOfMemory> {
@@ -107,7 +91,7 @@ fn plain_entry(alloc: Global, entry: &Entry) -> Result<PlainEntry, OutOfMemory> 
         Entry::Evict { load } => PlainEntry::Evict { load: *load },
         Entry::Answer { who, cells } => PlainEntry::Answer {
             who: *who,
-            cells: copy_sources(alloc, cells.as_slice())?,
+            cells: cells.to_list(alloc)?,
         },
         Entry::Saw { who } => PlainEntry::Saw { who: *who },
     })

@@ -7,10 +7,11 @@ use olap_meaning::{
 };
 use olap_plain::PlainEntry;
 use olap_plain::history::{awaited, exact_source, floor, live};
+use olap_plain::sources::{has_rolled_source, has_source};
 use olap_plain::steps::{is_legal, legal_step};
 use std::alloc::Global;
 use std::test::Fail;
-use test_samples::lines::{add_line, asked, number, place, words};
+use test_samples::lines::{add_line, asked, measured, number, place, words};
 
 // A record by its key and its fields, parted at slashes.
 fn record(alloc: Global, text: &str) -> Result<Record, OutOfMemory> {
@@ -108,15 +109,22 @@ fn catalog(
     })
 }
 
-/// One dimension of time with two levels, and one cube with the sum of a fact column.
+/// One dimension of time with two levels, and one cube with the sum of a fact column and the count of its different
+/// numbers.
 pub fn small_setting(alloc: Global) -> Result<Setting, OutOfMemory> {
+    time_setting(alloc, "a/2024/Q1 b/2024/Q2 c/2023/Q1")
+}
+
+/// The small setting over other records of its dimension, parted at white space.
+pub fn time_setting(alloc: Global, records: &str) -> Result<Setting, OutOfMemory> {
     let mut dimensions = List::new(alloc);
-    dimensions.push(dimension(alloc, "Time", "a/2024/Q1 b/2024/Q2 c/2023/Q1")?)?;
+    dimensions.push(dimension(alloc, "Time", records)?)?;
     let mut columns = List::new(alloc);
     columns.push(column(alloc, "Year", 0, 0)?)?;
     columns.push(column(alloc, "Quarter", 0, 1)?)?;
     let mut measures = List::new(alloc);
     measures.push(measure(alloc, "Units", Aggregator::Sum)?)?;
+    measures.push(measure(alloc, "Different", Aggregator::DistinctCount)?)?;
     let cubes = cubes(alloc, 1, measures)?;
     Ok(Setting {
         catalog: catalog(alloc, dimensions, columns, cubes)?,
@@ -163,40 +171,80 @@ fn rows(alloc: Global, leaf: u32, count: u32) -> Result<List<Row>, OutOfMemory> 
     Ok(rows)
 }
 
-/// A cell of the small catalog: the first year, or its first or its second quarter.
+/// A cell of the small catalog: the first year, or its first or its second quarter; or by its measure and its columns:
+/// `1:0=0,1=1`.
 pub fn cell(alloc: Global, name: &str) -> Result<Cell, Fail> {
-    let mut at = List::new(alloc);
-    at.push((ColumnId(0), ValueId(0)))?;
     match name {
-        "year" => {}
-        "first" => at.push((ColumnId(1), ValueId(0)))?,
-        "second" => at.push((ColumnId(1), ValueId(1)))?,
-        _ => return Err(Fail::from("no cell")),
+        "year" => numbered_cell(alloc, "0:0=0"),
+        "first" => numbered_cell(alloc, "0:0=0,1=0"),
+        "second" => numbered_cell(alloc, "0:0=0,1=1"),
+        name => numbered_cell(alloc, name),
+    }
+}
+
+fn numbered_cell(alloc: Global, text: &str) -> Result<Cell, Fail> {
+    let (measure, columns) = measured(alloc, text)?;
+    let mut at = List::new(alloc);
+    for (column, value) in columns.as_slice() {
+        let Some(value) = value else {
+            return Err(Fail::from("no cell"));
+        };
+        at.push((ColumnId(*column), ValueId(*value)))?;
     }
     Ok(Cell {
         cube: CubeId(0),
-        measure: MeasureId(0),
+        measure: MeasureId(measure),
         at,
     })
 }
 
-// A header of a cell's columns, with any value.
-fn header(alloc: Global, cell: &Cell) -> Result<Header, OutOfMemory> {
+// What a header allows in a column: any value, or those of a set, parted at signs of addition.
+fn allowed(alloc: Global, text: &str) -> Result<Allowed, Fail> {
+    if text == "*" {
+        return Ok(Allowed::Any);
+    }
+    let mut values = List::new(alloc);
+    for value in text.split('+') {
+        values.push(ValueId(number(value)?))?;
+    }
+    Ok(Allowed::Set(values))
+}
+
+// The columns of a header: `0=*,1=0+1`.
+fn allowed_columns(alloc: Global, text: &str) -> Result<List<(ColumnId, Allowed)>, Fail> {
+    let mut columns = List::new(alloc);
+    for word in text.split_terminator(',') {
+        let Some((column, values)) = word.split_once('=') else {
+            return Err(Fail::from("no column"));
+        };
+        columns.push((ColumnId(place(column)?), allowed(alloc, values)?))?;
+    }
+    Ok(columns)
+}
+
+// The columns of a cell, with any value.
+fn open_columns(alloc: Global, cell: &Cell) -> Result<List<(ColumnId, Allowed)>, OutOfMemory> {
     let mut columns = List::new(alloc);
     for pair in cell.at.as_slice() {
         columns.push((pair.0, Allowed::Any))?;
     }
-    Ok(Header {
-        cube: cell.cube,
-        measure: cell.measure,
-        columns,
-    })
+    Ok(columns)
 }
 
-// A cell with the one load that it is taken from.
-fn cells(alloc: Global, name: &str, load: u64) -> Result<List<CellSource>, Fail> {
+// Loads, parted at signs of addition, or none.
+fn loads(alloc: Global, text: &str) -> Result<List<u64>, Fail> {
     let mut loads = List::new(alloc);
-    loads.push(load)?;
+    if text != "none" {
+        for load in text.split('+') {
+            loads.push(u64::from(number(load)?))?;
+        }
+    }
+    Ok(loads)
+}
+
+// A cell with the loads that it is taken from.
+fn cells(alloc: Global, name: &str, from: &str) -> Result<List<CellSource>, Fail> {
+    let loads = loads(alloc, from)?;
     let cell = cell(alloc, name)?;
     let mut cells = List::new(alloc);
     cells.push(CellSource { cell, loads })?;
@@ -264,25 +312,33 @@ fn aggregate(words: &[&str]) -> Result<PlainEntry, Fail> {
 }
 
 fn start(alloc: Global, words: &[&str]) -> Result<PlainEntry, Fail> {
-    let [seat, version, name] = words else {
+    let [seat, version, name, rest @ ..] = words else {
         return Err(Fail::from("no load"));
     };
     let reason = cell(alloc, name)?;
+    let columns = match rest {
+        [columns] => allowed_columns(alloc, columns)?,
+        _ => open_columns(alloc, &reason)?,
+    };
     Ok(PlainEntry::Start {
         who: who(seat, "0")?,
-        header: header(alloc, &reason)?,
+        header: Header {
+            cube: reason.cube,
+            measure: reason.measure,
+            columns,
+        },
         version: Version(number(version)?),
         reason,
     })
 }
 
 fn answer(alloc: Global, words: &[&str]) -> Result<PlainEntry, Fail> {
-    let [seat, call, name, load] = words else {
+    let [seat, call, name, loads] = words else {
         return Err(Fail::from("no answer"));
     };
     Ok(PlainEntry::Answer {
         who: who(seat, call)?,
-        cells: cells(alloc, name, u64::from(number(load)?))?,
+        cells: cells(alloc, name, loads)?,
     })
 }
 
@@ -337,12 +393,60 @@ fn entry(alloc: Global, text: &str) -> Result<PlainEntry, Fail> {
 // What is said of a step.
 const LEGAL: &str = "legal";
 
+// Tries a step behind the legal ones, and says whether it is legal.
+fn try_step(
+    alloc: Global,
+    setting: &Setting,
+    history: &mut Vec<PlainEntry>,
+    step: &str,
+) -> Result<&'static str, Fail> {
+    let next = entry(alloc, step)?;
+    if !legal_step(setting, history.as_slice(), &next) {
+        return Ok("not legal");
+    }
+    history.push(next)?;
+    Ok(LEGAL)
+}
+
+// Whether a cell has a source, and whether it has a rolled one.
+fn said_of_sources(
+    alloc: Global,
+    setting: &Setting,
+    history: &[PlainEntry],
+    name: &str,
+) -> Result<&'static str, Fail> {
+    let cell = cell(alloc, name)?;
+    let has = has_source(&setting.catalog, history, &cell);
+    let rolled = has_rolled_source(&setting.catalog, history, &cell);
+    Ok(match (has, rolled) {
+        (false, false) => "no source",
+        (false, true) => "no source, but a rolled one",
+        (true, false) => "a source",
+        (true, true) => "a source, rolled",
+    })
+}
+
+// Answers a line of a table of steps.
+fn said(
+    alloc: Global,
+    setting: &Setting,
+    history: &mut Vec<PlainEntry>,
+    asked: &str,
+) -> Result<&'static str, Fail> {
+    match asked.split_once(' ') {
+        Some(("has", name)) => said_of_sources(alloc, setting, history.as_slice(), name),
+        _ => try_step(alloc, setting, history, asked),
+    }
+}
+
 /// A table of steps over the small catalog, and whether each is legal behind the legal ones before it; with the history of
 /// the legal ones.
 ///
 /// `append CALL VERSION LEAF COUNT`, `agg CALL TABLE VERSION` and `flush CALL DIM COLUMN VALUE` are by seat 1, `start
-/// SEAT VERSION CELL`, `done SEAT LOAD`, `drop SEAT LOAD`, `answer SEAT CALL CELL LOAD` and `saw SEAT CALL` by a seat;
-/// `evict 0 LOAD` is by none. A line that begins with `#` is a remark.
+/// SEAT VERSION CELL COLUMNS`, `done SEAT LOAD`, `drop SEAT LOAD`, `answer SEAT CALL CELL LOADS` and `saw SEAT CALL` by a
+/// seat; `evict 0 LOAD` is by none. The columns of a load are told with what it allows there, as `0=*,1=0+1`, or left
+/// out, where it allows any value in the cell's columns; loads are told as `2+4`, or `none`. `has CELL` is no step: it
+/// asks for the sources of a cell. A line that begins with `#` is a remark.
 pub fn tell_steps(
     alloc: Global,
     setting: &Setting,
@@ -357,18 +461,22 @@ pub fn tell_steps(
             continue;
         }
         let asked = asked(line);
-        let next = entry(alloc, asked)?;
-        if legal_step(setting, history.as_slice(), &next) {
-            history.push(next)?;
-            add_line(&mut text, asked, LEGAL)?;
-        } else {
-            add_line(&mut text, asked, "not legal")?;
-        }
+        let said = said(alloc, setting, &mut history, asked)?;
+        add_line(&mut text, asked, said)?;
     }
     if !is_legal(setting, history.as_slice()) {
         return Err(Fail::from("the history is not legal"));
     }
     Ok((text, history))
+}
+
+/// The entries of a table of steps, whether they are legal or not.
+pub fn read_steps(alloc: Global, table: &str) -> Result<Vec<PlainEntry>, Fail> {
+    let mut history = Vec::new(alloc);
+    for line in table.lines() {
+        history.push(entry(alloc, line)?)?;
+    }
+    Ok(history)
 }
 
 // What is said of a cell, or of a load of it, in a history.

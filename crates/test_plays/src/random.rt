@@ -1,19 +1,19 @@
 //! Calls that are drawn from a seed, on a manager over the sample files. After each the manager is compared with the slow
-//! bodies of the definitions, which walk its whole history: the version of the cube, which loads fly, the sources of the
-//! cells that are asked for, which loads are kept and how many flushes touch each, when a batch is refused, and that the
-//! history is legal.
+//! bodies of the definitions, which walk its whole history: the version of the cube, which loads fly, whether the cells that
+//! are asked for have sources, what they are answered from and by which values, which loads are kept and how many flushes
+//! touch each, when a batch is refused, and that the history is legal.
 ghost use Rattle.std.specs.Prelude.{◌≤◌, ◌<◌};
 
+use crate::answers::rolled_cells;
 use crate::mirror::add_new;
 use crate::plain::sample_setting;
 use crate::played::Played;
-use history_core::CacheView;
-use olap_meaning::tables::Setting;
-use olap_meaning::{
-    Cell, CellSource, ColumnId, CubeId, List, MeasureId, OutOfMemory, ValueId, Who,
-};
+use history_core::{Answer, CacheView};
+use olap_meaning::tables::{Catalog, Setting};
+use olap_meaning::{Cell, ColumnId, CubeId, List, MeasureId, OutOfMemory, ValueId, Who};
 use olap_plain::PlainEntry;
-use olap_plain::history::{exact_source, flush_count, flying, kept, version};
+use olap_plain::history::{flush_count, flying, kept, version};
+use olap_plain::sources::has_source;
 use olap_plain::steps::{is_legal, rows_held};
 use std::alloc::Global;
 use std::test::Fail;
@@ -35,20 +35,23 @@ const REGIONS: [&str; 8] = [
     "[Sales]CROSSJOIN(MEASURES,RANGE([Time].[1998],[Time].[1997]))",
 ];
 
-/// A manager, and its history as the plain bodies have it.
+/// A manager, its history as the plain bodies have it, and the cell above those that were asked for last.
 #[derive(Drop)]
 struct Compared {
     alloc: Global,
     setting: Setting,
     played: Played,
     plain: Vec<PlainEntry>,
+    above: Option<Cell>,
 }
 
-/// How often a look was answered, how often it started loads, how often a batch was refused, how often a region was flushed
-/// while a load flew and while none did, and how many kept loads were shown that some flush touches.
+/// How often a look was answered, how many cells were rolled up, how often a look started loads, how often a batch was
+/// refused, how often a region was flushed while a load flew and while none did, and how many kept loads were shown that
+/// some flush touches.
 #[derive(Clone, Copy, Debug, PartialEq, Eq)]
 pub struct Counts {
     pub answers: u32,
+    pub rolled: u32,
     pub loads: u32,
     pub refused: u32,
     pub overtaken: u32,
@@ -64,33 +67,6 @@ fn flies(plain: &[PlainEntry]) -> bool {
         }
     }
     false
-}
-
-// Each cell's exact source.
-fn sources(
-    alloc: Global,
-    plain: &[PlainEntry],
-    cells: &[Cell],
-) -> Result<Vec<Option<u64>>, OutOfMemory> {
-    let mut sources = Vec::new(alloc);
-    for cell in cells {
-        sources.push(exact_source(plain, cell))?;
-    }
-    Ok(sources)
-}
-
-// Whether each cell of an answer is from its exact source.
-fn are_exact(cells: &[CellSource], sources: &[Option<u64>]) -> bool {
-    if cells.len() != sources.len() {
-        return false;
-    }
-    for place in 0..cells.len() {
-        match sources[place] {
-            Some(load) if cells[place].loads.as_slice() == [load].as_slice() => {}
-            _ => return false,
-        }
-    }
-    true
 }
 
 // How many of the loads that are shown some flush touches, where they are those that the plain bodies keep, by rising
@@ -116,16 +92,20 @@ fn touched(plain: &[PlainEntry], view: &CacheView) -> Result<u32, Fail> {
     Ok(touched)
 }
 
-// Whether each load that was started behind so many entries is for a cell that had no source.
-fn are_wanted(plain: &[PlainEntry], before: usize) -> bool {
-    let (old, new) = plain.split_at(before.min(plain.len()));
+// Whether some cell has no source.
+fn some_want(catalog: &Catalog, plain: &[PlainEntry], cells: &[Cell]) -> bool {
+    cells.iter().any(|cell| !has_source(catalog, plain, cell))
+}
+
+// Whether each of some entries is the Start of a load for a cell that had no source before them.
+fn are_wanted(catalog: &Catalog, old: &[PlainEntry], new: &[PlainEntry]) -> bool {
     new.iter().all(|entry| match entry {
         PlainEntry::Start {
             who: _,
             header: _,
             version: _,
             reason,
-        } => exact_source(old, reason).is_none(),
+        } => !has_source(catalog, old, reason),
         _ => false,
     })
 }
@@ -160,13 +140,72 @@ fn cell(alloc: Global, random: &mut Random) -> Result<Cell, OutOfMemory> {
     })
 }
 
+// A cell with some values of another, of its measure.
+fn cell_at(alloc: Global, other: &Cell, at: &[(ColumnId, ValueId)]) -> Result<Cell, OutOfMemory> {
+    Ok(Cell {
+        cube: other.cube,
+        measure: other.measure,
+        at: List::from_vec(Vec::from_slice(alloc, at)?),
+    })
+}
+
+/// Cells that are asked for, and the cell above them, where they have all values of a column that it lacks.
+#[derive(Drop)]
+struct Drawn {
+    cells: List<Cell>,
+    above: Option<Cell>,
+}
+
+// All cells that differ from one at most in the value of its last column, and the cell above them.
+fn beside(alloc: Global, cell: &Cell) -> Result<Drawn, OutOfMemory> {
+    let mut cells = List::new(alloc);
+    let [rest @ .., last] = cell.at.as_slice() else {
+        return Ok(Drawn { cells, above: None });
+    };
+    let values = if last.0.0 == 3 { 3 } else { 2 };
+    for value in 0..values {
+        let mut one = cell_at(alloc, cell, rest)?;
+        one.at.push((last.0, ValueId(value)))?;
+        cells.push(one)?;
+    }
+    let above = Some(cell_at(alloc, cell, rest)?);
+    Ok(Drawn { cells, above })
+}
+
 // From one to three cells.
-fn cells(alloc: Global, random: &mut Random) -> Result<List<Cell>, OutOfMemory> {
+fn some_cells(alloc: Global, random: &mut Random) -> Result<Drawn, OutOfMemory> {
     let mut cells = List::new(alloc);
     for _ in 0..random.below(3) + 1 {
         cells.push(cell(alloc, random)?)?;
     }
-    Ok(cells)
+    Ok(Drawn { cells, above: None })
+}
+
+// A cell that is given, and perhaps another.
+fn with_given(alloc: Global, random: &mut Random, given: Cell) -> Result<Drawn, OutOfMemory> {
+    let mut cells = List::new(alloc);
+    cells.push(given)?;
+    if random.below(2) == 0 {
+        cells.push(cell(alloc, random)?)?;
+    }
+    Ok(Drawn { cells, above: None })
+}
+
+// Cells to ask for: the one above those before, all values of a column beside each other, or whatever cells.
+fn draw_cells(
+    alloc: Global,
+    random: &mut Random,
+    above: Option<Cell>,
+) -> Result<Drawn, OutOfMemory> {
+    let kind = random.below(4);
+    match above {
+        Some(above) if kind > 0 => with_given(alloc, random, above),
+        _ if kind > 1 => {
+            let first = cell(alloc, random)?;
+            beside(alloc, &first)
+        }
+        _ => some_cells(alloc, random),
+    }
 }
 
 impl Compared {
@@ -176,6 +215,7 @@ impl Compared {
             setting: sample_setting(alloc, LIMIT)?,
             played: Played::new(alloc, LIMIT)?,
             plain: Vec::new(alloc),
+            above: None,
         })
     }
 
@@ -206,26 +246,49 @@ impl Compared {
         Ok(refused)
     }
 
-    // Asks for cells, and says whether they were answered.
-    fn look(&mut self, who: Who, cells: &[Cell]) -> Result<bool, Fail> {
+    // How many cells of an answer are rolled up, the last entry being that of the answer.
+    fn rolled(&self, cells: &[Cell], answer: &Answer) -> Result<u32, Fail> {
+        let [
+            before @ ..,
+            PlainEntry::Answer {
+                who: _,
+                cells: sources,
+            },
+        ] = self.plain.as_slice()
+        else {
+            return Err(Fail::from("an answer without its entry"));
+        };
+        let catalog = &self.setting.catalog;
+        rolled_cells(
+            self.alloc,
+            catalog,
+            before,
+            cells,
+            sources.as_slice(),
+            answer,
+        )
+    }
+
+    // Asks for cells, and says how many were rolled up, where they were answered.
+    fn look(&mut self, who: Who, cells: &[Cell]) -> Result<Option<u32>, Fail> {
         let before = self.plain.len();
-        let sources = sources(self.alloc, self.plain.as_slice(), cells)?;
-        let answered = self.played.look(who, cells)?.is_some();
+        let wanted = some_want(&self.setting.catalog, self.plain.as_slice(), cells);
+        let answer = self.played.look(who, cells)?;
         self.compare()?;
-        if answered {
-            return match self.plain.as_slice().last() {
-                Some(PlainEntry::Answer { who: _, cells })
-                    if are_exact(cells.as_slice(), sources.as_slice()) => Ok(true),
-                _ => Err(Fail::from("an answer from another source")),
-            };
+        if let Some(answer) = answer {
+            if wanted {
+                return Err(Fail::from("an answer to a cell without a source"));
+            }
+            return Ok(Some(self.rolled(cells, &answer)?));
         }
-        if sources.as_slice().iter().all(|source| source.is_some()) {
+        if !wanted {
             return Err(Fail::from("a load too many"));
         }
-        if !are_wanted(self.plain.as_slice(), before) {
-            return Err(Fail::from("a load for a cell that has its source"));
+        let (old, new) = self.plain.split_at(before.min(self.plain.len()));
+        if !are_wanted(&self.setting.catalog, old, new) {
+            return Err(Fail::from("a load for a cell that has a source"));
         }
-        Ok(false)
+        Ok(None)
     }
 
     // Flushes a region, and says whether a load flew.
@@ -305,11 +368,14 @@ fn step(
     if !compared.played.is_idle() {
         return compared.end(kind < 9);
     }
-    let cells = cells(compared.alloc, random)?;
-    if compared.look(who, cells.as_slice())? {
-        counts.answers = counts.answers.saturating_add(1);
-    } else {
-        counts.loads = counts.loads.saturating_add(1);
+    let drawn = draw_cells(compared.alloc, random, compared.above.take())?;
+    compared.above = drawn.above;
+    match compared.look(who, drawn.cells.as_slice())? {
+        Some(rolled) => {
+            counts.answers = counts.answers.saturating_add(1);
+            counts.rolled = counts.rolled.saturating_add(rolled);
+        }
+        None => counts.loads = counts.loads.saturating_add(1),
     }
     Ok(())
 }
@@ -320,6 +386,7 @@ pub fn play_drawn(alloc: Global, seed: u64, calls: u32) -> Result<Counts, Fail> 
     let mut compared = Compared::new(alloc)?;
     let mut counts = Counts {
         answers: 0,
+        rolled: 0,
         loads: 0,
         refused: 0,
         overtaken: 0,

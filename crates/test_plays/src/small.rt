@@ -3,7 +3,7 @@ ghost use Rattle.std.specs.Prelude.{◌≡◌, ◌<◌, ◌≤◌, ◌+◌, [], 
 ghost use Rattle.test_plays.specs.Small.{small_schema, small_catalog, small_row, whole, HasFirst};
 
 use fact_versions::Batch;
-use history_core::{CellSource, Entry, History};
+use history_core::{CellSources, Entry, History};
 use olap_catalog::{Catalog, build_catalog};
 use olap_meaning::schema::{Schema, SchemaCube};
 use olap_meaning::tables::Measure;
@@ -71,17 +71,13 @@ fn batch(alloc: Global) -> Result<Arc<Batch>, OutOfMemory>
     Ok(Arc::new(alloc, batch)?)
 }
 
-fn answered(alloc: Global) -> Result<List<CellSource>, OutOfMemory>
-    ensures { IfOk result (λ cells. cells ≡ (record { cell = whole; loads = 2 ∷ [] }) ∷ []) }
+fn answered(alloc: Global) -> Result<Arc<CellSources>, OutOfMemory>
+    ensures { IfOk result
+        (λ cells. cells.value ≡ (record { cell = whole; loads = 2 ∷ [] }) ∷ []) }
 {
-    let mut loads = List::new(alloc);
-    loads.push(2)?;
-    let mut cells = List::new(alloc);
-    cells.push(CellSource {
-        cell: whole(alloc),
-        loads,
-    })?;
-    Ok(cells)
+    let mut cells = CellSources::new(alloc);
+    cells.push(&whole(alloc), &[2])?;
+    Ok(Arc::new(alloc, cells)?)
 }
 
 fn append(history: &mut History, batch: Arc<Batch>)
@@ -129,10 +125,10 @@ fn deliver(history: &mut History)
     });
 }
 
-fn answer(history: &mut History, cells: List<CellSource>)
+fn answer(history: &mut History, cells: Arc<CellSources>)
     requires room { 0 < history.old.spare }
     requires before { HasFirst 3 history.old }
-    requires cells { cells ≡ (record { cell = whole; loads = 2 ∷ [] }) ∷ [] }
+    requires cells { cells.value ≡ (record { cell = whole; loads = 2 ∷ [] }) ∷ [] }
     ensures after { HasFirst 4 history.new }
 {
     history.push(Entry::Answer {

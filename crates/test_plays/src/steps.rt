@@ -5,7 +5,8 @@
 ghost use Rattle.std.specs.Prelude.{◌≤◌};
 
 use crate::played::Played;
-use crate::told::{told_answer, told_append, told_entry, told_jobs, told_view};
+use crate::told::{told_answer, told_append, told_entry, told_jobs, told_sources, told_view};
+use history_core::Entry;
 use olap_meaning::{Cell, ColumnId, CubeId, List, MeasureId, ROW_LIMIT, ValueId, Who};
 use std::alloc::{AllocError, Global};
 use std::test::Fail;
@@ -114,6 +115,14 @@ fn entry(alloc: Global, played: &Played, place: &str) -> Result<String, Fail> {
     Ok(told_entry(alloc, played.history().entry(place))?)
 }
 
+// What the cells of an answer are taken from.
+fn sources(alloc: Global, played: &Played, place: &str) -> Result<String, Fail> {
+    match played.history().entry(u64::from(number(place)?)) {
+        Some(Entry::Answer { who: _, cells }) => Ok(told_sources(alloc, cells)?),
+        _ => Err(Fail::from("no answer")),
+    }
+}
+
 /// Does a step, and says what it came to.
 fn done(alloc: Global, played: &mut Played, asked: &str) -> Result<String, Fail> {
     let words = words(alloc, asked)?;
@@ -126,6 +135,7 @@ fn done(alloc: Global, played: &mut Played, asked: &str) -> Result<String, Fail>
         ("flush", [who, region]) => flush(alloc, played, who, region),
         ("show", [who]) => show(alloc, played, who),
         ("entry", [place]) => entry(alloc, played, place),
+        ("sources", [place]) => sources(alloc, played, place),
         (word, _) => plain_step(alloc, played, word),
     }
 }
@@ -137,7 +147,8 @@ fn done(alloc: Global, played: &mut Played, asked: &str) -> Result<String, Fail>
 /// - `flush SEAT/CALL TEXT` flushes the region of a text without white space, as `[Sales]MEASURES`;
 /// - `show SEAT/CALL` shows what is kept;
 /// - `deliver` and `abandon` end the oldest load in flight;
-/// - `count` and `present` look at the entries and at the present version, and `entry N` reads an entry back.
+/// - `count` and `present` look at the entries and at the present version, `entry N` reads an entry back, and `sources N`
+///   reads what the cells of an answer are taken from.
 pub fn tell_steps(alloc: Global, row_limit: u32, table: &str) -> Result<String, Fail>
     requires { row_limit ≤ ROW_LIMIT }
 {

@@ -1,7 +1,7 @@
 //! Answers, jobs and entries in words.
 use cache_manager::Reply;
 use fact_versions::AppendFault;
-use history_core::{Answer, Appended, CacheView, Entry};
+use history_core::{Answer, Appended, CacheView, CellSources, Entry};
 use olap_meaning::{Allowed, Header};
 use segment_load::LoadJob;
 use std::alloc::{AllocError, Global};
@@ -22,6 +22,35 @@ pub(crate) fn told_answer(alloc: Global, answer: &Answer) -> Result<String, Allo
     let mut text = format!(in alloc; "answer {}:", answer.position)?;
     for cell in answer.cells.as_slice() {
         let more = format!(in alloc; " {:?} of {}", cell.value, cell.version.0)?;
+        text.push_str(more.as_str())?;
+    }
+    Ok(text)
+}
+
+/// The loads that each cell is taken from, by rising number.
+pub(crate) fn told_sources(alloc: Global, cells: &CellSources) -> Result<String, AllocError> {
+    let mut text = String::new(alloc);
+    for place in 0..cells.len() {
+        if place > 0 {
+            text.push_str("; ")?;
+        }
+        if let Some(loads) = cells.loads_at(place) {
+            let more = told_loads(alloc, loads)?;
+            text.push_str(more.as_str())?;
+        }
+    }
+    Ok(text)
+}
+
+fn told_loads(alloc: Global, loads: &[u64]) -> Result<String, AllocError> {
+    let mut rising = Vec::from_slice(alloc, loads)?;
+    rising.sort_unstable();
+    let mut text = String::new(alloc);
+    for load in rising.as_slice() {
+        if !text.is_empty() {
+            text.push('+')?;
+        }
+        let more = format!(in alloc; "{load}")?;
         text.push_str(more.as_str())?;
     }
     Ok(text)
@@ -77,7 +106,7 @@ pub(crate) fn told_jobs(alloc: Global, jobs: &[LoadJob]) -> Result<String, Alloc
 }
 
 /// An entry: its kind, its call, and its numbers.
-pub(crate) fn told_entry(alloc: Global, entry: Option<&Entry>) -> Result<String, AllocError> {
+pub fn told_entry(alloc: Global, entry: Option<&Entry>) -> Result<String, AllocError> {
     match entry {
         None => format!(in alloc; "nothing"),
         Some(
@@ -103,11 +132,13 @@ pub(crate) fn told_entry(alloc: Global, entry: Option<&Entry>) -> Result<String,
                 reason,
             },
         ) => format!(in alloc;
-            "start {}/{}: measure {}, version {}, for {} columns",
+            "start {}/{}: cube {}, measure {}, version {}, columns {}, for {}",
             who.seat,
             who.call,
+            header.cube.0,
             header.measure.0,
             version.0,
+            header.columns.len(),
             reason.at.len()
         ),
         Some(

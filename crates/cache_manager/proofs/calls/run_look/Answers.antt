@@ -3,7 +3,7 @@ use Rattle.std.proofs.Common.{◌≡◌, ◌∙◌, ◌+◌, ◌++◌, ◌∷◌
 use Rattle.std.proofs.lemmas.Bool.{both_ways, lt-ltb}
 use Rattle.olap_meaning.specs.declared.cells.Cell.{Cell}
 use Rattle.olap_meaning.specs.History.{Answer, Start}
-use Rattle.history_core.specs.Answers.{HasSource, IsAnswer, SomeWants, source_of}
+use Rattle.history_core.specs.Answers.{HasSource, IsAnswer, SomeWants}
 use Rattle.history_core.specs.Cache.{CacheOf}
 use Rattle.history_core.specs.Groups.{loads_for}
 use Rattle.history_core.specs.Groups.{numbers_from}
@@ -36,8 +36,7 @@ returns-in-Ok-Ready-clause-reply c = (
 
 pub returns-in-Ok-Ready-clause-next : goal.returns-in-Ok-Ready-clause-next
 returns-in-Ok-Ready-clause-next c =
-    let entry : c.look.new.self.entries ≡ c.args.manager.now.entries ++ Answer c.args.who (map (source_of c.args.manager.now.entries) c.args.cells) ∷ [] =
-    (rw c.in-Ok-Ready.field-0-is at c.in-Ok-Ready.ensures.answer_entry) ∙ ap (λ (cells : List Cell). c.args.manager.now.entries ++ Answer c.args.who (map (source_of c.args.manager.now.entries) cells) ∷ []) c.as_slice.ensures in
+    let entry : c.look.new.self.entries ≡ c.args.manager.now.entries ++ Answer c.args.who c.in-Ok-Ready.answer.sources.value ∷ [] = rw c.in-Ok-Ready.field-0-is at c.in-Ok-Ready.ensures.answer_entry in
     goes_on c.args.manager.now c.look.new.self _ _ _ _ c.look.ensures.setting entry refl
 
 pub returns-in-Ok-Load-clause-run : goal.returns-in-Ok-Load-clause-run

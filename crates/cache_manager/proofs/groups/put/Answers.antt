@@ -1,7 +1,7 @@
 -- The search says whether the value is there, and else where it belongs.
 use Rattle.std.proofs.Common.{◌∙◌, sym, ap, ℕ, List}
 use Rattle.olap_meaning.specs.Covering.{among}
-use Rattle.cache_manager.proofs.Rising.{among_put, put_found, put_missed, rise_put}
+use Rattle.cache_flush.proofs.Putting.{among_put, put_found, put_missed, rise_put}
 use Rattle.cache_manager.proofs.groups.put.Goals as goal
 
 pub returns-in_ok-insert-in-Err-clause-rising : goal.returns-in_ok-insert-in-Err-clause-rising

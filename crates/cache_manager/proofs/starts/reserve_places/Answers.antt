@@ -1,6 +1,6 @@
 -- One load more has its place.
 use Rattle.std.proofs.Common.{◌∙◌, ◌++◌, map, subst, sym, take}
-use Rattle.cache_manager.specs.Kept.{has_places}
+use Rattle.segment_index.specs.Index.{has_places}
 use Rattle.cache_manager.proofs.Starting.{headers_more}
 use Rattle.cache_manager.proofs.starts.reserve_places.Goals as goal
 

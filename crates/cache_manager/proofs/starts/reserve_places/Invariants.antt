@@ -1,7 +1,7 @@
 -- What holds at each turn of `reserve_places`.
 use Rattle.std.proofs.Common.{◌≡◌, ◌++◌, List, map, take}
 use Rattle.olap_meaning.specs.declared.cells.Header.{Header}
-use Rattle.cache_manager.specs.Kept.{has_places}
+use Rattle.segment_index.specs.Index.{has_places}
 use Rattle.cache_manager.proofs.starts.reserve_places.Given as goal
 
 -- the loads so far have places

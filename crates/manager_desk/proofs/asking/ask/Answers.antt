@@ -4,7 +4,6 @@ use Rattle.std.proofs.lemmas.List.Elements.{All-weaker}
 use Rattle.olap_meaning.specs.declared.cells.Who.{Who}
 use Rattle.olap_meaning.specs.History.{Answer, Entry}
 use Rattle.segment_load.specs.Loads.{JobOf}
-use Rattle.history_core.specs.Answers.{source_of}
 use Rattle.history_core.specs.Cache.{CacheOf}
 use Rattle.history_core.specs.Groups.{loads_for}
 use Rattle.cache_manager.specs.Runs.{apart}
@@ -119,7 +118,7 @@ returns-in-Ready-clause-idle g c =
 
 pub returns-in-Ready-clause-count : goal.returns-in-Ready-clause-count
 returns-in-Ready-clause-count g c =
-    count_one c.args.manager.now.setting c.args.manager.now.entries c.look.new.self.entries (Answer c.args.who (map (source_of c.args.manager.now.entries) c.args.cells.now)) c.args.read.now c.steps_are_legal.ensures refl
+    count_one c.args.manager.now.setting c.args.manager.now.entries c.look.new.self.entries (Answer c.args.who c.in-Ready.answer.sources.value) c.args.read.now c.steps_are_legal.ensures refl
     (rw c.in-Ready.is at c.in_ok-answer.ensures.answer_entry) c.requires.count
 
 pub returns-in_ok-answer-in-Load-clause-answered : goal.returns-in_ok-answer-in-Load-clause-answered
@@ -141,7 +140,7 @@ returns-in_ok-answer-in-Load-clause-idle g c =
 
 pub returns-in_ok-answer-in-Load-clause-count : goal.returns-in_ok-answer-in-Load-clause-count
 returns-in_ok-answer-in-Load-clause-count g c =
-    count_one c.end_loads.new.manager.setting c.end_loads.new.manager.entries c.answer_ready.new.manager.entries (Answer c.args.who (map (source_of c.end_loads.new.manager.entries) c.args.cells.now)) c.end_loads.new.read c.steps_are_legal-in-Load-2.ensures refl
+    count_one c.end_loads.new.manager.setting c.end_loads.new.manager.entries c.answer_ready.new.manager.entries (Answer c.args.who c.in_ok-answer-in-Load.answer.sources.value) c.end_loads.new.read c.steps_are_legal-in-Load-2.ensures refl
     c.in_ok-answer-in-Load.ensures.entry c.end_loads.ensures.count
 
 pub returns-in_ok-answer-in-Load-clause-cost : goal.returns-in_ok-answer-in-Load-clause-cost
@@ -154,8 +153,8 @@ returns-in_ok-answer-in-Load-clause-cost g c =
       legal = c.steps_are_legal-in-Load.ensures;
     } in
     let read =
-    read_in_all c.args.manager.now c.look.new.self c.args.who c.args.cells.now c.in-Load.jobs look c.answer_ready.new.manager.entries (Answer c.args.who (map (source_of c.end_loads.new.manager.entries) c.args.cells.now)) c.requires.seat refl (λ es. refl)
-    (c.in_ok-answer-in-Load.ensures.entry ∙ ap (λ (es : List Entry). es ++ Answer c.args.who (map (source_of c.end_loads.new.manager.entries) c.args.cells.now) ∷ []) (c.end_loads.ensures.delivered c.if-not-end_loads.false)) in
+    read_in_all c.args.manager.now c.look.new.self c.args.who c.args.cells.now c.in-Load.jobs look c.answer_ready.new.manager.entries (Answer c.args.who c.in_ok-answer-in-Load.answer.sources.value) c.requires.seat refl (λ es. refl)
+    (c.in_ok-answer-in-Load.ensures.entry ∙ ap (λ (es : List Entry). es ++ Answer c.args.who c.in_ok-answer-in-Load.answer.sources.value ∷ []) (c.end_loads.ensures.delivered c.if-not-end_loads.false)) in
     let cost = c.end_loads.ensures.cost c.if-not-end_loads.false in
     omega (arith, read, cost)
 
@@ -169,6 +168,6 @@ returns-in_ok-answer-in-Load-clause-at_most g c =
       legal = c.steps_are_legal-in-Load.ensures;
     } in
     let read =
-    read_in_all c.args.manager.now c.look.new.self c.args.who c.args.cells.now c.in-Load.jobs look c.answer_ready.new.manager.entries (Answer c.args.who (map (source_of c.end_loads.new.manager.entries) c.args.cells.now)) c.requires.seat refl (λ es. refl)
-    (c.in_ok-answer-in-Load.ensures.entry ∙ ap (λ (es : List Entry). es ++ Answer c.args.who (map (source_of c.end_loads.new.manager.entries) c.args.cells.now) ∷ []) (c.end_loads.ensures.delivered c.if-not-end_loads.false)) in
+    read_in_all c.args.manager.now c.look.new.self c.args.who c.args.cells.now c.in-Load.jobs look c.answer_ready.new.manager.entries (Answer c.args.who c.in_ok-answer-in-Load.answer.sources.value) c.requires.seat refl (λ es. refl)
+    (c.in_ok-answer-in-Load.ensures.entry ∙ ap (λ (es : List Entry). es ++ Answer c.args.who c.in_ok-answer-in-Load.answer.sources.value ∷ []) (c.end_loads.ensures.delivered c.if-not-end_loads.false)) in
     omega (arith, read, c.end_loads.ensures.at_most)

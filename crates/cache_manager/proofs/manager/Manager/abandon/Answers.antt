@@ -1,7 +1,7 @@
 -- A load of its own may be dropped, and the manager keeps what its history says.
 use Rattle.std.proofs.Common.{[]}
 use Rattle.segment_index.proofs.PlaceFacts.{places_apart}
-use Rattle.cache_manager.specs.Kept.{has_places}
+use Rattle.segment_index.specs.Index.{has_places}
 use Rattle.cache_manager.proofs.Ends.{ends, flies, in_flight, spares}
 use Rattle.cache_manager.proofs.Managing.{places_but}
 use Rattle.cache_manager.proofs.Moves.{dropped}

@@ -3,7 +3,8 @@ use Rattle.std.proofs.Common.{◌∙◌, ap, refl, subst}
 use Rattle.olap_meaning.specs.History.{load_version}
 use Rattle.history_core.specs.Cache.{CacheOf}
 use Rattle.segment_index.proofs.PlaceFacts.{places_apart}
-use Rattle.cache_manager.specs.Kept.{has_places, headers_of}
+use Rattle.segment_index.specs.Index.{has_places}
+use Rattle.cache_manager.specs.Kept.{headers_of}
 use Rattle.cache_manager.proofs.Ends.{ends, flies, headers_own, in_flight, keeps, shut_of, spares, unkept}
 use Rattle.cache_manager.proofs.Managing.{place_of_one, places_left}
 use Rattle.cache_manager.proofs.Moves.{delivered}

@@ -4,7 +4,7 @@ use Rattle.std.specs.Prelude.{IsTrue}
 use Rattle.olap_meaning.specs.declared.regions.Region.{Region}
 use Rattle.olap_meaning.specs.Legal.{is_flushable, is_next_call}
 use Rattle.history_core.specs.Cache.{CacheOf}
-use Rattle.cache_manager.specs.Kept.{has_places}
+use Rattle.segment_index.specs.Index.{has_places}
 use Rattle.cache_manager.proofs.Moves.{flushed}
 use Rattle.cache_manager.proofs.manager.Manager.flush.Goals as goal
 

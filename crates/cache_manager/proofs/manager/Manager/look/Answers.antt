@@ -1,40 +1,62 @@
--- Where no cell wants a source each has one, and else the wanting cells may be loaded.
-use Rattle.std.proofs.Common.{◌≡◌, ◌∙◌, List, ap, sym, subst, length, true, not, is_some}
-use Rattle.std.specs.List.{list_all}
-use Rattle.std.specs.Vec.{vec_len}
-use Rattle.std.proofs.lemmas.Bool.{eqb-false, eqb-true}
+-- The wanting cells may be loaded, and what each served cell is answered is so and fresh.
+use Rattle.std.proofs.Common.{◌≡◌, ◌∙◌, ◌+◌, List, ap, sym, subst, length, map, arith, true, not, is_some, All}
+use Rattle.std.specs.List.{AllByRecursion as Each, list_all, zip}
+use Rattle.std.specs.Prelude.{nat_le}
+use Rattle.std.proofs.lemmas.List.{length_push}
 use Rattle.olap_meaning.specs.declared.cells.Cell.{Cell}
-use Rattle.olap_meaning.specs.History.{exact_source}
-use Rattle.olap_meaning.specs.Legal.{is_cell}
+use Rattle.olap_meaning.specs.declared.cells.CellSource.{CellSource}
+use Rattle.olap_meaning.specs.History.{exact_source, floor}
+use Rattle.olap_meaning.specs.Legal.{IsAnswered, has_source, is_cell}
+use Rattle.olap_meaning.specs.Worth.{answered_version, worth}
 use Rattle.cache_manager.specs.Lent.{lent}
+use Rattle.history_core.specs.Answers.{AreSources, HasSource}
 use Rattle.history_core.specs.Groups.{wanting}
-use Rattle.cache_manager.proofs.Lending.{length-lent}
-use Rattle.cache_manager.proofs.Looking.{all_served, kept_all, kept_pass, none_wanted, some_wants}
+use Rattle.cache_manager.proofs.Answering.{all_fresh, each_answered}
+use Rattle.cache_manager.proofs.Looking.{all_served, kept_all, kept_pass, some_wants, unserved_all}
 use Rattle.cache_manager.proofs.manager.Manager.look.Goals as goal
-
-pub answer-requires-clause-served : goal.answer-requires-clause-served
-answer-requires-clause-served c =
-    let empty : vec_len c.in_ok-wanted.wanted ≡ 0 = eqb-true _ 0 (sym c.is_empty.ensures ∙ c.if-is_empty.true) in
-    let same : length c.in_ok-wanted.wanted.items ≡ length (wanting c.args.self.now.entries c.args.cells.now) = sym (length-lent c.in_ok-wanted.wanted.items) ∙ ap length c.in_ok-wanted.ensures in
-    none_wanted c.args.self.now.entries c.args.cells.now (sym same ∙ sym c.in_ok-wanted.wanted.ok.0 ∙ empty)
-
-pub returns-then-is_empty-clause-ready : goal.returns-then-is_empty-clause-ready
-returns-then-is_empty-clause-ready c =
-    let empty : vec_len c.in_ok-wanted.wanted ≡ 0 = eqb-true _ 0 (sym c.is_empty.ensures ∙ c.if-is_empty.true) in
-    let same : length c.in_ok-wanted.wanted.items ≡ length (wanting c.args.self.now.entries c.args.cells.now) = sym (length-lent c.in_ok-wanted.wanted.items) ∙ ap length c.in_ok-wanted.ensures in
-    all_served c.args.self.now c.args.cells.now (none_wanted c.args.self.now.entries c.args.cells.now (sym same ∙ sym c.in_ok-wanted.wanted.ok.0 ∙ empty))
 
 pub start-requires-clause-known : goal.start-requires-clause-known
 start-requires-clause-known c =
-    subst (λ (cells : List Cell). list_all (is_cell c.args.self.now.setting.catalog) cells ≡ true) (sym (ap lent c.as_slice.ensures.value ∙ c.in_ok-wanted.ensures))
-    (kept_all (is_cell c.args.self.now.setting.catalog) (λ cell. not (is_some (exact_source c.args.self.now.entries cell))) c.args.cells.now c.requires.known)
+    let found = rw c.in-Wanting.is at c.in_ok-findings.ensures in
+    subst (λ (cells : List Cell). list_all (is_cell c.args.self.now.setting.catalog) cells ≡ true) (sym (ap lent c.as_slice.ensures.value ∙ found.0))
+    (kept_all (is_cell c.args.self.now.setting.catalog) (λ cell. not (has_source c.args.self.now.setting.catalog c.args.self.now.entries cell)) c.args.cells.now c.requires.known)
 
 pub start-requires-clause-unserved : goal.start-requires-clause-unserved
 start-requires-clause-unserved c =
-    subst (λ (cells : List Cell). list_all (λ cell. not (is_some (exact_source c.args.self.now.entries cell))) cells ≡ true) (sym (ap lent c.as_slice.ensures.value ∙ c.in_ok-wanted.ensures))
-    (kept_pass (λ cell. not (is_some (exact_source c.args.self.now.entries cell))) c.args.cells.now)
+    let found = rw c.in-Wanting.is at c.in_ok-findings.ensures in
+    subst (λ (cells : List Cell). list_all (λ cell. not (is_some (exact_source c.args.self.now.entries cell))) cells ≡ true) (sym (ap lent c.as_slice.ensures.value ∙ found.0))
+    (unserved_all c.args.self.now.setting.catalog c.args.self.now.entries (wanting c.args.self.now.setting.catalog c.args.self.now.entries c.args.cells.now)
+    (kept_pass (λ cell. not (has_source c.args.self.now.setting.catalog c.args.self.now.entries cell)) c.args.cells.now))
 
-pub returns-clause-load : goal.returns-clause-load
-returns-clause-load c =
-    let same : length c.in_ok-wanted.wanted.items ≡ length (wanting c.args.self.now.entries c.args.cells.now) = sym (length-lent c.in_ok-wanted.wanted.items) ∙ ap length c.in_ok-wanted.ensures in
-    some_wants c.args.self.now c.args.cells.now (λ few. eqb-false (vec_len c.in_ok-wanted.wanted) 0 (sym c.is_empty.ensures ∙ c.if-is_empty.false) (c.in_ok-wanted.wanted.ok.0 ∙ same ∙ few))
+pub returns-in_ok-start-in-Wanting-clause-load : goal.returns-in_ok-start-in-Wanting-clause-load
+returns-in_ok-start-in-Wanting-clause-load c =
+    let found = rw c.in-Wanting.is at c.in_ok-findings.ensures in
+    some_wants c.args.self.now c.args.cells.now (λ none. omega (arith, found.1, none))
+
+pub answer-requires-clause-sources : goal.answer-requires-clause-sources
+answer-requires-clause-sources c =
+    let found = rw c.in-Served.is at c.in_ok-findings.ensures in
+    let shared : c.in_ok-try_clone-in-Served.field-0.value ≡ c.in-Served.sources = c.in_ok-try_clone-in-Served.ensures ∙ c.in_ok-sources-in-Served.ensures.ok in
+    subst (λ (sources : List CellSource). Each (IsAnswered c.args.self.now.setting c.args.self.now.entries) sources) (sym shared)
+    (each_answered c.args.self.now.setting c.args.self.now.entries c.in-Served.sources (ap (list_all (is_cell c.args.self.now.setting.catalog)) found.sources_are.of_cells ∙ c.requires.known) found.sources_are.own)
+
+pub returns-in_ok-position-in-Served-clause-ready : goal.returns-in_ok-position-in-Served-clause-ready
+returns-in_ok-position-in-Served-clause-ready c =
+    let found = rw c.in-Served.is at c.in_ok-findings.ensures in
+    subst (All (HasSource c.args.self.now)) found.sources_are.of_cells (all_served c.args.self.now c.in-Served.sources found.sources_are.own)
+
+pub returns-in_ok-position-in-Served-clause-answer : goal.returns-in_ok-position-in-Served-clause-answer
+returns-in_ok-position-in-Served-clause-answer c =
+    let found = rw c.in-Served.is at c.in_ok-findings.ensures in
+    let long : length c.answer.new.self.entries ≡ length c.args.self.now.entries + 1 = ap length c.in_ok-position-in-Served.ensures.entry ∙ length_push c.args.self.now.entries _ in
+    let held : c.in_ok-sources-in-Served.sources.value ≡ c.in-Served.sources = c.in_ok-sources-in-Served.ensures.ok in
+    record {
+      position = omega (arith, c.in_ok-position-in-Served.ensures.position, long);
+      sources = subst (AreSources c.args.self.now c.args.cells.now) (sym held) found.sources_are;
+      values = ap (map (worth c.args.self.now.setting.catalog c.args.self.now.entries)) held ∙ found.values;
+      versions = ap (map (answered_version c.args.self.now.entries)) held ∙ found.versions;
+      fresh =
+          subst (λ (cells : List Cell). list_all (λ pair. nat_le (floor c.args.self.now.entries pair.0) pair.1.version) (zip cells c.in-Served.answered) ≡ true) found.sources_are.of_cells
+          (all_fresh c.args.self.now.setting c.args.self.now.entries c.args.who c.in-Served.sources c.in-Served.answered c.steps_are_legal.ensures c.requires.call
+          (ap (list_all (is_cell c.args.self.now.setting.catalog)) found.sources_are.of_cells ∙ c.requires.known) found.sources_are.own found.versions);
+    }

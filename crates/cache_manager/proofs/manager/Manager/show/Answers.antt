@@ -3,7 +3,7 @@ use Rattle.std.proofs.Common.{arith, sym, subst}
 use Rattle.std.specs.Prelude.{IsTrue}
 use Rattle.olap_meaning.specs.Legal.{is_next_call}
 use Rattle.history_core.specs.Cache.{CacheOf}
-use Rattle.cache_manager.specs.Kept.{has_places}
+use Rattle.segment_index.specs.Index.{has_places}
 use Rattle.cache_manager.proofs.Moves.{shown}
 use Rattle.cache_manager.proofs.manager.Manager.show.Goals as goal
 

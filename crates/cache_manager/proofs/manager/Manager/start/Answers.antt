@@ -12,7 +12,8 @@ use Rattle.cache_manager.specs.Lent.{lent}
 use Rattle.cache_manager.specs.Jobs.{IsJobOf}
 use Rattle.history_core.specs.Seats.{NoneFlies}
 use Rattle.cache_manager.specs.declared.starts.Planned.{Planned}
-use Rattle.cache_manager.specs.Kept.{has_places, headers_of}
+use Rattle.segment_index.specs.Index.{has_places}
+use Rattle.cache_manager.specs.Kept.{headers_of}
 use Rattle.cache_manager.specs.Plans.{AreLegalSteps, ArePlanned}
 use Rattle.cache_manager.proofs.Ends.{cache_of}
 use Rattle.cache_manager.proofs.Looking.{all_legal, jobs_started, manager_started, numbers_new}

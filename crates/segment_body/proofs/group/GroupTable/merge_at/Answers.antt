@@ -20,7 +20,7 @@ pub merge-requires-clause-room : goal.merge-requires-clause-room
 merge-requires-clause-room c =
     let d : Group = group [] c.index_mut-group.result.now in
     let there = tally_at (λ key. key) c.self.inside.tallies.entries c.args.place c.index_mut-group.result.now d c.index_mut-group.ensures.value in
-    rw there.1 at ((rw (← c.self.view_is) at c.requires.room) c.args.place d there.0)
+    rw there.1 at ((rw (← c.self.view_is) at c.requires.room) d)
 
 pub returns : goal.returns
 returns c d =

@@ -1,7 +1,6 @@
 -- After a look the jobs are those of the loads in flight.
 use Rattle.std.proofs.Common.{◌≡◌, ◌+◌, ◌++◌, ◌∷◌, [], All, map, length, refl}
 use Rattle.olap_meaning.specs.History.{Answer}
-use Rattle.history_core.specs.Answers.{source_of}
 use Rattle.history_core.specs.Groups.{loads_for}
 use Rattle.cache_manager.specs.Jobs.{IsJobOf}
 use Rattle.history_core.specs.Groups.{numbers_from}
@@ -11,7 +10,7 @@ use Rattle.test_plays.proofs.played.Played.look.Goals as goal
 pub invariant_of-self : goal.invariant_of-self
 invariant_of-self c =
     let cache = c.self.inside.manager in
-    let entry = Answer c.args.who (map (source_of cache.entries) c.args.cells.now) in
+    let entry = Answer c.args.who c.in-Ok-Ready.answer.sources.value in
     let grown : c.look.new.self.entries ≡ cache.entries ++ entry ∷ [] = rw c.in-Ok-Ready.field-0-is at c.in-Ok-Ready.ensures.answer_entry in
     jobs_on cache c.look.new.self entry (record { legal = c.steps_are_legal.ensures; setting = c.look.ensures.setting; entries = grown }) c.self.inside.jobs.items (λ j. refl) c.self.invariant
 

@@ -1,0 +1,14 @@
+pub mod MarkFacts
+pub mod AllowedFacts
+pub mod ListFacts
+pub mod PickFacts
+pub mod KindFacts
+pub mod PlanFacts
+pub mod FoldFacts
+pub mod LawFacts
+pub mod OnceFacts
+pub mod RollFacts
+pub mod ServeFacts
+pub mod CandidateFacts
+pub mod PlannedFacts
+pub mod CountFacts

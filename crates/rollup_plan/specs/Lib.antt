@@ -1,0 +1,5 @@
+pub mod Plans
+pub mod Picks
+pub mod Rolls
+pub mod Laws
+pub mod Serving
