@@ -10,7 +10,7 @@ use Rattle.fact_versions.specs.FactRows.{FactRows}
 use Rattle.fact_versions.specs.declared.faults.AppendFault.{AppendFault}
 use Rattle.fact_versions.specs.Facts.{FactsOf, IsAlike, append_fault, arrival, batches_of, with_batch}
 use Rattle.history_core.specs.History.{HistoryOf}
-use Rattle.segment_load.specs.Loads.{is_batch}
+use Rattle.fact_reader.specs.BodyRows.{is_batch}
 use Rattle.history_core.specs.Cache.{CacheOf}
 use Rattle.history_core.specs.Arrivals.{arrival_in}
 use Rattle.cache_manager.specs.Kept.{AreFactsOf}

@@ -9,19 +9,18 @@ use Rattle.olap_meaning.specs.declared.cells.Cell.{Cell}
 use Rattle.olap_meaning.specs.declared.cells.Header.{Header}
 use Rattle.olap_meaning.specs.declared.tables.Row.{Row}
 use Rattle.olap_meaning.specs.declared.tables.Setting.{Setting}
-use Rattle.olap_meaning.specs.Covering.{among, header_covers}
+use Rattle.olap_meaning.specs.Covering.{among, columns_of, header_covers}
 use Rattle.olap_meaning.specs.History.{Entry, Load, load_version, rows_of}
 use Rattle.olap_meaning.specs.Legal.{Legal, is_row}
-use Rattle.olap_meaning.specs.Rolled.{Offer, columns_of}
+use Rattle.olap_meaning.specs.Rolled.{Offer, header_columns}
 use Rattle.olap_meaning.specs.Worth.{answered_version, value, value_over}
 use Rattle.olap_meaning.proofs.Loads.{covered_cube}
 use Rattle.olap_meaning.proofs.Members.{All-from_member, all_member, filter_map_member, in_first, map_member, member_all, member_filter_map}
 use Rattle.history_core.specs.declared.answers.Answered.{Answered}
-use Rattle.history_core.specs.Groups as groups
 use Rattle.history_core.specs.Groups.{alike}
 use Rattle.measure_folds.specs.Tallied.{Tallied}
 use Rattle.segment_body.specs.AllFolds as folds
-use Rattle.segment_load.specs.Loads.{HoldsRows}
+use Rattle.fact_reader.specs.BodyRows.{HoldsRows}
 use Rattle.cache_flush.specs.Loads.{KeptOf}
 use Rattle.rollup_plan.specs.Plans.{kept_at, offer_of, offers_at}
 use Rattle.rollup_plan.specs.Laws.{RowsAreValued}
@@ -30,7 +29,7 @@ use Rattle.rollup_plan.proofs.LawFacts.{plans_roll}
 use Rattle.rollup_plan.specs.declared.plan.Part.{Part}
 use Rattle.rollup_plan.specs.declared.plan.Plan.{Plan}
 use Rattle.cache_manager.specs.Kept.{IsKept}
-use Rattle.cache_manager.specs.Rollups.{AreKept, IsPlanFor, IsRollup, IsToldBy, IsWorth, are_alike, candidates_for, planned}
+use Rattle.cache_manager.specs.Rollups.{AreKept, IsPlanFor, IsRollup, IsToldBy, IsWorth, all_alike, candidates_for, planned}
 use Rattle.cache_manager.specs.declared.rollups.Rollup.{Rollup}
 use Rattle.cache_manager.proofs.Grouping.{Alike, alike_self, alike_told}
 use Rattle.cache_manager.proofs.Serving.{kept_header}
@@ -84,18 +83,18 @@ module _ (setting : Setting) (entries : List Entry) (legal : Legal setting entri
       (subst (λ (n : ℕ). HoldsRows setting.catalog load.k.body.header (rows_of entries load.k.body.header.cube n) load.k.body) v
       (subst (λ (h : Header). HoldsRows setting.catalog h (rows_of entries h.cube load.keeps.load.version) load.k.body) header load.keeps.holds)))
 
-  valued : (k : KeptOf) → Contains (loads_at loads plan.parts) k → list_all (λ row. list_all (is_valued setting.catalog cell.cube row) (columns_of k.body.header)) rows ≡ true
+  valued : (k : KeptOf) → Contains (loads_at loads plan.parts) k → list_all (λ row. list_all (is_valued setting.catalog cell.cube row) (header_columns k.body.header)) rows ≡ true
   valued k held =
       let from = of_part k held in
       let load = planned_load from.0 from.1 in
       let same : load.k ≡ k = one_of k load.k from.0 from.2 load.at in
       let header : load.keeps.load.header ≡ k.body.header = sym (kept_header setting.catalog entries load.k load.keeps) ∙ ap (λ (o : KeptOf). o.body.header) same in
       let cube : load.keeps.load.header.cube ≡ cell.cube = ap (λ (h : Header). h.cube) (sym (kept_header setting.catalog entries load.k load.keeps)) ∙ load.cube in
-      member_all (λ row. list_all (is_valued setting.catalog cell.cube row) (columns_of k.body.header)) rows
-      (λ row in_rows. member_all (is_valued setting.catalog cell.cube row) (columns_of k.body.header)
+      member_all (λ row. list_all (is_valued setting.catalog cell.cube row) (header_columns k.body.header)) rows
+      (λ row in_rows. member_all (is_valued setting.catalog cell.cube row) (header_columns k.body.header)
       (λ column own.
       subst (λ (c : ℕ). is_valued setting.catalog c row column ≡ true) cube
-      (let there = column_own setting entries legal load.k.load load.keeps.load column load.keeps.started (subst (λ (h : Header). Contains (columns_of h) column) (sym header) own) in
+      (let there = column_own setting entries legal load.k.load load.keeps.load column load.keeps.started (subst (λ (h : Header). Contains (header_columns h) column) (sym header) own) in
       whole load.keeps.load.header.cube there.0 row column there.1
       (subst (λ (c : ℕ). is_row setting.catalog c row ≡ true) (sym cube) (all_member (is_row setting.catalog cell.cube) rows row (rows_known setting entries legal cell.cube is.rolls.rolled.version) in_rows)) there.2)))
 
@@ -111,7 +110,7 @@ module _ (setting : Setting) (entries : List Entry) (legal : Legal setting entri
       plans_roll setting.catalog cell is.measure loads plan rows is.is_measure is.rolls
       (record {
         held = All-from_member (λ k. HoldsRows setting.catalog k.body.header rows k.body) (loads_at loads plan.parts) holds;
-        valued = All-from_member (λ k. IsTrue (list_all (λ row. list_all (is_valued setting.catalog cell.cube row) (columns_of k.body.header)) rows)) (loads_at loads plan.parts) valued;
+        valued = All-from_member (λ k. IsTrue (list_all (λ row. list_all (is_valued setting.catalog cell.cube row) (header_columns k.body.header)) rows)) (loads_at loads plan.parts) valued;
       })
 
   -- the first load of the plan tells the version
@@ -127,17 +126,17 @@ module _ (setting : Setting) (entries : List Entry) (legal : Legal setting entri
           (j, load.k, ap (λ (ns : List ℕ). slice_get ns 0) e, load.at, load.version, told)
 
 -- cells that are alike have the same columns
-pub alike_columns : (cells : List Cell) → are_alike cells ≡ true → folds.are_alike cells ≡ true
+pub alike_columns : (cells : List Cell) → all_alike cells ≡ true → folds.are_alike cells ≡ true
 alike_columns [] all = refl
 alike_columns (first ∷ cells) all = by cells all
   where
-    by : (cs : List Cell) → list_all (alike first) cs ≡ true → list_all (λ other. bytes_eq (folds.columns_of first) (folds.columns_of other)) cs ≡ true
+    by : (cs : List Cell) → list_all (alike first) cs ≡ true → list_all (λ other. bytes_eq (columns_of first) (columns_of other)) cs ≡ true
     by [] all = refl
     by (c ∷ cs) all =
-        and_from (bytes_eq (folds.columns_of first) (folds.columns_of c)) (list_all (λ other. bytes_eq (folds.columns_of first) (folds.columns_of other)) cs)
-        (and_parts ((first.cube == c.cube) && (first.measure == c.measure)) (bytes_eq (groups.columns_of first) (groups.columns_of c)) (and_parts (alike first c) (list_all (alike first) cs) all).0).1 (by cs (and_parts (alike first c) (list_all (alike first) cs) all).1)
+        and_from (bytes_eq (columns_of first) (columns_of c)) (list_all (λ other. bytes_eq (columns_of first) (columns_of other)) cs)
+        (and_parts ((first.cube == c.cube) && (first.measure == c.measure)) (bytes_eq (columns_of first) (columns_of c)) (and_parts (alike first c) (list_all (alike first) cs) all).0).1 (by cs (and_parts (alike first c) (list_all (alike first) cs) all).1)
 
-like_first : (cells : List Cell) (first cell : Cell) → slice_get cells 0 ≡ Some first → are_alike cells ≡ true → Contains cells cell → alike first cell ≡ true
+like_first : (cells : List Cell) (first cell : Cell) → slice_get cells 0 ≡ Some first → all_alike cells ≡ true → Contains cells cell → alike first cell ≡ true
 like_first [] first cell at all held = absurd (cc)
 like_first (c ∷ cs) first cell at all held =
     let same : c ≡ first = cc in

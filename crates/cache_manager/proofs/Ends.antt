@@ -20,8 +20,8 @@ use Rattle.cache_manager.specs.Jobs.{IsOwn, IsOwnBody}
 use Rattle.cache_manager.specs.Kept.{IsFlight, IsKept, IsManager}
 use Rattle.segment_body.specs.BodyOf.{BodyOf}
 use Rattle.segment_header.specs.Headers.{is_header}
-use Rattle.segment_load.specs.Loads.{HoldsRows}
-use Rattle.segment_load.proofs.LawFacts.{loads_hold_rows}
+use Rattle.fact_reader.specs.BodyRows.{HoldsRows}
+use Rattle.fact_reader.proofs.LawFacts.{loads_hold_rows}
 use Rattle.cache_manager.proofs.Pushes.{kept_landed, kept_new, load_on, recorded, rows_on, shutting_on}
 use Rattle.cache_manager.proofs.Managing.{flight_found, length-others, numbers_kept}
 use Rattle.cache_manager.proofs.Own.{own_ends, own_flies}

@@ -25,7 +25,7 @@ use Rattle.fact_versions.specs.declared.faults.AppendFault.TheVariants.{TooManyR
 use Rattle.history_core.specs.Cache.{CacheOf}
 use Rattle.history_core.specs.Arrivals.{arrival_in}
 use Rattle.fact_versions.proofs.Grown.{batches_of-with_batch, batches_of-with_batch_other, length-cubes}
-use Rattle.segment_load.specs.Loads.{are_batches, is_batch, rows_in}
+use Rattle.fact_reader.specs.BodyRows.{are_batches, is_batch, rows_in}
 use Rattle.cache_manager.specs.Kept.{AreFactsOf}
 use Rattle.cache_manager.proofs.Pushes.{version-length}
 

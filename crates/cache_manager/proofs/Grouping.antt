@@ -1,26 +1,27 @@
 -- Cells that may share a load, and the header of their load.
-use Rattle.std.proofs.Common.{◌≡◌, refl, sym, ◌∙◌, ap, subst, ℕ, zero, suc, ◌+◌, ◌<◌, List, [], ◌∷◌, ◌++◌, length, map, filter, Bool, true, false, cond, ◌&&◌, ◌||◌, ◌==◌, inl, inr, Option, Some, None, slice_get, option_map, bytes_eq, arith, Contains, append_assoc, drop, take, get_or}
+use Rattle.std.proofs.Common.{◌≡◌, refl, sym, ◌∙◌, ap, subst, ℕ, zero, suc, ◌<◌, List, [], ◌∷◌, ◌++◌, length, map, filter, Bool, true, false, ◌&&◌, ◌||◌, ◌==◌, inl, inr, Option, Some, None, slice_get, option_map, bytes_eq, arith, All, Contains, get_or}
 use Rattle.std.specs.Prelude.{nat_lt}
 use Rattle.std.specs.List.{find, list_all, list_any}
-use Rattle.std.proofs.lemmas.Bool.{and_from, and_parts, eq-eqb, eqb-true, lt-ltb, ltb-true, or_cases, or_left, or_right}
+use Rattle.std.proofs.lemmas.Bool.{and_from, and_parts, eq-eqb, eqb-true, ltb-true, or_cases, or_left, or_right}
 use Rattle.std.proofs.lemmas.Option.{slice_get_read}
 use Rattle.std.proofs.lemmas.Slice.Eq.{bytes_eq-Decides}
 use Rattle.olap_meaning.specs.declared.cells.Allowed.{Allowed}
-use Rattle.olap_meaning.specs.declared.cells.Allowed.TheVariants.{Set}
+use Rattle.olap_meaning.specs.declared.cells.Header.{Header}
 use Rattle.olap_meaning.specs.declared.cells.Cell.{Cell}
 use Rattle.olap_meaning.specs.declared.tables.Catalog.{Catalog}
 use Rattle.olap_meaning.specs.Catalog.{values}
-use Rattle.olap_meaning.specs.Covering.{allows, among, header_covers, just_covers, names_column}
+use Rattle.olap_meaning.specs.Covering.{allows, among, columns_of, header_covers, just_covers, names_column}
 use Rattle.olap_meaning.specs.Legal.{is_cell, is_column_of, is_value, rise}
 use Rattle.segment_header.specs.Headers.{is_header, is_set}
-use Rattle.history_core.specs.Groups.{alike, columns_of, firsts, has_on, header_for, value_on, values_on}
-use Rattle.cache_manager.proofs.Fronts.{front_more}
-use Rattle.cache_manager.proofs.Numbers.{passing_there, rise_passing, there_passes}
+use Rattle.segment_header.specs.Widening.{Allowing, Serves}
+use Rattle.history_core.specs.Groups.{IsHeaderFor, alike, firsts, has_on, value_on, values_on}
+use Rattle.cell_groups.specs.Lent.{lent}
+use Rattle.cell_groups.specs.declared.groups.Group.{Group}
+use Rattle.cache_manager.proofs.Numbers.{passing_there}
 use Rattle.cache_manager.proofs.Rising.{above_one, same_rising}
-use Rattle.segment_load.specs.Loads.{is_loadable}
-use Rattle.std.proofs.lemmas.List.{map_push}
-use Rattle.std.proofs.lemmas.List.Elements.{filter-append}
-use Rattle.std.proofs.lemmas.List.Folds.{list_all-map, list_any-append}
+use Rattle.fact_reader.specs.BodyRows.{is_loadable}
+use Rattle.std.proofs.lemmas.List.Elements.{All-head, All-tail, All-weaker}
+use Rattle.std.proofs.lemmas.List.Folds.{list_all-map}
 use Rattle.olap_meaning.specs.History.{is_some_and}
 use Rattle.olap_meaning.specs.declared.tables.Cube.{Cube}
 
@@ -43,9 +44,10 @@ alike_from one other is = and_from _ _ (and_from _ _ (eq-eqb _ _ is.cube) (eq-eq
 abbrev pub names : List (ℕ × ℕ) → List ℕ
 names at = map (λ pair. pair.0) at
 
--- the columns of the header of some cells, with their values
-abbrev columns_for : Catalog → List Cell → List (ℕ × ℕ) → List (ℕ × Allowed)
-columns_for catalog cells at = map (λ pair. (pair.0, Set (values_on catalog cells pair.0))) at
+get_within : {A : Type 0} (xs : List A) (k : ℕ) (x : A) → slice_get xs k ≡ Some x → k < length xs
+get_within [] k x at = absurd (cc)
+get_within (y ∷ ys) zero x at = omega arith
+get_within (y ∷ ys) (suc k) x at = let l = get_within ys k x at in omega (arith, l)
 
 pub all_from : {A : Type 0} (p : A → Bool) (xs : List A) → ((k : ℕ) (x : A) → slice_get xs k ≡ Some x → p x ≡ true) → list_all p xs ≡ true
 all_from p [] each = refl
@@ -101,29 +103,6 @@ known_values catalog cell known = (and_parts _ _ (and_parts _ _ (and_parts _ _ k
 pub known_rises : (catalog : Catalog) (cell : Cell) → is_cell catalog cell ≡ true → rise (columns_of cell) ≡ true
 known_rises catalog cell known = (and_parts _ _ (and_parts _ _ known).0).1
 
-had_value : (catalog : Catalog) (cells : List Cell) (column v : ℕ) → list_all (is_cell catalog) cells ≡ true → list_any (has_on column v) cells ≡ true → v < length (values catalog column)
-had_value catalog [] column v known h = absurd (cc)
-had_value catalog (cell ∷ cells) column v known h =
-    elim (or_cases (has_on column v cell) (list_any (has_on column v) cells) h) [
-      | inl here ↦ found_value catalog column v cell.at (known_values catalog cell (and_parts _ _ known).0) here
-      | inr there ↦ had_value catalog cells column v (and_parts _ _ known).1 there
-    ]
-
--- the values of cells of a catalog in a column are the one rising list of just these
-pub values_are :
-    (catalog : Catalog) (cells : List Cell) (column : ℕ) (found : List ℕ) → list_all (is_cell catalog) cells ≡ true → rise found ≡ true → ((v : ℕ) → among found v ≡ list_any (has_on column v) cells)
-    → found ≡ values_on catalog cells column
-values_are catalog cells column found known up just =
-    same_rising found (values_on catalog cells column) up (rise_passing passes 0 count)
-    (λ v h. let has : list_any (has_on column v) cells ≡ true = sym (just v) ∙ h in let l = had_value catalog cells column v known has in passing_there passes 0 count v (omega arith) (omega (arith, l)) has)
-    (λ v h. just v ∙ there_passes passes 0 count v h)
-  where
-    passes : ℕ → Bool
-    passes value = list_any (has_on column value) cells
-
-    count : ℕ
-    count = length (values catalog column)
-
 -- a cell of a group has its value among the group's
 in_group : (column v : ℕ) (cells : List Cell) (i : ℕ) (cell : Cell) → slice_get cells i ≡ Some cell → has_on column v cell ≡ true → list_any (has_on column v) cells ≡ true
 in_group column v [] i cell at has = absurd (cc)
@@ -137,14 +116,6 @@ has_value_on catalog cells i cell k pair known at there =
     let l : pair.1 < length (values catalog pair.0) = found_value catalog pair.0 pair.1 cell.at (known_values catalog cell known) has in
     passing_there (λ v. list_any (has_on pair.0 v) cells) 0 (length (values catalog pair.0)) pair.1 (omega arith) (omega (arith, l)) (in_group pair.0 pair.1 cells i cell at has)
 
-any_column : (catalog : Catalog) (cells : List Cell) (at : List (ℕ × ℕ)) (x v : ℕ) → among (names at) x ≡ true → among (values_on catalog cells x) v ≡ true → list_any (λ column. (column.0 == x) && allows column.1 v) (columns_for catalog cells at) ≡ true
-any_column catalog cells [] x v h has = absurd (cc)
-any_column catalog cells (p ∷ ps) x v h has =
-    elim (or_cases (p.0 == x) (among (names ps) x) h) [
-      | inl here ↦ or_left _ _ (and_from _ _ here (ap (λ (n : ℕ). among (values_on catalog cells n) v) (eqb-true p.0 x here) ∙ has))
-      | inr there ↦ or_right _ _ (any_column catalog cells ps x v there has)
-    ]
-
 named_as : (cell : Cell) (x : ℕ) → names_column cell x ≡ among (columns_of cell) x
 named_as cell x = by cell.at
   where
@@ -152,91 +123,113 @@ named_as cell x = by cell.at
     by [] = refl
     by (p ∷ ps) = ap (λ (b : Bool). (p.0 == x) || b) (by ps)
 
-all_named : (catalog : Catalog) (cells : List Cell) (cell : Cell) (at : List (ℕ × ℕ)) → ((x : ℕ) → among (names at) x ≡ true → among (columns_of cell) x ≡ true) → list_all (λ column. names_column cell column.0) (columns_for catalog cells at) ≡ true
-all_named catalog cells cell [] each = refl
-all_named catalog cells cell (p ∷ ps) each =
+-- each column of a list is named, where its name is one of the cell's
+all_named : (cell : Cell) (columns : List (ℕ × Allowed)) → ((x : ℕ) → among (map (λ own. own.0) columns) x ≡ true → among (columns_of cell) x ≡ true) → list_all (λ own. names_column cell own.0) columns ≡ true
+all_named cell [] each = refl
+all_named cell (p ∷ ps) each =
     and_from _ _ (named_as cell p.0 ∙ each p.0 (or_left _ _ (eq-eqb p.0 p.0 refl)))
-    (all_named catalog cells cell ps (λ x h. each x (or_right (p.0 == x) (among (names ps) x) h)))
+    (all_named cell ps (λ x h. each x (or_right (p.0 == x) (among (map (λ own. own.0) ps) x) h)))
 
--- the header of a group covers each of its cells with just its columns
-pub group_covered : (catalog : Catalog) (first : Cell) (cells : List Cell) (i : ℕ) (cell : Cell) → Alike first cell → is_cell catalog cell ≡ true → slice_get cells i ≡ Some cell → just_covers (header_for catalog first cells) cell ≡ true
-group_covered catalog first cells i cell is known at =
-    and_from _ _ (and_from _ _ (and_from _ _ (eq-eqb _ _ is.cube) (eq-eqb _ _ is.measure)) covered) (all_named catalog cells cell first.at (λ x h. subst (λ (ns : List ℕ). among ns x ≡ true) is.columns h))
-  where
-    covered : list_all (λ pair. list_any (λ column. (column.0 == pair.0) && allows column.1 pair.1) (header_for catalog first cells).columns) cell.at ≡ true
-    covered =
-        all_from (λ pair. list_any (λ column. (column.0 == pair.0) && allows column.1 pair.1) (header_for catalog first cells).columns) cell.at
-        (λ k pair there.
-        any_column catalog cells first.at pair.0 pair.1 (subst (λ (ns : List ℕ). among ns pair.0 ≡ true) (sym is.columns) (name_at cell.at k pair there)) (has_value_on catalog cells i cell k pair known at there))
+-- a column that is named is one that allows a value, where each of its name does
+any_own : (columns : List (ℕ × Allowed)) (x v : ℕ) → among (map (λ own. own.0) columns) x ≡ true → All (λ own. own.0 ≡ x → allows own.1 v ≡ true) columns → list_any (λ own. (own.0 == x) && allows own.1 v) columns ≡ true
+any_own [] x v h all = absurd (cc)
+any_own (p ∷ ps) x v h all =
+    elim (or_cases (p.0 == x) (among (map (λ own. own.0) ps) x) h) [
+      | inl here ↦ or_left _ _ (and_from _ _ here (All-head (λ own. own.0 ≡ x → allows own.1 v ≡ true) p ps all (eqb-true p.0 x here)))
+      | inr there ↦ or_right _ _ (any_own ps x v there (All-tail (λ own. own.0 ≡ x → allows own.1 v ≡ true) p ps all))
+    ]
 
-names_kept : (catalog : Catalog) (cells : List Cell) (at : List (ℕ × ℕ)) → map (λ column. column.0) (columns_for catalog cells at) ≡ names at
-names_kept catalog cells [] = refl
-names_kept catalog cells (p ∷ ps) = ap (λ (ns : List ℕ). p.0 ∷ ns) (names_kept catalog cells ps)
+-- a column that allows a value is named
+own_named : (columns : List (ℕ × Allowed)) (x v : ℕ) → list_any (λ own. (own.0 == x) && allows own.1 v) columns ≡ true → among (map (λ own. own.0) columns) x ≡ true
+own_named [] x v h = absurd (cc)
+own_named (p ∷ ps) x v h =
+    elim (or_cases ((p.0 == x) && allows p.1 v) (list_any (λ own. (own.0 == x) && allows own.1 v) ps) h) [
+      | inl here ↦ or_left (p.0 == x) (among (map (λ own. own.0) ps) x) (and_parts (p.0 == x) (allows p.1 v) here).0
+      | inr there ↦ or_right (p.0 == x) (among (map (λ own. own.0) ps) x) (own_named ps x v there)
+    ]
 
-pub group_columns : (catalog : Catalog) (first : Cell) (cells : List Cell) → map (λ column. column.0) (header_for catalog first cells).columns ≡ columns_of first
-group_columns catalog first cells = names_kept catalog cells first.at
+-- what all of some values have, one of them has
+allows_among : (allowed : Allowed) (wanted : List ℕ) (v : ℕ) → list_all (allows allowed) wanted ≡ true → among wanted v ≡ true → allows allowed v ≡ true
+allows_among allowed [] v all h = absurd (cc)
+allows_among allowed (w ∷ ws) v all h =
+    elim (or_cases (w == v) (among ws v) h) [
+      | inl here ↦ ap (allows allowed) (sym (eqb-true w v here)) ∙ (and_parts (allows allowed w) (list_all (allows allowed) ws) all).0
+      | inr there ↦ allows_among allowed ws v (and_parts (allows allowed w) (list_all (allows allowed) ws) all).1 there
+    ]
 
-some_among : (ns : List ℕ) (v : ℕ) → among ns v ≡ true → nat_lt 0 (length ns) ≡ true
-some_among [] v h = absurd (cc)
-some_among (n ∷ ns) v h = lt-ltb 0 (length (n ∷ ns)) (omega arith)
+module _ (allowing : Allowing) (catalog : Catalog) (first : Cell) (cells : List Cell) (header : Header) (is : IsHeaderFor allowing catalog first cells header) where
+  abbrev serves_own : ℕ × Allowed → Type 0
+  serves_own own = Serves (values_on catalog cells own.0) (length (values catalog own.0)) own.1
 
-sets : (catalog : Catalog) (cells : List Cell) (at : List (ℕ × ℕ)) → ((k : ℕ) (pair : ℕ × ℕ) → slice_get at k ≡ Some pair → among (values_on catalog cells pair.0) pair.1 ≡ true) → list_all (λ column. is_set column.1) (columns_for catalog cells at) ≡ true
-sets catalog cells [] each = refl
-sets catalog cells (p ∷ ps) each =
-    and_from _ _ (and_from _ _ (some_among (values_on catalog cells p.0) p.1 (each 0 p refl)) (rise_passing (λ v. list_any (has_on p.0 v) cells) 0 (length (values catalog p.0)))) (sets catalog cells ps (λ k pair h. each (suc k) pair h))
+  -- the header of a group covers each of its cells with just its columns
+  pub group_covered : (i : ℕ) (cell : Cell) → Alike first cell → is_cell catalog cell ≡ true → slice_get cells i ≡ Some cell → just_covers header cell ≡ true
+  group_covered i cell like known at =
+      and_from _ _
+      (and_from _ _ (and_from _ _ (eq-eqb _ _ (is.cube ∙ like.cube)) (eq-eqb _ _ (is.measure ∙ like.measure))) covered)
+      (all_named cell header.columns (λ x h. subst (λ (ns : List ℕ). among ns x ≡ true) (is.columns ∙ like.columns) h))
+    where
+      covered : list_all (λ pair. list_any (λ own. (own.0 == pair.0) && allows own.1 pair.1) header.columns) cell.at ≡ true
+      covered =
+          all_from (λ pair. list_any (λ own. (own.0 == pair.0) && allows own.1 pair.1) header.columns) cell.at
+          (λ k pair there.
+          any_own header.columns pair.0 pair.1 (subst (λ (ns : List ℕ). among ns pair.0 ≡ true) (sym (is.columns ∙ like.columns)) (name_at cell.at k pair there))
+          (All-weaker serves_own (λ own. own.0 ≡ pair.0 → allows own.1 pair.1 ≡ true)
+          (λ own serves same. allows_among own.1 (values_on catalog cells own.0) pair.1 serves.wide (ap (λ (n : ℕ). among (values_on catalog cells n) pair.1) same ∙ has_value_on catalog cells i cell k pair known at there)) header.columns is.serves))
 
--- and it is well formed
-pub group_header : (catalog : Catalog) (first : Cell) (cells : List Cell) (i : ℕ) → is_cell catalog first ≡ true → slice_get cells i ≡ Some first → is_header (header_for catalog first cells) ≡ true
-group_header catalog first cells i known at =
-    and_from _ _ (ap rise (group_columns catalog first cells) ∙ known_rises catalog first known) (sets catalog cells first.at (λ k pair there. has_value_on catalog cells i first k pair known at there))
+  -- it is well formed
+  pub header_formed : is_cell catalog first ≡ true → is_header header ≡ true
+  header_formed known = and_from _ _ (ap rise is.columns ∙ known_rises catalog first known) (sets header.columns is.serves)
+    where
+      sets : (columns : List (ℕ × Allowed)) → All serves_own columns → list_all (λ own. is_set own.1) columns ≡ true
+      sets [] all = refl
+      sets (p ∷ ps) all = and_from _ _ (All-head serves_own p ps all).formed (sets ps (All-tail serves_own p ps all))
 
--- it can be loaded, where its first cell is known
-pub group_loadable : (catalog : Catalog) (first : Cell) (cells : List Cell) → is_cell catalog first ≡ true → is_loadable catalog (header_for catalog first cells) ≡ true
-group_loadable catalog first cells known =
-    let parts = and_parts _ _ known in
-    and_from _ _ (and_parts _ _ (and_parts _ _ parts.0).0).0 (by (slice_get catalog.cubes first.cube) parts.1)
-  where
-    by : (o : Option Cube) → is_some_and (λ (cube : Cube). list_all (λ pair. is_column_of catalog cube.dimensions pair.0) first.at) o ≡ true
-        → is_some_and (λ (cube : Cube). list_all (λ column. is_column_of catalog cube.dimensions column.0) (header_for catalog first cells).columns) o ≡ true
-    by None h = absurd (cc)
-    by (Some cube) h = list_all-map (λ (column : ℕ × Allowed). is_column_of catalog cube.dimensions column.0) (λ (pair : ℕ × ℕ). (pair.0, Set (values_on catalog cells pair.0))) first.at ∙ h
+  -- it can be loaded, where its first cell is known
+  pub group_loadable : is_cell catalog first ≡ true → is_loadable catalog header ≡ true
+  group_loadable known =
+      let parts = and_parts _ _ known in
+      rw (is.cube, is.measure) (and_from _ _ (and_parts _ _ (and_parts _ _ parts.0).0).0 (by (slice_get catalog.cubes first.cube) parts.1))
+    where
+      by : (o : Option Cube) → is_some_and (λ (cube : Cube). list_all (λ pair. is_column_of catalog cube.dimensions pair.0) first.at) o ≡ true
+          → is_some_and (λ (cube : Cube). list_all (λ own. is_column_of catalog cube.dimensions own.0) header.columns) o ≡ true
+      by None h = absurd (cc)
+      by (Some cube) h =
+          sym (list_all-map (is_column_of catalog cube.dimensions) (λ (own : ℕ × Allowed). own.0) header.columns)
+          ∙ ap (list_all (is_column_of catalog cube.dimensions)) is.columns
+          ∙ list_all-map (is_column_of catalog cube.dimensions) (λ (pair : ℕ × ℕ). pair.0) first.at ∙ h
 
--- a cell that it covers with just its columns is alike to the first
-pub covered_alike : (catalog : Catalog) (first : Cell) (cells : List Cell) (cell : Cell) → rise (columns_of first) ≡ true → rise (columns_of cell) ≡ true → just_covers (header_for catalog first cells) cell ≡ true → alike cell first ≡ true
-covered_alike catalog first cells cell up over h =
-    let whole = and_parts (header_covers (header_for catalog first cells) cell) (list_all (λ column. names_column cell column.0) (header_for catalog first cells).columns) h in
-    let front = and_parts _ _ whole.0 in
-    let both = and_parts (first.cube == cell.cube) (first.measure == cell.measure) front.0 in
-    alike_from cell first
-    (record {
-      cube = sym (eqb-true first.cube cell.cube both.0);
-      measure = sym (eqb-true first.measure cell.measure both.1);
-      columns = same_rising (columns_of cell) (columns_of first) over up (λ x k. into cell.at front.1 x k) (λ x k. back first.at whole.1 x k);
-    })
-  where
-    any_name : (at : List (ℕ × ℕ)) (x v : ℕ) → list_any (λ column. (column.0 == x) && allows column.1 v) (columns_for catalog cells at) ≡ true → among (names at) x ≡ true
-    any_name [] x v k = absurd (cc)
-    any_name (p ∷ ps) x v k =
-        elim (or_cases ((p.0 == x) && allows (Set (values_on catalog cells p.0)) v) (list_any (λ column. (column.0 == x) && allows column.1 v) (columns_for catalog cells ps)) k) [
-          | inl here ↦ or_left (p.0 == x) (among (names ps) x) (and_parts (p.0 == x) (allows (Set (values_on catalog cells p.0)) v) here).0
-          | inr there ↦ or_right (p.0 == x) (among (names ps) x) (any_name ps x v there)
-        ]
+  -- a cell that it covers with just its columns is alike to the first
+  pub covered_alike : (cell : Cell) → rise (columns_of first) ≡ true → rise (columns_of cell) ≡ true → just_covers header cell ≡ true → alike cell first ≡ true
+  covered_alike cell up over h =
+      let whole = and_parts (header_covers header cell) (list_all (λ own. names_column cell own.0) header.columns) h in
+      let front = and_parts _ _ whole.0 in
+      let both = and_parts (header.cube == cell.cube) (header.measure == cell.measure) front.0 in
+      alike_from cell first
+      (record {
+        cube = sym (eqb-true header.cube cell.cube both.0) ∙ is.cube;
+        measure = sym (eqb-true header.measure cell.measure both.1) ∙ is.measure;
+        columns = same_rising (columns_of cell) (columns_of first) over up (λ x k. subst (λ (ns : List ℕ). among ns x ≡ true) is.columns (into cell.at front.1 x k)) (λ x k. back header.columns whole.1 x (subst (λ (ns : List ℕ). among ns x ≡ true) (sym is.columns) k));
+      })
+    where
+      into : (at : List (ℕ × ℕ)) → list_all (λ pair. list_any (λ own. (own.0 == pair.0) && allows own.1 pair.1) header.columns) at ≡ true → (x : ℕ) → among (names at) x ≡ true → among (map (λ own. own.0) header.columns) x ≡ true
+      into [] all x k = absurd (cc)
+      into (p ∷ ps) all x k =
+          elim (or_cases (p.0 == x) (among (names ps) x) k) [
+            | inl here ↦ ap (among (map (λ own. own.0) header.columns)) (sym (eqb-true p.0 x here)) ∙ own_named header.columns p.0 p.1 (and_parts _ _ all).0
+            | inr there ↦ into ps (and_parts _ _ all).1 x there
+          ]
 
-    into : (at : List (ℕ × ℕ)) → list_all (λ pair. list_any (λ column. (column.0 == pair.0) && allows column.1 pair.1) (header_for catalog first cells).columns) at ≡ true → (x : ℕ) → among (names at) x ≡ true → among (columns_of first) x ≡ true
-    into [] all x k = absurd (cc)
-    into (p ∷ ps) all x k =
-        elim (or_cases (p.0 == x) (among (names ps) x) k) [
-          | inl here ↦ ap (among (columns_of first)) (sym (eqb-true p.0 x here)) ∙ any_name first.at p.0 p.1 (and_parts _ _ all).0
-          | inr there ↦ into ps (and_parts _ _ all).1 x there
-        ]
+      back : (columns : List (ℕ × Allowed)) → list_all (λ own. names_column cell own.0) columns ≡ true → (x : ℕ) → among (map (λ own. own.0) columns) x ≡ true → among (columns_of cell) x ≡ true
+      back [] all x k = absurd (cc)
+      back (p ∷ ps) all x k =
+          elim (or_cases (p.0 == x) (among (map (λ own. own.0) ps) x) k) [
+            | inl here ↦ ap (among (columns_of cell)) (sym (eqb-true p.0 x here)) ∙ sym (named_as cell p.0) ∙ (and_parts _ _ all).0
+            | inr there ↦ back ps (and_parts _ _ all).1 x there
+          ]
 
-    back : (at : List (ℕ × ℕ)) → list_all (λ column. names_column cell column.0) (columns_for catalog cells at) ≡ true → (x : ℕ) → among (names at) x ≡ true → among (columns_of cell) x ≡ true
-    back [] all x k = absurd (cc)
-    back (p ∷ ps) all x k =
-        elim (or_cases (p.0 == x) (among (names ps) x) k) [
-          | inl here ↦ ap (among (columns_of cell)) (sym (eqb-true p.0 x here)) ∙ sym (named_as cell p.0) ∙ (and_parts _ _ all).0
-          | inr there ↦ back ps (and_parts _ _ all).1 x there
-        ]
+  -- whatever allows its values, it serves
+  pub serving_header : IsHeaderFor Serves catalog first cells header
+  serving_header = record { cube = is.cube; measure = is.measure; columns = is.columns; allowed = is.serves; serves = is.serves }
 
 pub alike_self : (cell : Cell) → alike cell cell ≡ true
 alike_self cell = alike_from cell cell (record { cube = refl; measure = refl; columns = refl })
@@ -256,29 +249,6 @@ kept_place keep (c ∷ cs) (suc k) cell at keeps = by (keep c) refl (kept_place 
 -- a cell is in its own group
 pub group_place : (first : Cell) (wanted : List Cell) → Contains wanted first → (i : ℕ) × (slice_get (filter (alike first) wanted) i ≡ Some first)
 group_place first wanted has = kept_place (alike first) wanted has.0 first (slice_get_read wanted (length wanted) has.0 first refl has.1 (sym has.2)) (alike_self first)
-
--- the header of the group of a cell
-pub header_formed : (catalog : Catalog) (first : Cell) (wanted : List Cell) → is_cell catalog first ≡ true → Contains wanted first → is_header (header_for catalog first (filter (alike first) wanted)) ≡ true
-header_formed catalog first wanted known has = let place = group_place first wanted has in group_header catalog first (filter (alike first) wanted) place.0 known place.1
-
-drop_at : {A : Type 0} (xs : List A) (i : ℕ) (x : A) → i < length xs → x ≡ get_or xs i x → drop i xs ≡ x ∷ drop (suc i) xs
-drop_at [] i x l is = absurd (omega arith)
-drop_at (y ∷ ys) zero x l is = ap (λ z. z ∷ ys) (sym is)
-drop_at (y ∷ ys) (suc i) x l is = drop_at ys i x (omega (arith, l)) is
-
--- the first cells, with one cell more
-pub firsts_next :
-    (cells : List Cell) (i : ℕ) (cell : Cell) (before after : List Cell) → i < length cells → cell ≡ get_or cells i cell → after ≡ cond (list_any (alike cell) before) before (before ++ cell ∷ [])
-    → after ++ firsts after (drop (suc i) cells) ≡ before ++ firsts before (drop i cells)
-firsts_next cells i cell before after l is made =
-    rw (drop_at cells i cell l is, made) (by (list_any (alike cell) before) refl)
-  where
-    rest : List Cell
-    rest = drop (suc i) cells
-
-    by : (b : Bool) → list_any (alike cell) before ≡ b → cond b before (before ++ cell ∷ []) ++ firsts (cond b before (before ++ cell ∷ [])) rest ≡ before ++ cond b (firsts before rest) (cell ∷ firsts (before ++ cell ∷ []) rest)
-    by true e = refl
-    by false e = append_assoc before (cell ∷ []) (firsts (before ++ cell ∷ []) rest)
 
 -- what holds of all cells holds of the first cells
 pub firsts_all : (p : Cell → Bool) (before cells : List Cell) → list_all p cells ≡ true → list_all p (firsts before cells) ≡ true
@@ -315,25 +285,17 @@ first_contained cells i cell l is =
 pub first_passes : (p : Cell → Bool) (cells : List Cell) (i : ℕ) (cell : Cell) → list_all p cells ≡ true → i < length (firsts [] cells) → cell ≡ get_or (firsts [] cells) i cell → p cell ≡ true
 first_passes p cells i cell all l is = all_get p (firsts [] cells) i cell (firsts_all p [] cells all) (slice_get_read (firsts [] cells) (length (firsts [] cells)) i cell refl l is)
 
--- what cells of a group have, with one cell more
-pub had_more :
-    (first : Cell) (column v : ℕ) (cells : List Cell) (i : ℕ) (cell : Cell) (so_far : Bool) → i < length cells → cell ≡ get_or cells i cell
-    → so_far ≡ list_any (has_on column v) (filter (alike first) (take i cells))
-    → so_far || (alike first cell && has_on column v cell) ≡ list_any (has_on column v) (filter (alike first) (take (i + 1) cells))
-had_more first column v cells i cell so_far l is had =
-    ap (λ (b : Bool). b || (alike first cell && has_on column v cell)) had
-    ∙ ap (λ (b : Bool). list_any (has_on column v) (filter (alike first) (take i cells)) || b) (by (alike first cell) refl)
-    ∙ sym (list_any-append (has_on column v) (filter (alike first) (take i cells)) (filter (alike first) (cell ∷ [])))
-    ∙ ap (list_any (has_on column v)) (sym (filter-append (alike first) (take i cells) (cell ∷ [])))
-    ∙ ap (λ (cs : List Cell). list_any (has_on column v) (filter (alike first) cs)) (sym (front_more cells i cell l is))
+-- a known cell's cube is one of the catalog's
+pub cube_known : (catalog : Catalog) (cell : Cell) → is_cell catalog cell ≡ true → cell.cube < length catalog.cubes
+cube_known catalog cell known = by (slice_get catalog.cubes cell.cube) refl (and_parts _ _ known).1
   where
-    or_none : (b : Bool) → b ≡ b || false
-    or_none true = refl
-    or_none false = refl
+    by : (o : Option Cube) → slice_get catalog.cubes cell.cube ≡ o → is_some_and (λ (cube : Cube). list_all (λ pair. is_column_of catalog cube.dimensions pair.0) cell.at) o ≡ true → cell.cube < length catalog.cubes
+    by None at h = absurd (cc)
+    by (Some cube) at h = get_within catalog.cubes cell.cube cube at
 
-    by : (b : Bool) → alike first cell ≡ b → (alike first cell && has_on column v cell) ≡ list_any (has_on column v) (filter (alike first) (cell ∷ []))
-    by true e = rw e (or_none (has_on column v cell))
-    by false e = rw e refl
+-- one of some known cells is known
+pub known_of : (catalog : Catalog) (cells : List Cell) (cell : Cell) → list_all (is_cell catalog) cells ≡ true → Contains cells cell → is_cell catalog cell ≡ true
+known_of catalog cells cell known has = all_get (is_cell catalog) cells has.0 cell known (slice_get_read cells (length cells) has.0 cell refl has.1 (sym has.2))
 
 -- what holds of cells holds of those of a group
 pub group_known : (catalog : Catalog) (keep : Cell → Bool) (cells : List Cell) → list_all (is_cell catalog) cells ≡ true → list_all (is_cell catalog) (filter keep cells) ≡ true
@@ -344,14 +306,18 @@ group_known catalog keep (cell ∷ cells) all = by (keep cell) refl (group_known
     by true e rest = rw e (and_from _ _ (and_parts _ _ all).0 rest)
     by false e rest = rw e rest
 
--- one column more of the header of a group
-pub column_more :
-    (catalog : Catalog) (first : Cell) (cells : List Cell) (at : List (ℕ × ℕ)) (i : ℕ) (pair : ℕ × ℕ) (columns : List (ℕ × Allowed)) (found : List ℕ) → i < length at → pair ≡ get_or at i pair → list_all (is_cell catalog) cells ≡ true
-    → rise found ≡ true → ((v : ℕ) → among found v ≡ list_any (has_on pair.0 v) (filter (alike first) cells))
-    → columns ≡ columns_for catalog (filter (alike first) cells) (take i at) → columns ++ (pair.0, Set found) ∷ [] ≡ columns_for catalog (filter (alike first) cells) (take (i + 1) at)
-column_more catalog first cells at i pair columns found l is known up just so_far =
-    let these : found ≡ values_on catalog (filter (alike first) cells) pair.0 = values_are catalog (filter (alike first) cells) pair.0 found (group_known catalog (alike first) cells known) up just in
-    ap (λ (cs : List (ℕ × Allowed)). cs ++ (pair.0, Set found) ∷ []) so_far
-    ∙ ap (λ (vs : List ℕ). columns_for catalog (filter (alike first) cells) (take i at) ++ (pair.0, Set vs) ∷ []) these
-    ∙ sym (map_push (λ (p : ℕ × ℕ). (p.0, Set (values_on catalog (filter (alike first) cells) p.0))) (take i at) pair)
-    ∙ ap (λ (ps : List (ℕ × ℕ)). columns_for catalog (filter (alike first) cells) ps) (sym (front_more at i pair l is))
+-- a group that was found has the cells that are alike to its first one
+pub group_at : (wanted : List Cell) (groups : List Group) (i : ℕ) (group : Group) → All (λ g. lent g.cells.items ≡ filter (alike g.first.now) wanted) groups → i < length groups → group ≡ get_or groups i group → lent group.cells.items ≡ filter (alike group.first.now) wanted
+group_at wanted groups i group all l is = subst (λ (g : Group). lent g.cells.items ≡ filter (alike g.first.now) wanted) (sym is) (all i group l)
+
+-- its first cell is that of its place
+first_at : (groups : List Group) (i : ℕ) (group : Group) → i < length groups → group ≡ get_or groups i group → (i < length (map (λ g. g.first.now) groups)) × (group.first.now ≡ get_or (map (λ g. g.first.now) groups) i group.first.now)
+first_at [] i group l is = absurd (omega (arith, l))
+first_at (g ∷ gs) zero group l is = (omega arith, ap (λ (h : Group). h.first.now) is)
+first_at (g ∷ gs) (suc i) group l is = let rest = first_at gs i group (omega (arith, l)) is in (let inside = rest.0 in omega (arith, inside), rest.1)
+
+-- and one of the cells
+pub first_wanted : (wanted : List Cell) (groups : List Group) (i : ℕ) (group : Group) → map (λ g. g.first.now) groups ≡ firsts [] wanted → i < length groups → group ≡ get_or groups i group → Contains wanted group.first.now
+first_wanted wanted groups i group are l is =
+    let at = first_at groups i group l is in
+    first_contained wanted i group.first.now (subst (λ (cs : List Cell). i < length cs) are at.0) (subst (λ (cs : List Cell). group.first.now ≡ get_or cs i group.first.now) are at.1)

@@ -5,7 +5,7 @@ use Rattle.std.specs.List.{list_any}
 use Rattle.std.proofs.lemmas.List.{map_push}
 use Rattle.olap_meaning.specs.declared.cells.Cell.{Cell}
 use Rattle.history_core.specs.Groups.{alike}
-use Rattle.cache_manager.specs.Lent.{lent}
+use Rattle.cell_groups.specs.Lent.{lent}
 
 pub length-lent : (xs : List (Bor Cell)) → length (lent xs) ≡ length xs
 length-lent [] = refl

@@ -1,16 +1,15 @@
 -- The loads that a look starts.
-use Rattle.std.proofs.Common.{◌≡◌, refl, sym, ap, subst, ℕ, suc, ◌+◌, ◌≤◌, List, [], ◌∷◌, ◌++◌, length, map, Bool, true, false, not, ◌&&◌, None, is_some, filter, arith, All}
+use Rattle.std.proofs.Common.{◌≡◌, refl, sym, ap, subst, ℕ, suc, ◌+◌, ◌≤◌, List, [], ◌∷◌, ◌++◌, length, map, Bool, true, false, not, ◌&&◌, None, filter, arith, All}
 use Rattle.std.specs.List.{list_all}
 use Rattle.std.proofs.lemmas.Bool.{and_from, and_parts, both_ways, false_from_ne_true}
 use Rattle.std.proofs.lemmas.List.{length-append, length-map}
 use Rattle.std.proofs.lemmas.List.Elements.{All-cons, All-head, All-nil, All-tail}
 use Rattle.olap_meaning.specs.declared.cells.Cell.{Cell}
 use Rattle.olap_meaning.specs.declared.cells.CellSource.{CellSource}
-use Rattle.olap_meaning.specs.declared.tables.Catalog.{Catalog}
 use Rattle.olap_meaning.specs.declared.cells.Header.{Header}
 use Rattle.olap_meaning.specs.declared.cells.Who.{Who}
 use Rattle.olap_meaning.specs.declared.tables.Setting.{Setting}
-use Rattle.olap_meaning.specs.History.{Entry, awaited, awaited_load, exact_source, flushed_after, flying, load_just_covers}
+use Rattle.olap_meaning.specs.History.{Entry, awaited, awaited_load, flushed_after, flying, load_just_covers}
 use Rattle.olap_meaning.specs.Legal.{IsSource, Legal, has_source, is_cell}
 use Rattle.olap_meaning.proofs.RolledSources.{sources_are_decided}
 use Rattle.fact_versions.specs.Facts.{FactsOf}
@@ -23,10 +22,11 @@ use Rattle.history_core.specs.Answers.{HasSource, SomeWants}
 use Rattle.cache_manager.specs.Jobs.{IsJobOf}
 use Rattle.history_core.specs.Seats.{NoneFlies}
 use Rattle.cache_manager.specs.Kept.{IsFlight, IsManager, headers_of}
-use Rattle.cache_manager.specs.Plans.{AreLegalSteps, AreNew, ArePlanned, flight_for}
+use Rattle.cache_manager.specs.Plans.{AreLegalSteps, AreNew, ArePrepared, flight_for}
+use Rattle.segment_header.specs.Widening.{Allowing}
 use Rattle.cache_manager.proofs.Grouping.{contains_at}
 use Rattle.cache_manager.proofs.Managing.{flights_below}
-use Rattle.cache_manager.proofs.Planning.{all_jobs, all_started, anywhere, planned_new, planned_steps, step_of}
+use Rattle.cache_manager.proofs.Planning.{all_jobs, all_started, anywhere, header_of, planned_new, planned_steps, prepared_headers, step_of}
 use Rattle.cache_manager.proofs.Serving.{none_latest}
 use Rattle.cache_manager.proofs.Wanting.{steps_legal}
 
@@ -54,15 +54,16 @@ headers_started [] [] = refl
 headers_started [] (p ∷ ps) = ap (λ (hs : List Header). p.flight.header ∷ hs) (headers_started [] ps)
 headers_started (f ∷ fs) plans = ap (λ (hs : List Header). f.header ∷ hs) (headers_started fs plans)
 
-module _ (cache : CacheOf) (who : Who) (wanted : List Cell) (plans : List Planned) (legal : Legal cache.setting cache.entries) (known : list_all (is_cell cache.setting.catalog) wanted ≡ true) (unserved : list_all (λ cell. not (is_some (exact_source cache.entries cell))) wanted ≡ true) (idle : NoneFlies cache.entries) (are : ArePlanned cache who wanted (length cache.entries + 1) (firsts [] wanted) plans) where
+module _ (allowing : Allowing) (cache : CacheOf) (who : Who) (wanted : List Cell) (plans : List Planned) (legal : Legal cache.setting cache.entries) (known : list_all (is_cell cache.setting.catalog) wanted ≡ true) (unserved : list_all (λ cell. not (has_source cache.setting.catalog cache.entries cell)) wanted ≡ true) (idle : NoneFlies cache.entries) (are : ArePrepared allowing cache who wanted (length cache.entries + 1) (firsts [] wanted) plans) where
   pub all_legal : AreLegalSteps cache.setting cache.entries (map step_of plans)
   all_legal =
-      subst (λ (steps : List Entry). AreLegalSteps cache.setting cache.entries steps) (sym (planned_steps cache who wanted (length cache.entries + 1) (firsts [] wanted) plans are))
-      (steps_legal cache.setting cache.entries who wanted cache.entries [] wanted legal (λ cube. refl) (λ cell here none apart. (none, idle_unawaited cache.entries cell idle)) known unserved (λ k c at. contains_at wanted k c at))
+      subst (λ (steps : List Entry). AreLegalSteps cache.setting cache.entries steps) (sym (planned_steps allowing cache who wanted (length cache.entries + 1) (firsts [] wanted) plans are))
+      (steps_legal allowing cache.setting cache.entries who wanted cache.entries [] wanted (map header_of plans) legal (λ cube. refl) (λ cell here none apart. (none, idle_unawaited cache.entries cell idle)) known unserved (λ k c at. contains_at wanted k c at)
+      (prepared_headers allowing cache who wanted (length cache.entries + 1) (firsts [] wanted) plans are))
 
   pub jobs_started : All (IsJobOf (record { setting = cache.setting; entries = cache.entries ++ map step_of plans })) (map (λ p. p.job) plans)
   jobs_started =
-      all_jobs cache who wanted plans cache.entries [] (length cache.entries + 1) (firsts [] wanted) legal all_legal are (omega arith) (λ cube. refl) (λ cube. refl) (All-nil (IsJobOf (record { setting = cache.setting; entries = cache.entries })))
+      all_jobs allowing cache who wanted plans cache.entries [] (length cache.entries + 1) (firsts [] wanted) legal all_legal are (omega arith) (λ cube. refl) (λ cube. refl) (All-nil (IsJobOf (record { setting = cache.setting; entries = cache.entries })))
 
   pub manager_started :
       (facts : FactsOf) (held : List KeptOf) (spare left : ℕ) (places now : List Header → Type 0) (flights : List FlightOf) → IsManager cache.setting cache.entries spare facts held places flights → length flights + length plans ≤ left
@@ -70,7 +71,7 @@ module _ (cache : CacheOf) (who : Who) (wanted : List Cell) (plans : List Planne
       → IsManager cache.setting (cache.entries ++ map step_of plans) left facts held now (flights ++ map (λ p. flight_for p.flight) plans)
   manager_started facts held spare left places now flights is room fit =
       refit cache.setting (cache.entries ++ map step_of plans) left left facts held anywhere now (flights ++ map (λ p. flight_for p.flight) plans)
-      (all_started cache who wanted facts held left plans cache.entries flights (length cache.entries + 1) (firsts [] wanted) legal all_legal are (omega arith)
+      (all_started allowing cache who wanted facts held left plans cache.entries flights (length cache.entries + 1) (firsts [] wanted) legal all_legal are (omega arith)
       (refit cache.setting cache.entries spare left facts held places anywhere flights is (omega (arith, room)) tt) room)
       (omega (arith, room, length-append flights (map (λ (p : Planned). flight_for p.flight) plans), length-map plans (λ (p : Planned). flight_for p.flight)))
       (subst now (sym (headers_started flights plans)) fit)
@@ -78,7 +79,7 @@ module _ (cache : CacheOf) (who : Who) (wanted : List Cell) (plans : List Planne
   -- the numbers of the loads are new
   pub numbers_new : (flights : List FlightOf) → All (IsFlight cache.entries) flights → AreNew (map (λ f. f.load) flights) (map (λ p. p.flight.load) plans)
   numbers_new flights all =
-      planned_new cache who wanted (length cache.entries + 1) (firsts [] wanted) plans (map (λ f. f.load) flights) are
+      planned_new allowing cache who wanted (length cache.entries + 1) (firsts [] wanted) plans (map (λ f. f.load) flights) are
       (λ i h. let l : i ≤ length cache.entries = flights_below cache.entries flights i all h in omega (arith, l))
 
 -- cells that are taken from sources have sources
@@ -105,17 +106,6 @@ kept_pass keep (cell ∷ cells) = by (keep cell) refl (kept_pass keep cells)
     by : (b : Bool) → keep cell ≡ b → list_all keep (filter keep cells) ≡ true → list_all keep (filter keep (cell ∷ cells)) ≡ true
     by true e rest = rw e (and_from _ _ e rest)
     by false e rest = rw e rest
-
--- a cell without a source has no exact one
-pub unserved_all : (catalog : Catalog) (entries : List Entry) (cells : List Cell) → list_all (λ cell. not (has_source catalog entries cell)) cells ≡ true → list_all (λ cell. not (is_some (exact_source entries cell))) cells ≡ true
-unserved_all catalog entries [] all = refl
-unserved_all catalog entries (cell ∷ cells) all =
-    let parts = and_parts (not (has_source catalog entries cell)) (list_all (λ c. not (has_source catalog entries c)) cells) all in
-    and_from (not (is_some (exact_source entries cell))) (list_all (λ c. not (is_some (exact_source entries c))) cells) (by (is_some (exact_source entries cell)) refl parts.0) (unserved_all catalog entries cells parts.1)
-  where
-    by : (b : Bool) → is_some (exact_source entries cell) ≡ b → not (has_source catalog entries cell) ≡ true → not (is_some (exact_source entries cell)) ≡ true
-    by true e h = absurd (let none : not (has_source catalog entries cell) ≡ false = rw e refl in cc)
-    by false e h = rw e refl
 
 -- where cells want a source, some cell has none
 pub some_wants : (cache : CacheOf) (cells : List Cell) → (length (wanting cache.setting.catalog cache.entries cells) ≡ 0 → ⊥) → SomeWants cache cells

@@ -15,7 +15,7 @@ use Rattle.olap_meaning.specs.Covering.{among, concerning}
 use Rattle.olap_meaning.specs.History.{Entry, Flush, Load, load_version, kept, delivers, ends, evicts, flushed, flying, shutting, started}
 use Rattle.olap_meaning.specs.Legal.{Legal}
 use Rattle.olap_meaning.proofs.Shutting.{shutting_grows}
-use Rattle.segment_load.specs.Loads.{HoldsRows}
+use Rattle.fact_reader.specs.BodyRows.{HoldsRows}
 use Rattle.cache_flush.specs.Loads as of_loads
 use Rattle.cache_flush.specs.Loads.{KeptOf}
 use Rattle.cache_flush.specs.Flights as of_flights

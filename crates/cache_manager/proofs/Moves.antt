@@ -14,7 +14,7 @@ use Rattle.olap_meaning.specs.Legal.{Legal}
 use Rattle.olap_meaning.proofs.Shutting.{loads_start_whole}
 use Rattle.fact_versions.specs.FactRows.{FactRows}
 use Rattle.fact_versions.specs.Facts.{FactsOf, with_batch}
-use Rattle.segment_load.specs.Loads.{is_batch}
+use Rattle.fact_reader.specs.BodyRows.{is_batch}
 use Rattle.cache_flush.specs.Loads as of_loads
 use Rattle.cache_flush.specs.Loads.{KeptOf}
 use Rattle.cache_flush.specs.Flights as of_flights

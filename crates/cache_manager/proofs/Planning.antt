@@ -1,6 +1,6 @@
 -- What is prepared for some loads, and the manager and the jobs after they are started.
 use Rattle.std.proofs.Common.{◌≡◌, refl, sym, ◌∙◌, ap, subst, ℕ, suc, ◌+◌, ◌<◌, ◌≤◌, List, [], ◌∷◌, ◌++◌, append_assoc, length, map, filter, Bool, true, false, ◌==◌, inl, inr, arith, All}
-use Rattle.std.specs.List.{list_any}
+use Rattle.std.specs.List.{AllZip, list_any}
 use Rattle.std.proofs.lemmas.Bool.{both_ways, false_from_ne_true, or_cases, or_left, or_right}
 use Rattle.std.proofs.lemmas.List.{append-nil, length_push}
 use Rattle.std.proofs.lemmas.List.Elements.{All-push, All-weaker, filter-append}
@@ -13,18 +13,20 @@ use Rattle.olap_meaning.specs.Legal.{Legal}
 use Rattle.olap_meaning.proofs.Growing.{legal_grows, version_grows}
 use Rattle.fact_versions.specs.Facts.{FactsOf}
 use Rattle.history_core.specs.Entries.{entry_of}
-use Rattle.segment_load.specs.Loads.{JobOf, rows_in}
+use Rattle.fact_reader.specs.BodyRows.{rows_in}
+use Rattle.segment_load.specs.Loads.{JobOf}
 use Rattle.cache_flush.specs.Loads.{KeptOf}
 use Rattle.cache_flush.specs.Flights.{FlightOf}
 use Rattle.cache_manager.specs.declared.starts.Flying.{Flying}
 use Rattle.cache_manager.specs.declared.starts.Planned.{Planned}
 use Rattle.history_core.specs.Cache.{CacheOf}
-use Rattle.history_core.specs.Groups.{alike, header_for, load_for}
+use Rattle.history_core.specs.Groups.{IsHeaderFor, alike, load_with, loads_over}
+use Rattle.segment_header.specs.Widening.{Allowing}
 use Rattle.cache_manager.specs.Jobs.{IsJobOf, IsOwn}
 use Rattle.history_core.specs.Seats.{entries_of, is_of_seat}
 use Rattle.history_core.specs.Groups.{numbers_from}
 use Rattle.cache_manager.specs.Kept.{IsManager}
-use Rattle.cache_manager.specs.Plans.{AreLegalSteps, AreNew, ArePlanned, IsPlanned, flight_for}
+use Rattle.cache_manager.specs.Plans.{AreLegalSteps, AreNew, ArePrepared, IsPrepared, flight_for}
 use Rattle.cache_manager.proofs.JobFacts.{cost_is}
 use Rattle.cache_manager.proofs.Managing.{among_back}
 use Rattle.cache_manager.proofs.Moves.{starts}
@@ -50,17 +52,30 @@ any_of_filter keep test (x ∷ xs) h = by (keep x) refl h (any_of_filter keep te
 unended_by : (entries : List Entry) (j seat : ℕ) → list_any (ends j) entries ≡ false → list_any (ends j) (entries_of entries seat) ≡ false
 unended_by entries j seat none = false_from_ne_true _ (λ h. both_ways _ none (any_of_filter _ (ends j) entries h))
 
-module _ (cache : CacheOf) (who : Who) (wanted : List Cell) where
-  abbrev load_of : Cell → Load
-  load_of cell = load_for cache who wanted cell
+-- the header of the load that was prepared
+abbrev pub header_of : Planned → Header
+header_of planned = planned.job.header
 
-  pub planned_steps : (n : ℕ) (cells : List Cell) (plans : List Planned) → ArePlanned cache who wanted n cells plans → map step_of plans ≡ map Start (map load_of cells)
+-- headers are those of the first cells of groups, where the groups are prepared
+pub prepared_headers :
+    (allowing : Allowing) (cache : CacheOf) (who : Who) (wanted : List Cell) (n : ℕ) (cells : List Cell) (plans : List Planned) → ArePrepared allowing cache who wanted n cells plans
+    → AllZip (λ first header. IsHeaderFor allowing cache.setting.catalog first (filter (alike first) wanted) header) cells (map header_of plans)
+prepared_headers allowing cache who wanted n [] [] are = tt
+prepared_headers allowing cache who wanted n [] (p ∷ ps) are = absurd are
+prepared_headers allowing cache who wanted n (c ∷ cs) [] are = absurd are
+prepared_headers allowing cache who wanted n (c ∷ cs) (p ∷ ps) are = (are.0.allowed, prepared_headers allowing cache who wanted (suc n) cs ps are.1)
+
+module _ (allowing : Allowing) (cache : CacheOf) (who : Who) (wanted : List Cell) where
+  abbrev load_of : Cell → Planned → Load
+  load_of cell planned = load_with cache who cell planned.job.header
+
+  pub planned_steps : (n : ℕ) (cells : List Cell) (plans : List Planned) → ArePrepared allowing cache who wanted n cells plans → map step_of plans ≡ map Start (loads_over cache who cells (map header_of plans))
   planned_steps n [] [] are = refl
   planned_steps n [] (p ∷ ps) are = absurd are
   planned_steps n (c ∷ cs) [] are = absurd are
-  planned_steps n (c ∷ cs) (p ∷ ps) are = ap (λ (e : Entry). e ∷ map step_of ps) are.0.start ∙ ap (λ (es : List Entry). Start (load_of c) ∷ es) (planned_steps (suc n) cs ps are.1)
+  planned_steps n (c ∷ cs) (p ∷ ps) are = ap (λ (e : Entry). e ∷ map step_of ps) are.0.start ∙ ap (λ (es : List Entry). Start (load_of c p) ∷ es) (planned_steps (suc n) cs ps are.1)
 
-  pub planned_numbers : (n : ℕ) (cells : List Cell) (plans : List Planned) → ArePlanned cache who wanted n cells plans → map (λ job. job.load) (map (λ p. p.job) plans) ≡ numbers_from n (length (map load_of cells))
+  pub planned_numbers : (n : ℕ) (cells : List Cell) (plans : List Planned) → ArePrepared allowing cache who wanted n cells plans → map (λ job. job.load) (map (λ p. p.job) plans) ≡ numbers_from n (length cells)
   planned_numbers n [] [] are = refl
   planned_numbers n [] (p ∷ ps) are = absurd are
   planned_numbers n (c ∷ cs) [] are = absurd are
@@ -68,7 +83,7 @@ module _ (cache : CacheOf) (who : Who) (wanted : List Cell) where
 
   -- each of their numbers is new behind those below
   pub planned_new :
-      (n : ℕ) (cells : List Cell) (plans : List Planned) (before : List ℕ) → ArePlanned cache who wanted n cells plans → ((i : ℕ) → among before i ≡ true → i < n) → AreNew before (map (λ p. p.flight.load) plans)
+      (n : ℕ) (cells : List Cell) (plans : List Planned) (before : List ℕ) → ArePrepared allowing cache who wanted n cells plans → ((i : ℕ) → among before i ≡ true → i < n) → AreNew before (map (λ p. p.flight.load) plans)
   planned_new n [] [] before are below = tt
   planned_new n [] (p ∷ ps) before are below = absurd are
   planned_new n (c ∷ cs) [] before are below = absurd are
@@ -82,16 +97,16 @@ module _ (cache : CacheOf) (who : Who) (wanted : List Cell) where
   -- the manager after the loads are started
   pub all_started :
       (facts : FactsOf) (held : List KeptOf) (left : ℕ) (plans : List Planned) (entries : List Entry) (flights : List FlightOf) (n : ℕ) (cells : List Cell) → Legal cache.setting entries → AreLegalSteps cache.setting entries (map step_of plans)
-      → ArePlanned cache who wanted n cells plans → n ≡ suc (length entries) → IsManager cache.setting entries left facts held anywhere flights → length flights + length plans ≤ left
+      → ArePrepared allowing cache who wanted n cells plans → n ≡ suc (length entries) → IsManager cache.setting entries left facts held anywhere flights → length flights + length plans ≤ left
       → IsManager cache.setting (entries ++ map step_of plans) left facts held anywhere (flights ++ map (λ p. flight_for p.flight) plans)
   all_started facts held left [] entries flights n cells legal steps are number is room = rw (append-nil entries, append-nil flights) is
   all_started facts held left (p ∷ ps) entries flights n [] legal steps are number is room = absurd are
   all_started facts held left (p ∷ ps) entries flights n (c ∷ cs) legal steps are number is room =
-      let made : flight_for p.flight ≡ record { load = suc (length entries); who = who; header = header_for cache.setting.catalog c (filter (alike c) wanted); version = version cache.entries c.cube; shut = [] } =
-      ap flight_for are.0.flight ∙ ap (λ (m : ℕ). flight_for (record { load = m; who = who; header = header_for cache.setting.catalog c (filter (alike c) wanted); version = version cache.entries c.cube })) number in
+      let made : flight_for p.flight ≡ record { load = suc (length entries); who = who; header = p.job.header; version = version cache.entries c.cube; shut = [] } =
+      ap flight_for are.0.flight ∙ ap (λ (m : ℕ). flight_for (record { load = m; who = who; header = p.job.header; version = version cache.entries c.cube })) number in
       let first : IsManager cache.setting (entries ++ step_of p ∷ []) left facts held anywhere (flights ++ flight_for p.flight ∷ []) =
       subst (λ (e : Entry). IsManager cache.setting (entries ++ e ∷ []) left facts held anywhere (flights ++ flight_for p.flight ∷ [])) (sym are.0.start)
-      (starts cache.setting entries facts held anywhere flights legal left left (load_of c) (flight_for p.flight) is (omega (arith, room)) tt made) in
+      (starts cache.setting entries facts held anywhere flights legal left left (load_of c p) (flight_for p.flight) is (omega (arith, room)) tt made) in
       rw (← append_assoc entries (step_of p ∷ []) (map step_of ps), ← append_assoc flights (flight_for p.flight ∷ []) (map (λ q. flight_for q.flight) ps))
       (all_started facts held left ps (entries ++ step_of p ∷ []) (flights ++ flight_for p.flight ∷ []) (suc n) cs (legal_grows cache.setting entries (step_of p) legal steps.0) steps.1 are.1
       (let long = length_push entries (step_of p) in omega (arith, long, number)) first
@@ -133,30 +148,31 @@ module _ (cache : CacheOf) (who : Who) (wanted : List Cell) where
 
   -- a job that was prepared is one of the cache's, once its load is started
   job_new :
-      (entries : List Entry) (n : ℕ) (c : Cell) (p : Planned) → Legal cache.setting entries → IsPlanned cache who wanted n c p → n ≡ suc (length entries) → version entries c.cube ≡ version cache.entries c.cube
-      → rows_of entries c.cube (version cache.entries c.cube) ≡ rows_of cache.entries c.cube (version cache.entries c.cube) → IsJobOf (at (entries ++ Start (load_of c) ∷ [])) p.job
+      (entries : List Entry) (n : ℕ) (c : Cell) (p : Planned) → Legal cache.setting entries → IsPrepared allowing cache who (filter (alike c) wanted) n c p → n ≡ suc (length entries) → version entries c.cube ≡ version cache.entries c.cube
+      → rows_of entries c.cube (version cache.entries c.cube) ≡ rows_of cache.entries c.cube (version cache.entries c.cube) → IsJobOf (at (entries ++ Start (load_of c p) ∷ [])) p.job
   job_new entries n c p legal is number present same =
       let place : p.job.load ≡ suc (length entries) = is.load ∙ number in
-      let rows : rows_in p.job.snapshot ≡ rows_of (entries ++ Start (load_of c) ∷ []) c.cube (version cache.entries c.cube) =
-      is.rows ∙ sym same ∙ sym (rows_on entries (Start (load_of c)) c.cube (version cache.entries c.cube) (omega (arith, present))) in
+      let rows : rows_in p.job.snapshot ≡ rows_of (entries ++ Start (load_of c p) ∷ []) p.job.header.cube (version cache.entries c.cube) =
+      is.rows ∙ sym same ∙ sym (rows_on entries (Start (load_of c p)) c.cube (version cache.entries c.cube) (omega (arith, present)))
+      ∙ ap (λ (cube : ℕ). rows_of (entries ++ Start (load_of c p) ∷ []) cube (version cache.entries c.cube)) (sym is.allowed.cube) in
       record {
-        load = load_of c;
+        load = load_of c p;
         catalog = is.catalog;
         flies = record {
-          started = ap (load_at (entries ++ Start (load_of c) ∷ [])) place ∙ load_last entries (Start (load_of c));
+          started = ap (load_at (entries ++ Start (load_of c p) ∷ [])) place ∙ load_last entries (Start (load_of c p));
           own = sym is.who_is;
-          unended = unended_by (entries ++ Start (load_of c) ∷ []) p.job.load p.job.who.seat (rw place (any_none (ends (suc (length entries))) entries (Start (load_of c)) (unended cache.setting entries legal) refl));
+          unended = unended_by (entries ++ Start (load_of c p) ∷ []) p.job.load p.job.who.seat (rw place (any_none (ends (suc (length entries))) entries (Start (load_of c p)) (unended cache.setting entries legal) refl));
         };
-        header = is.header;
+        header = refl;
         rows = rows;
         costs =
             ap length rows
-            ∙ sym (cost_is cache.setting.catalog (entries ++ Start (load_of c) ∷ []) p.job.load (load_of c) (ap (load_at (entries ++ Start (load_of c) ∷ [])) place ∙ load_last entries (Start (load_of c))));
+            ∙ sym (cost_is cache.setting.catalog (entries ++ Start (load_of c p) ∷ []) p.job.load (load_of c p) (ap (load_at (entries ++ Start (load_of c p) ∷ [])) place ∙ load_last entries (Start (load_of c p))));
       }
 
   -- the jobs after their loads are started
   pub all_jobs :
-      (plans : List Planned) (entries : List Entry) (jobs : List JobOf) (n : ℕ) (cells : List Cell) → Legal cache.setting entries → AreLegalSteps cache.setting entries (map step_of plans) → ArePlanned cache who wanted n cells plans → n ≡ suc (length entries)
+      (plans : List Planned) (entries : List Entry) (jobs : List JobOf) (n : ℕ) (cells : List Cell) → Legal cache.setting entries → AreLegalSteps cache.setting entries (map step_of plans) → ArePrepared allowing cache who wanted n cells plans → n ≡ suc (length entries)
       → ((cube : ℕ) → version entries cube ≡ version cache.entries cube) → ((cube : ℕ) → rows_of entries cube (version cache.entries cube) ≡ rows_of cache.entries cube (version cache.entries cube))
       → All (IsJobOf (at entries)) jobs → All (IsJobOf (at (entries ++ map step_of plans))) (jobs ++ map (λ p. p.job) plans)
   all_jobs [] entries jobs n cells legal steps are number present same all = rw (append-nil entries, append-nil jobs) all
@@ -167,14 +183,14 @@ module _ (cache : CacheOf) (who : Who) (wanted : List Cell) where
       (let long = length_push entries (step_of p) in omega (arith, long, number))
       (λ cube. later_version cube) (λ cube. later_rows cube)
       (subst (λ (e : Entry). All (IsJobOf (at (entries ++ e ∷ []))) (jobs ++ p.job ∷ [])) (sym are.0.start)
-      (All-push (IsJobOf (at (entries ++ Start (load_of c) ∷ []))) jobs p.job (All-weaker (IsJobOf (at entries)) (IsJobOf (at (entries ++ Start (load_of c) ∷ []))) (λ job is. job_on entries (load_of c) job legal is) jobs all) (job_new entries n c p legal are.0 number (present c.cube) (same c.cube)))))
+      (All-push (IsJobOf (at (entries ++ Start (load_of c p) ∷ []))) jobs p.job (All-weaker (IsJobOf (at entries)) (IsJobOf (at (entries ++ Start (load_of c p) ∷ []))) (λ job is. job_on entries (load_of c p) job legal is) jobs all) (job_new entries n c p legal are.0 number (present c.cube) (same c.cube)))))
     where
       later_version : (cube : ℕ) → version (entries ++ step_of p ∷ []) cube ≡ version cache.entries cube
       later_version cube =
-          ap (λ (e : Entry). version (entries ++ e ∷ []) cube) are.0.start ∙ version_grows entries (Start (load_of c)) cube
+          ap (λ (e : Entry). version (entries ++ e ∷ []) cube) are.0.start ∙ version_grows entries (Start (load_of c p)) cube
           ∙ (let zero_more : version entries cube + 0 ≡ version entries cube = omega arith in zero_more) ∙ present cube
 
       later_rows : (cube : ℕ) → rows_of (entries ++ step_of p ∷ []) cube (version cache.entries cube) ≡ rows_of cache.entries cube (version cache.entries cube)
       later_rows cube =
           ap (λ (e : Entry). rows_of (entries ++ e ∷ []) cube (version cache.entries cube)) are.0.start
-          ∙ rows_on entries (Start (load_of c)) cube (version cache.entries cube) (omega (arith, present cube)) ∙ same cube
+          ∙ rows_on entries (Start (load_of c p)) cube (version cache.entries cube) (omega (arith, present cube)) ∙ same cube

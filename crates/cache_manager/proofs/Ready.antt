@@ -1,27 +1,30 @@
 -- After the loads of a look were delivered, each of its cells has a source.
 use Rattle.std.proofs.Common.{◌≡◌, refl, sym, ◌∙◌, ap, subst, ℕ, zero, suc, ◌+◌, ◌<◌, ◌≤◌, List, [], ◌∷◌, ◌++◌, append_assoc, length, map, filter, filter_map, Bool, true, false, not, ◌&&◌, ◌||◌, ◌⊎◌, inl, inr, Option, Some, None, is_some, option_map, slice_get, arith, All}
 use Rattle.std.specs.Prelude.{IsTrue}
-use Rattle.std.specs.List.{list_all, list_any}
+use Rattle.std.specs.List.{AllZip, list_all, list_any, zip}
 use Rattle.std.proofs.lemmas.Bool.{and_from, and_parts, both_ways, false_from_ne_true, not_from_false, or_cases, or_left, or_right}
 use Rattle.std.proofs.lemmas.List.{append-nil}
 use Rattle.std.proofs.lemmas.List.Elements.{All-cons, All-head, All-nil, All-tail, All-weaker}
 use Rattle.std.proofs.lemmas.List.Folds.{list_any-append}
 use Rattle.std.proofs.lemmas.Option.{slice_get-map}
 use Rattle.olap_meaning.specs.declared.cells.Cell.{Cell}
+use Rattle.olap_meaning.specs.declared.cells.Header.{Header}
 use Rattle.olap_meaning.specs.declared.cells.Who.{Who}
 use Rattle.olap_meaning.specs.Covering.{header_covers, just_covers, names_column}
 use Rattle.olap_meaning.specs.History.{Entry, Start, Load, entry_at, evicts, exact_source, flushed_after, flushes, is_some_and, kept, live, load_at, load_covers, load_just_covers}
 use Rattle.olap_meaning.proofs.Loads.{live_load, live_on, load_start, some_and, start_load}
 use Rattle.olap_meaning.proofs.Positions.{after_passes, entry-append, entry_within, latest_bounds, latest_found}
+use Rattle.olap_meaning.specs.declared.tables.Catalog.{Catalog}
 use Rattle.history_core.specs.Answers.{HasSource}
 use Rattle.history_core.specs.Cache.{CacheOf}
-use Rattle.history_core.specs.Groups.{alike, firsts, header_for, load_for, loads_for, wanting}
+use Rattle.history_core.specs.Groups.{AreHeadersFor, IsHeaderFor, alike, firsts, load_count, load_with, loads_with, wanted_of, wanting}
+use Rattle.segment_header.specs.Widening.{Allowing, Serves}
 use Rattle.olap_meaning.specs.Legal.{has_source, is_cell}
 use Rattle.olap_meaning.specs.Rolled.{IsRolled, IsRolledSource, Offer, has_rolled_source, offered, value_count}
 use Rattle.olap_meaning.proofs.RolledSources.{rolled_decided, rolled_found}
 use Rattle.history_core.specs.Groups.{numbers_from}
 use Rattle.cache_manager.specs.Laws.{DeliveredLooksAreReady}
-use Rattle.cache_manager.proofs.Grouping.{alike_from, alike_self, alike_told, group_covered, kept_place, Alike}
+use Rattle.cache_manager.proofs.Grouping.{alike_from, alike_self, alike_told, group_covered, kept_place, serving_header, Alike}
 
 -- a load that serves a cell makes for an exact source
 serves_source : (entries : List Entry) (j : ℕ) (cell : Cell) (load : Load) → load_at entries j ≡ Some load → live entries j cell ≡ true → load_just_covers entries j cell ≡ true → is_some (exact_source entries cell) ≡ true
@@ -130,12 +133,31 @@ get_within [] k x at = absurd (cc)
 get_within (y ∷ ys) zero x at = omega arith
 get_within (y ∷ ys) (suc k) x at = let l = get_within ys k x at in omega (arith, l)
 
-module _ (cache : CacheOf) (who : Who) (cells : List Cell) (later : List Entry) where
+-- whatever allows the values of headers, they serve
+pub serving_headers : (allowing : Allowing) (catalog : Catalog) (wanted : List Cell) (headers : List Header) → AreHeadersFor allowing catalog wanted headers → AreHeadersFor Serves catalog wanted headers
+serving_headers allowing catalog wanted headers own = by (firsts [] wanted) headers own
+  where
+    by :
+        (cs : List Cell) (hs : List Header) → AllZip (λ c h. IsHeaderFor allowing catalog c (filter (alike c) wanted) h) cs hs
+        → AllZip (λ c h. IsHeaderFor Serves catalog c (filter (alike c) wanted) h) cs hs
+    by [] [] all = tt
+    by [] (h ∷ hs) all = absurd all
+    by (c ∷ cs) [] all = absurd all
+    by (c ∷ cs) (h ∷ hs) all = (serving_header allowing catalog c (filter (alike c) wanted) h all.0, by cs hs all.1)
+
+-- what stands at one place of two lists
+zip_at : {A B : Type 0} (R : A → B → Type 0) (xs : List A) (ys : List B) (k : ℕ) (x : A) → AllZip R xs ys → slice_get xs k ≡ Some x → (y : B) × (slice_get (zip xs ys) k ≡ Some (x, y)) × R x y
+zip_at R [] ys k x all at = absurd (cc)
+zip_at R (z ∷ zs) [] k x all at = absurd all
+zip_at R (z ∷ zs) (y ∷ ys) zero x all at = let same : z ≡ x = cc in (y, ap (λ w. Some (w, y)) same, subst (λ w. R w y) same all.0)
+zip_at R (z ∷ zs) (y ∷ ys) (suc k) x all at = zip_at R zs ys k x all.1 at
+
+module _ (cache : CacheOf) (who : Who) (cells : List Cell) (headers : List Header) (later : List Entry) (own : AreHeadersFor Serves cache.setting.catalog (wanted_of cache cells) headers) where
   abbrev wanted : List Cell
   wanted = wanting cache.setting.catalog cache.entries cells
 
   abbrev loads : List Load
-  loads = loads_for cache who cells
+  loads = loads_with cache who cells headers
 
   abbrev final : List Entry
   final = cache.entries ++ (map Start loads ++ later)
@@ -143,7 +165,7 @@ module _ (cache : CacheOf) (who : Who) (cells : List Cell) (later : List Entry) 
   -- a cell that wanted a source has the load of its group
   wanted_served :
       (i : ℕ) (cell : Cell) → is_cell cache.setting.catalog cell ≡ true → slice_get wanted i ≡ Some cell → list_any (flushes cell) later ≡ false
-      → All (λ j. IsTrue (kept final j)) (numbers_from (length cache.entries + 1) (length loads)) → is_some (exact_source final cell) ≡ true
+      → All (λ j. IsTrue (kept final j)) (numbers_from (length cache.entries + 1) (load_count cache cells)) → is_some (exact_source final cell) ≡ true
   wanted_served i cell known at none all = elim (first_of [] wanted i cell at) [ inl old ↦ absurd (cc) | inr found ↦ served found.0 found.1 found.2 found.3 ]
     where
       served : (k : ℕ) (first : Cell) → slice_get (firsts [] wanted) k ≡ Some first → alike cell first ≡ true → is_some (exact_source final cell) ≡ true
@@ -151,21 +173,28 @@ module _ (cache : CacheOf) (who : Who) (cells : List Cell) (later : List Entry) 
           let told = alike_told cell first like in
           let back : Alike first cell = record { cube = sym told.cube; measure = sym told.measure; columns = sym told.columns } in
           let member = kept_place (alike first) wanted i cell at (alike_from first cell back) in
-          let covers : just_covers (header_for cache.setting.catalog first (filter (alike first) wanted)) cell ≡ true = group_covered cache.setting.catalog first (filter (alike first) wanted) member.0 cell back known member.1 in
-          let load : slice_get loads k ≡ Some (load_for cache who wanted first) = slice_get-map (load_for cache who wanted) (firsts [] wanted) k ∙ ap (option_map (load_for cache who wanted)) place in
-          let start : slice_get (map Start loads) k ≡ Some (Start (load_for cache who wanted first)) = slice_get-map Start loads k ∙ ap (option_map Start) load in
-          let number : length cache.entries + 1 + k ≡ suc (length cache.entries + k) = omega arith in
-          let at_final : load_at final (suc (length cache.entries + k)) ≡ Some (load_for cache who wanted first) =
-          start_load final (suc (length cache.entries + k)) (load_for cache who wanted first) (get_of_rest cache.entries (map Start loads ++ later) k _ (get_front (map Start loads) later k _ start)) in
-          let delivered : kept final (suc (length cache.entries + k)) ≡ true = subst (λ (j : ℕ). kept final j ≡ true) number (number_at (λ j. IsTrue (kept final j)) (length cache.entries + 1) (length loads) k all (get_within loads k _ load)) in
-          let just : load_just_covers final (suc (length cache.entries + k)) cell ≡ true = ap (is_some_and (λ (l : Load). just_covers l.header cell)) at_final ∙ covers in
-          let wide : load_covers final (suc (length cache.entries + k)) cell ≡ true =
-          ap (is_some_and (λ (l : Load). header_covers l.header cell)) at_final
-          ∙ (and_parts (header_covers (header_for cache.setting.catalog first (filter (alike first) wanted)) cell) (list_all (λ column. names_column cell column.0) (header_for cache.setting.catalog first (filter (alike first) wanted)).columns) covers).0 in
-          let open_still : flushed_after final (suc (length cache.entries + k)) cell ≡ false =
-          unflushed_rest cache.entries (map Start loads ++ later) (suc (length cache.entries + k)) cell (omega arith) (starts_flush_none cell loads later none) in
-          serves_source final (suc (length cache.entries + k)) cell (load_for cache who wanted first) at_final
-          (and_from (kept final (suc (length cache.entries + k)) && load_covers final (suc (length cache.entries + k)) cell) (not (flushed_after final (suc (length cache.entries + k)) cell)) (and_from _ _ delivered wide) (not_from_false _ open_still)) just
+          let found = zip_at (λ c h. IsHeaderFor Serves cache.setting.catalog c (filter (alike c) wanted) h) (firsts [] wanted) headers k first own place in
+          with_header k first found.0 member.0 member.1 back place found.1 found.2
+        where
+          with_header :
+              (k : ℕ) (first : Cell) (header : Header) (m : ℕ) → slice_get (filter (alike first) wanted) m ≡ Some cell → Alike first cell → slice_get (firsts [] wanted) k ≡ Some first → slice_get (zip (firsts [] wanted) headers) k ≡ Some (first, header)
+              → IsHeaderFor Serves cache.setting.catalog first (filter (alike first) wanted) header → is_some (exact_source final cell) ≡ true
+          with_header k first header m member back place pair is =
+              let covers : just_covers header cell ≡ true = group_covered Serves cache.setting.catalog first (filter (alike first) wanted) header is m cell back known member in
+              let load : slice_get loads k ≡ Some (load_with cache who first header) = slice_get-map (λ (p : Cell × Header). load_with cache who p.0 p.1) (zip (firsts [] wanted) headers) k ∙ ap (option_map (λ (p : Cell × Header). load_with cache who p.0 p.1)) pair in
+              let start : slice_get (map Start loads) k ≡ Some (Start (load_with cache who first header)) = slice_get-map Start loads k ∙ ap (option_map Start) load in
+              let number : length cache.entries + 1 + k ≡ suc (length cache.entries + k) = omega arith in
+              let at_final : load_at final (suc (length cache.entries + k)) ≡ Some (load_with cache who first header) =
+              start_load final (suc (length cache.entries + k)) (load_with cache who first header) (get_of_rest cache.entries (map Start loads ++ later) k _ (get_front (map Start loads) later k _ start)) in
+              let delivered : kept final (suc (length cache.entries + k)) ≡ true = subst (λ (j : ℕ). kept final j ≡ true) number (number_at (λ j. IsTrue (kept final j)) (length cache.entries + 1) (load_count cache cells) k all (get_within (firsts [] wanted) k first place)) in
+              let just : load_just_covers final (suc (length cache.entries + k)) cell ≡ true = ap (is_some_and (λ (l : Load). just_covers l.header cell)) at_final ∙ covers in
+              let wide : load_covers final (suc (length cache.entries + k)) cell ≡ true =
+              ap (is_some_and (λ (l : Load). header_covers l.header cell)) at_final
+              ∙ (and_parts (header_covers header cell) (list_all (λ column. names_column cell column.0) header.columns) covers).0 in
+              let open_still : flushed_after final (suc (length cache.entries + k)) cell ≡ false =
+              unflushed_rest cache.entries (map Start loads ++ later) (suc (length cache.entries + k)) cell (omega arith) (starts_flush_none cell loads later none) in
+              serves_source final (suc (length cache.entries + k)) cell (load_with cache who first header) at_final
+              (and_from (kept final (suc (length cache.entries + k)) && load_covers final (suc (length cache.entries + k)) cell) (not (flushed_after final (suc (length cache.entries + k)) cell)) (and_from _ _ delivered wide) (not_from_false _ open_still)) just
 
   -- a cell that had an exact source still has one
   exact_still : (cell : Cell) (j : ℕ) → exact_source cache.entries cell ≡ Some j → list_any (flushes cell) later ≡ false → list_any (evicts j) later ≡ false → is_some (exact_source final cell) ≡ true
@@ -210,7 +239,7 @@ module _ (cache : CacheOf) (who : Who) (cells : List Cell) (later : List Entry) 
   -- each cell, with its place among all
   all_sourced :
       (some : List Cell) → ((i : ℕ) (cell : Cell) → slice_get some i ≡ Some cell → has_source cache.setting.catalog cache.entries cell ≡ false → (k : ℕ) × (slice_get wanted k ≡ Some cell))
-      → list_all (is_cell cache.setting.catalog) some ≡ true → All (λ cell. list_any (flushes cell) later ≡ false) some → ((j : ℕ) → list_any (evicts j) later ≡ false) → All (λ j. IsTrue (kept final j)) (numbers_from (length cache.entries + 1) (length loads))
+      → list_all (is_cell cache.setting.catalog) some ≡ true → All (λ cell. list_any (flushes cell) later ≡ false) some → ((j : ℕ) → list_any (evicts j) later ≡ false) → All (λ j. IsTrue (kept final j)) (numbers_from (length cache.entries + 1) (load_count cache cells))
       → All (HasSource (record { setting = cache.setting; entries = final })) some
   all_sourced [] places known none stays all = All-nil _
   all_sourced (cell ∷ others) places known none stays all =
@@ -228,6 +257,6 @@ module _ (cache : CacheOf) (who : Who) (cells : List Cell) (later : List Entry) 
           or_left (is_some (exact_source final cell)) (has_rolled_source cache.setting.catalog final cell) (wanted_served place.0 cell (and_parts _ _ known).0 place.1 unflushed all)
 
 pub delivered_looks_are_ready : DeliveredLooksAreReady
-delivered_looks_are_ready cache who cells later known none stays all =
-    all_sourced cache who cells later cells
+delivered_looks_are_ready cache who cells headers later known own none stays all =
+    all_sourced cache who cells headers later own cells
     (λ i cell at unserved. kept_place (λ c. not (has_source cache.setting.catalog cache.entries c)) cells i cell at (not_from_false _ unserved)) known none stays all

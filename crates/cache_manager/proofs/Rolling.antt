@@ -25,7 +25,7 @@ use Rattle.rollup_plan.specs.Plans.{kept_at}
 use Rattle.rollup_plan.specs.Serving.{ServesAlike, is_served, plan_serves}
 use Rattle.rollup_plan.specs.declared.plan.Part.{Part}
 use Rattle.rollup_plan.specs.declared.plan.Plan.{Plan}
-use Rattle.cache_manager.specs.Rollups.{AreKept, GoOn, HasJoined, IsBegun, IsPlanFor, IsRollup, MayJoin, are_alike, candidates_for, cell_at, planned}
+use Rattle.cache_manager.specs.Rollups.{AreKept, GoOn, HasJoined, IsBegun, IsPlanFor, IsRollup, MayJoin, all_alike, candidates_for, cell_at, planned}
 use Rattle.cache_manager.specs.declared.rollups.Rollup.{Rollup}
 use Rattle.cache_manager.proofs.Finding.{all_more}
 use Rattle.cache_manager.proofs.Grouping.{Alike, alike_told}
@@ -110,7 +110,7 @@ get_of P [] i x all e = absurd (cc)
 get_of P (y ∷ ys) zero x all e = let same : y ≡ x = cc in subst P same (All-head P y ys all)
 get_of P (y ∷ ys) (suc i) x all e = get_of P ys i x (All-tail P y ys all) e
 
-alike_more : (cells : List Cell) (first cell : Cell) → slice_get cells 0 ≡ Some first → are_alike cells ≡ true → alike first cell ≡ true → are_alike (cells ++ cell ∷ []) ≡ true
+alike_more : (cells : List Cell) (first cell : Cell) → slice_get cells 0 ≡ Some first → all_alike cells ≡ true → alike first cell ≡ true → all_alike (cells ++ cell ∷ []) ≡ true
 alike_more [] first cell at all like = absurd (cc)
 alike_more (c ∷ cs) first cell at all like =
     let same : c ≡ first = cc in
@@ -168,7 +168,7 @@ module _ (before after : List Rollup) (number place : ℕ) (cell : Cell) (joined
       here = record {
         some = subst (λ (cells : List Cell). 0 < length cells) (sym joined.cells) (let long = length_push joined.was.cells.items cell in omega (arith, long));
         named = joined.loads ∙ own.named ∙ ap planned (sym joined.plan);
-        same = ap are_alike joined.cells ∙ alike_more joined.was.cells.items may_here.first cell may_here.is_first own.same may_here.same;
+        same = ap all_alike joined.cells ∙ alike_more joined.was.cells.items may_here.first cell may_here.is_first own.same may_here.same;
         known = ap (list_all (is_cell catalog)) joined.cells ∙ list_all-append (is_cell catalog) joined.was.cells.items (cell ∷ []) ∙ and_from _ _ own.known (and_from (is_cell catalog cell) true known refl);
         unserved = subst (All (λ c. exact_source entries c ≡ None)) (sym joined.cells) (all_more (λ c. exact_source entries c ≡ None) joined.was.cells.items cell own.unserved none);
         planned_for =
@@ -183,7 +183,7 @@ pub begun_is :
 begun_is catalog entries loads plan cell rollup known none is begun = record {
   some = subst (λ (cells : List Cell). 0 < length cells) (sym begun.cells) (omega arith);
   named = begun.loads ∙ ap planned (sym begun.plan_is);
-  same = ap are_alike begun.cells;
+  same = ap all_alike begun.cells;
   known = ap (list_all (is_cell catalog)) begun.cells ∙ and_from (is_cell catalog cell) true known refl;
   unserved = subst (All (λ c. exact_source entries c ≡ None)) (sym begun.cells) (All-cons (λ c. exact_source entries c ≡ None) cell [] none (All-nil _));
   planned_for = subst (λ (p : Plan). All (IsPlanFor catalog loads p) rollup.cells.items) (sym begun.plan_is) (subst (All (IsPlanFor catalog loads plan)) (sym begun.cells) (All-cons (IsPlanFor catalog loads plan) cell [] is (All-nil _)));

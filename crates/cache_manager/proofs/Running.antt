@@ -11,11 +11,13 @@ use Rattle.olap_meaning.specs.declared.tables.Setting.{Setting}
 use Rattle.olap_meaning.specs.Covering.{among}
 use Rattle.olap_meaning.specs.History.{Entry, Start, Load, ends, is_some_and}
 use Rattle.olap_meaning.specs.Legal.{Legal, caller, is_call_below, is_call_of, is_next_call}
-use Rattle.segment_load.specs.Loads.{JobOf, rows_in}
+use Rattle.fact_reader.specs.BodyRows.{rows_in}
+use Rattle.segment_header.specs.Widening.{Allowing}
+use Rattle.segment_load.specs.Loads.{JobOf}
 use Rattle.history_core.specs.Cache.{CacheOf}
 use Rattle.cache_manager.specs.Jobs.{IsJobOf}
 use Rattle.history_core.specs.Groups.{numbers_from}
-use Rattle.cache_manager.specs.Runs.{IsRun, IsStopped, MayReply, MayReplyAll, Stage, apart, ending, first_stage, is_below, next_stage, rows_of_job, rows_over, rows_tried, stage_after, stage_of}
+use Rattle.cache_manager.specs.Runs.{IsRun, IsStopped, MayReply, MayReplyAll, MayStart, Stage, apart, ending, first_stage, is_below, next_stage, rows_of_job, rows_over, rows_tried, stage_after, stage_of}
 use Rattle.cache_manager.specs.declared.calls.Call.{Call}
 use Rattle.cache_manager.specs.declared.calls.Reply.{Reply}
 use Rattle.cache_manager.proofs.JobFacts.{apart_numbers, jobs_stay, other_loads}
@@ -169,24 +171,28 @@ rows_are cache (x ∷ xs) n zero job all l at =
     sym is.costs ∙ ap (λ (j : JobOf). length (rows_in j.snapshot)) (sym at)
 rows_are cache (x ∷ xs) n (suc i) job all l at = rows_are cache xs n i job (All-tail (IsJobOf cache) x xs all) (omega (arith, l)) at
 
+-- a call may have this reply, and the loads that it starts their headers
+abbrev pub MayFollow : Allowing → Stage → Call → Reply → Type 0
+MayFollow allowing stage call reply = MayReply stage call reply × MayStart allowing stage call reply
+
 -- the rows of calls, and those of one more
-pub rows_more : (rows : Stage → Call → Reply → ℕ) (stage : Stage) (calls : List Call) (replies : List Reply) (call : Call) (reply : Reply) → MayReplyAll stage calls replies
+pub rows_more : (allowing : Allowing) (rows : Stage → Call → Reply → ℕ) (stage : Stage) (calls : List Call) (replies : List Reply) (call : Call) (reply : Reply) → MayReplyAll allowing stage calls replies
     → rows_over rows stage (calls ++ call ∷ []) (replies ++ reply ∷ []) ≡ rows_over rows stage calls replies + rows (stage_after stage calls replies) call reply
-rows_more rows stage [] [] call reply all = omega arith
-rows_more rows stage [] (r ∷ rs) call reply all = absurd all
-rows_more rows stage (c ∷ cs) [] call reply all = absurd all
-rows_more rows stage (c ∷ cs) (r ∷ rs) call reply all =
-    let rest = rows_more rows (next_stage stage c r) cs rs call reply all.1 in
+rows_more allowing rows stage [] [] call reply all = omega arith
+rows_more allowing rows stage [] (r ∷ rs) call reply all = absurd all
+rows_more allowing rows stage (c ∷ cs) [] call reply all = absurd all
+rows_more allowing rows stage (c ∷ cs) (r ∷ rs) call reply all =
+    let rest = rows_more allowing rows (next_stage stage c r) cs rs call reply all.1 in
     omega (arith, rest)
 
 -- replies that may be, and one more
-pub replies_more : (stage : Stage) (calls : List Call) (replies : List Reply) (call : Call) (reply : Reply) → MayReplyAll stage calls replies → MayReply (stage_after stage calls replies) call reply
-    → MayReplyAll stage (calls ++ call ∷ []) (replies ++ reply ∷ []) × (stage_after stage (calls ++ call ∷ []) (replies ++ reply ∷ []) ≡ next_stage (stage_after stage calls replies) call reply)
-replies_more stage [] [] call reply all may = ((may, tt), refl)
-replies_more stage [] (r ∷ rs) call reply all may = absurd all
-replies_more stage (c ∷ cs) [] call reply all may = absurd all
-replies_more stage (c ∷ cs) (r ∷ rs) call reply all may =
-    let rest = replies_more (next_stage stage c r) cs rs call reply all.1 may in
+pub replies_more : (allowing : Allowing) (stage : Stage) (calls : List Call) (replies : List Reply) (call : Call) (reply : Reply) → MayReplyAll allowing stage calls replies → MayFollow allowing (stage_after stage calls replies) call reply
+    → MayReplyAll allowing stage (calls ++ call ∷ []) (replies ++ reply ∷ []) × (stage_after stage (calls ++ call ∷ []) (replies ++ reply ∷ []) ≡ next_stage (stage_after stage calls replies) call reply)
+replies_more allowing stage [] [] call reply all may = ((may, tt), refl)
+replies_more allowing stage [] (r ∷ rs) call reply all may = absurd all
+replies_more allowing stage (c ∷ cs) [] call reply all may = absurd all
+replies_more allowing stage (c ∷ cs) (r ∷ rs) call reply all may =
+    let rest = replies_more allowing (next_stage stage c r) cs rs call reply all.1 may in
     ((all.0, rest.0), rest.1)
 
 -- what has come so far, the one that comes now, and the others
@@ -203,15 +209,15 @@ map_same [] = refl
 map_same (x ∷ xs) = ap (λ ys. x ∷ ys) (map_same xs)
 
 -- a run stops behind a call, of which the reply is lost
-pub stopped : (s t : Setting) (calls made : List Call) (replies : List Reply) (call : Call) (reply : Reply) (stage : Stage) (before middle after : ℕ) → t ≡ s → map (λ (k : Call). k) made ≡ take (length made) calls → length made < length calls → call ≡ get_or calls (length made) call
-    → MayReplyAll (first_stage t) made replies → stage ≡ stage_after (first_stage t) made replies → MayReply stage call reply → middle ≤ before + rows_over rows_tried (first_stage t) made replies → after ≤ middle + rows_tried stage call reply
-    → IsStopped (first_stage s) calls before after
-stopped s t calls made replies call reply stage before middle after same front within here all placed may most more =
-    let P : Stage → Type 0 = λ st. MayReply st call reply in
-    let next = replies_more (first_stage t) made replies call reply all (subst P placed may) in
-    let rows = rows_more rows_tried (first_stage t) made replies call reply all in
+pub stopped : (allowing : Allowing) (s t : Setting) (calls made : List Call) (replies : List Reply) (call : Call) (reply : Reply) (stage : Stage) (before middle after : ℕ) → t ≡ s → map (λ (k : Call). k) made ≡ take (length made) calls → length made < length calls → call ≡ get_or calls (length made) call
+    → MayReplyAll allowing (first_stage t) made replies → stage ≡ stage_after (first_stage t) made replies → MayFollow allowing stage call reply → middle ≤ before + rows_over rows_tried (first_stage t) made replies → after ≤ middle + rows_tried stage call reply
+    → IsStopped allowing (first_stage s) calls before after
+stopped allowing s t calls made replies call reply stage before middle after same front within here all placed may most more =
+    let P : Stage → Type 0 = λ st. MayFollow allowing st call reply in
+    let next = replies_more allowing (first_stage t) made replies call reply all (subst P placed may) in
+    let rows = rows_more allowing rows_tried (first_stage t) made replies call reply all in
     let one = ap (λ (st : Stage). rows_tried st call reply) placed in
-    let Q : Setting → Type 0 = λ k. IsStopped (first_stage k) calls before after in
+    let Q : Setting → Type 0 = λ k. IsStopped allowing (first_stage k) calls before after in
     subst Q same
     (record {
       made = made ++ call ∷ [];

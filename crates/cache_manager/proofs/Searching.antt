@@ -11,7 +11,7 @@ use Rattle.history_core.specs.Cache.{CacheOf}
 use Rattle.history_core.specs.Groups.{wanting}
 use Rattle.cache_flush.specs.Loads.{KeptOf}
 use Rattle.cache_manager.specs.Found.{AreServed, IsHit, IsPlaced, cells_of, source_found, wants}
-use Rattle.cache_manager.specs.Lent.{lent}
+use Rattle.cell_groups.specs.Lent.{lent}
 use Rattle.cache_manager.specs.Rollups.{AreKept, IsRollup}
 use Rattle.cache_manager.specs.declared.findings.Hit.{Hit}
 use Rattle.cache_manager.specs.declared.rollups.Rollup.{Rollup}

@@ -14,8 +14,8 @@ use Rattle.olap_meaning.specs.Worth.{answered_version, value, worth}
 use Rattle.olap_meaning.proofs.Loads.{live_parts, some_and}
 use Rattle.olap_meaning.proofs.Positions.{latest_bounds, latest_found}
 use Rattle.olap_meaning.proofs.Shutting.{regions_shut_off}
-use Rattle.segment_load.specs.Loads.{body_value}
-use Rattle.segment_load.proofs.LawFacts.{held_rows_are_worth_in_versions}
+use Rattle.fact_reader.specs.BodyRows.{body_value}
+use Rattle.fact_reader.proofs.LawFacts.{held_rows_are_worth_in_versions}
 use Rattle.cache_flush.specs.declared.kept.Kept.{Kept}
 use Rattle.cache_flush.specs.Loads as of_loads
 use Rattle.cache_flush.specs.Loads.{IsGreatest, KeptOf, kept_of}

@@ -12,7 +12,7 @@ use Rattle.olap_meaning.specs.Covering.{among, header_covers, names_column}
 use Rattle.olap_meaning.specs.History as history
 use Rattle.olap_meaning.specs.History.{Entry, Load, exact_source, flushed_after, is_some_and, live, load_at, load_covers, load_version}
 use Rattle.olap_meaning.specs.Legal.{IsSource, has_source}
-use Rattle.olap_meaning.specs.Rolled.{IsRolled, IsRolledSource, Offer, can_roll, columns_of, has_rolled_source, offered, value_count}
+use Rattle.olap_meaning.specs.Rolled.{IsRolled, IsRolledSource, Offer, can_roll, header_columns, has_rolled_source, offered, value_count}
 use Rattle.olap_meaning.specs.Worth.{measure_of}
 use Rattle.olap_meaning.proofs.Loads.{live_load, live_parts}
 use Rattle.olap_meaning.proofs.Members.{All-from_member, any_member, filter_map_member, filter_member, map_member, member_any, member_filter_map, member_map}
@@ -127,13 +127,13 @@ module _ (catalog : Catalog) (entries : List Entry) where
 
       -- what a live load with a column that the cell lacks offers is among what the candidates offer
       offer_among : (candidates : List ℕ) → ((j : ℕ) → among candidates j ≡ among (candidates_for loads cell) j) → (j : ℕ) (offer : Offer) (column : ℕ)
-          → live entries j cell ≡ true → offered entries j ≡ Some offer → Contains (columns_of offer.header) column → names_column cell column ≡ false → Contains (offers_at loads candidates) offer
+          → live entries j cell ≡ true → offered entries j ≡ Some offer → Contains (header_columns offer.header) column → names_column cell column ≡ false → Contains (offers_at loads candidates) offer
       offer_among candidates members j offer column lives offers own lacked =
           let found = at_number loads j (kept.every j (live_parts entries j cell lives).0) in
           let is : IsKept catalog entries found.0 = All-contains (IsKept catalog entries) loads found.0 kept.are found.2 in
           let told : Some (offer_of found.0) ≡ Some offer = sym (offer_told found.0 is) ∙ ap (offered entries) found.3 ∙ offers in
           let same : offer_of found.0 ≡ offer = cc in
-          let column_here : Contains (columns_of found.0.body.header) column = subst (λ (o : Offer). Contains (columns_of o.header) column) (sym same) own in
+          let column_here : Contains (header_columns found.0.body.header) column = subst (λ (o : Offer). Contains (header_columns o.header) column) (sym same) own in
           let at = member_map (λ (c : ℕ × Allowed). c.0) found.0.body.header.columns column column_here in
           let lacks : list_any (λ c. not (names_column cell c.0)) found.0.body.header.columns ≡ true =
           any_member (λ (c : ℕ × Allowed). not (names_column cell c.0)) found.0.body.header.columns at.0 at.1 (not_from_false _ (ap (names_column cell) at.2 ∙ lacked)) in
@@ -156,7 +156,7 @@ module _ (catalog : Catalog) (entries : List Entry) where
               let offers : List Offer = filter_map (offered entries) found.0 in
               let each : (offer : Offer) → Contains offers offer → Contains (offers_at loads candidates) offer = λ offer held.
               let from : (j : ℕ) × Contains found.0 j × (offered entries j ≡ Some offer) = member_filter_map (offered entries) found.0 offer held in
-              let columns : columns_of offer.header ≡ source.rolled.columns = All-contains (λ (o : Offer). columns_of o.header ≡ source.rolled.columns) offers offer source.rolled.one_list held in
+              let columns : header_columns offer.header ≡ source.rolled.columns = All-contains (λ (o : Offer). header_columns o.header ≡ source.rolled.columns) offers offer source.rolled.one_list held in
               offer_among candidates members from.0 offer source.rolled.more.0 (All-contains (λ j. live entries j cell ≡ true) found.0 from.0 source.lives from.1) from.2
               (subst (λ (cs : List ℕ). Contains cs source.rolled.more.0) (sym columns) source.rolled.more.1.own) source.rolled.more.1.lacked in
               both_ways _ (cannot source.measure source.is_measure)

@@ -1,5 +1,5 @@
 -- The Starts of a look, one after another.
-use Rattle.std.proofs.Common.{◌≡◌, refl, sym, ◌∙◌, ap, subst, ℕ, zero, suc, ◌+◌, ◌<◌, List, [], ◌∷◌, ◌++◌, append_assoc, length, map, map-id, take, get_or, false, Some, slice_get, option_map, arith}
+use Rattle.std.proofs.Common.{◌≡◌, refl, sym, ◌∙◌, ap, subst, ℕ, zero, suc, ◌+◌, ◌<◌, List, [], ◌∷◌, ◌++◌, append_assoc, length, map, filter, map-id, take, get_or, false, Some, slice_get, option_map, arith}
 use Rattle.std.proofs.lemmas.List.{append-nil, map_push, take-map}
 use Rattle.std.proofs.lemmas.Option.{slice_get-map, slice_get_read}
 use Rattle.olap_meaning.specs.declared.cells.Header.{Header}
@@ -12,7 +12,9 @@ use Rattle.olap_meaning.specs.declared.cells.Who.{Who}
 use Rattle.cache_manager.specs.declared.starts.Planned.{Planned}
 use Rattle.history_core.specs.Cache.{CacheOf}
 use Rattle.cache_flush.specs.Flights.{FlightOf, numbers_of}
-use Rattle.cache_manager.specs.Plans.{AreLegalSteps, AreNew, ArePlanned, IsPlanned, flight_for}
+use Rattle.cache_manager.specs.Plans.{AreLegalSteps, AreNew, ArePrepared, IsPrepared, flight_for}
+use Rattle.segment_header.specs.Widening.{Allowing}
+use Rattle.history_core.specs.Groups.{alike}
 use Rattle.cache_manager.proofs.Fronts.{front_more}
 
 -- the step at a place is legal after those before it
@@ -65,10 +67,10 @@ headers_more headers plans i p l is =
     ∙ sym (append_assoc headers (map (λ (q : Planned). q.flight.header) (take i plans)) (p.flight.header ∷ []))
 
 -- one group more is prepared
-pub planned_more :
-    (cache : CacheOf) (who : Who) (wanted : List Cell) (number : ℕ) (cells : List Cell) (plans : List Planned) (next : ℕ) (cell : Cell) (planned : Planned)
-    → ArePlanned cache who wanted number cells plans → next ≡ number + length cells → IsPlanned cache who wanted next cell planned → ArePlanned cache who wanted number (cells ++ cell ∷ []) (plans ++ planned ∷ [])
-planned_more cache who wanted number [] [] next cell planned are at is = (subst (λ (n : ℕ). IsPlanned cache who wanted n cell planned) (omega (arith, at)) is, tt)
-planned_more cache who wanted number [] (p ∷ ps) next cell planned are at is = absurd are
-planned_more cache who wanted number (c ∷ cs) [] next cell planned are at is = absurd are
-planned_more cache who wanted number (c ∷ cs) (p ∷ ps) next cell planned are at is = (are.0, planned_more cache who wanted (suc number) cs ps next cell planned are.1 (omega (arith, at)) is)
+pub prepared_more :
+    (allowing : Allowing) (cache : CacheOf) (who : Who) (wanted : List Cell) (number : ℕ) (cells : List Cell) (plans : List Planned) (next : ℕ) (cell : Cell) (planned : Planned)
+    → ArePrepared allowing cache who wanted number cells plans → next ≡ number + length cells → IsPrepared allowing cache who (filter (alike cell) wanted) next cell planned → ArePrepared allowing cache who wanted number (cells ++ cell ∷ []) (plans ++ planned ∷ [])
+prepared_more allowing cache who wanted number [] [] next cell planned are at is = (subst (λ (n : ℕ). IsPrepared allowing cache who (filter (alike cell) wanted) n cell planned) (omega (arith, at)) is, tt)
+prepared_more allowing cache who wanted number [] (p ∷ ps) next cell planned are at is = absurd are
+prepared_more allowing cache who wanted number (c ∷ cs) [] next cell planned are at is = absurd are
+prepared_more allowing cache who wanted number (c ∷ cs) (p ∷ ps) next cell planned are at is = (are.0, prepared_more allowing cache who wanted (suc number) cs ps next cell planned are.1 (omega (arith, at)) is)

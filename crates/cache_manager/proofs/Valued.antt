@@ -15,7 +15,7 @@ use Rattle.olap_meaning.specs.declared.tables.Setting.{Setting}
 use Rattle.olap_meaning.specs.Covering.{header_covers, names_column}
 use Rattle.olap_meaning.specs.History.{Entry, Append, Agg, Flush, Start, Done, Drop, Evict, Answer, Saw, Load, appended, load_at, rows_of}
 use Rattle.olap_meaning.specs.Legal.{Legal, LegalStep, is_column_of, is_row, has_own_columns, rows_added, rows_held}
-use Rattle.olap_meaning.specs.Rolled.{columns_of}
+use Rattle.olap_meaning.specs.Rolled.{header_columns}
 use Rattle.olap_meaning.proofs.Loads.{covered_cube, load_start, some_and}
 use Rattle.olap_meaning.proofs.Members.{all_member, member_any, member_map}
 use Rattle.olap_meaning.proofs.Positions.{take-push}
@@ -138,7 +138,7 @@ module _ (setting : Setting) (entries : List Entry) (legal : Legal setting entri
       omega (arith, flat, own, all)
 
   -- the columns of a load are those of its cube
-  pub column_own : (j : ℕ) (load : Load) (column : ℕ) → load_at entries j ≡ Some load → Contains (columns_of load.header) column
+  pub column_own : (j : ℕ) (load : Load) (column : ℕ) → load_at entries j ≡ Some load → Contains (header_columns load.header) column
       → (c : Cube) × (slice_get setting.catalog.cubes load.header.cube ≡ Some c) × (is_column_of setting.catalog c.dimensions column ≡ true)
   column_own zero load column at own = absurd (cc)
   column_own (suc b) load column at own =

@@ -1,92 +1,105 @@
 -- The Starts of the groups of cells that have no source are legal, one after another.
-use Rattle.std.proofs.Common.{◌≡◌, refl, sym, ◌∙◌, ap, ℕ, suc, ◌+◌, List, [], ◌∷◌, ◌++◌, length, map, filter, Bool, true, false, not, ◌&&◌, ◌||◌, Option, Some, None, is_some, slice_get, arith, Contains}
-use Rattle.std.specs.List.{list_all, list_any}
-use Rattle.std.proofs.lemmas.Bool.{and_parts, both_ways, false_from_ne_true, or_left, or_right}
+use Rattle.std.proofs.Common.{◌≡◌, refl, sym, ◌∙◌, ap, ℕ, suc, ◌+◌, List, [], ◌∷◌, ◌++◌, length, map, filter, Bool, true, false, not, ◌&&◌, ◌||◌, Some, None, slice_get, arith, Contains}
+use Rattle.std.specs.List.{AllZip, list_all, list_any, zip}
+use Rattle.std.proofs.lemmas.Bool.{and_parts, both_ways, false_from_ne_true, not-true, or_left, or_right}
 use Rattle.std.proofs.lemmas.List.Folds.{list_any-append}
 use Rattle.olap_meaning.specs.declared.cells.Cell.{Cell}
+use Rattle.olap_meaning.specs.declared.cells.Header.{Header}
 use Rattle.olap_meaning.specs.declared.cells.Who.{Who}
 use Rattle.olap_meaning.specs.declared.tables.Setting.{Setting}
 use Rattle.olap_meaning.specs.Covering.{just_covers}
-use Rattle.olap_meaning.specs.History.{Entry, Start, Load, awaited, awaited_load, ends, exact_source, version}
-use Rattle.olap_meaning.specs.Growth.{greater}
-use Rattle.olap_meaning.specs.Legal.{IsLegalStart, Legal, rise, is_cell}
+use Rattle.olap_meaning.specs.History.{Entry, Start, Load, awaited, awaited_load, ends, version}
+use Rattle.olap_meaning.specs.Legal.{HasNoSource, IsLegalStart, Legal, has_source, is_cell, rise}
 use Rattle.olap_meaning.proofs.Growing.{latest_agree, legal_grows, version_grows}
-use Rattle.olap_meaning.proofs.Sources.{awaited_load_grows, exact_source_grows}
-use Rattle.history_core.specs.Groups.{alike, firsts, load_for}
+use Rattle.olap_meaning.proofs.RolledSources.{sources_are_decided}
+use Rattle.olap_meaning.proofs.SourceLaws.{starts_give_no_source}
+use Rattle.olap_meaning.proofs.Sources.{awaited_load_grows}
+use Rattle.segment_header.specs.Widening.{Allowing}
+use Rattle.history_core.specs.Groups.{IsHeaderFor, alike, firsts, load_with}
 use Rattle.cache_manager.specs.Plans.{AreLegalSteps}
-use Rattle.cache_manager.proofs.Grouping.{covered_alike, group_columns, group_covered, group_place, known_rises}
+use Rattle.cache_manager.proofs.Grouping.{covered_alike, group_covered, group_place, known_rises}
 
 and_true : (b : Bool) → (b && true) ≡ b
 and_true true = refl
 and_true false = refl
 
+-- a cell has no source, and no load is awaited for it
+abbrev pub IsFree : Setting → List Entry → Cell → Type 0
+IsFree setting entries cell = HasNoSource setting.catalog entries cell × (awaited_load entries cell ≡ None)
+
 -- a Start leaves a cell that its header does not just cover without a source and without an awaited load
 still_free :
-    (setting : Setting) (entries : List Entry) (load : Load) (cell : Cell) → Legal setting entries → just_covers load.header cell ≡ false → exact_source entries cell ≡ None → awaited_load entries cell ≡ None
-    → (exact_source (entries ++ Start load ∷ []) cell ≡ None) × (awaited_load (entries ++ Start load ∷ []) cell ≡ None)
-still_free setting entries load cell legal other unserved unawaited = (
-  exact_source_grows setting entries (Start load) cell legal ∙ ap (greater None) unserved,
+    (setting : Setting) (entries : List Entry) (load : Load) (cell : Cell) → Legal setting entries → just_covers load.header cell ≡ false → IsFree setting entries cell
+    → IsFree setting (entries ++ Start load ∷ []) cell
+still_free setting entries load cell legal other free = (
+  starts_give_no_source setting entries load cell legal free.0,
   awaited_load_grows setting entries (Start load) cell legal ∙ rw other refl
-      ∙ latest_agree (length entries) (λ j. awaited entries j cell && not (ends j (Start load))) (λ j. awaited entries j cell) (λ j l. and_true (awaited entries j cell)) ∙ unawaited,
+      ∙ latest_agree (length entries) (λ j. awaited entries j cell && not (ends j (Start load))) (λ j. awaited entries j cell) (λ j l. and_true (awaited entries j cell)) ∙ free.1,
 )
 
-module _ (setting : Setting) (history : List Entry) (who : Who) (wanted : List Cell) where
-  abbrev load_of : Cell → Load
-  load_of cell = load_for (record { setting = setting; entries = history }) who wanted cell
+module _ (allowing : Allowing) (setting : Setting) (history : List Entry) (who : Who) (wanted : List Cell) where
+  -- the load of a group, by its first cell and its header
+  abbrev pub load_of : Cell → Header → Load
+  load_of first header = load_with (record { setting = setting; entries = history }) who first header
+
+  -- a header is one of the group of a first cell
+  abbrev pub IsOwnHeader : Cell → Header → Type 0
+  IsOwnHeader first header = IsHeaderFor allowing setting.catalog first (filter (alike first) wanted) header
 
   -- what each group still finds: a known cell without a source, and alike to none of the first cells so far, has no source and no awaited load
   abbrev Free : List Entry → List Cell → Type 0
-  Free entries before = (cell : Cell) → is_cell setting.catalog cell ≡ true → exact_source history cell ≡ None → list_any (alike cell) before ≡ false → (exact_source entries cell ≡ None) × (awaited_load entries cell ≡ None)
-
-  covers_self : (cell : Cell) → is_cell setting.catalog cell ≡ true → Contains wanted cell → just_covers (load_of cell).header cell ≡ true
-  covers_self cell known has =
-      let place = group_place cell wanted has in
-      group_covered setting.catalog cell (filter (alike cell) wanted) place.0 cell (record { cube = refl; measure = refl; columns = refl }) known place.1
+  Free entries before = (cell : Cell) → is_cell setting.catalog cell ≡ true → HasNoSource setting.catalog history cell → list_any (alike cell) before ≡ false → IsFree setting entries cell
 
   start_legal :
-      (entries : List Entry) (cell : Cell) → ((cube : ℕ) → version entries cube ≡ version history cube) → is_cell setting.catalog cell ≡ true → Contains wanted cell → (exact_source entries cell ≡ None) × (awaited_load entries cell ≡ None)
-      → IsLegalStart setting entries (load_of cell)
-  start_legal entries cell versions known has free = record {
-    known = known;
-    rising = ap rise (group_columns setting.catalog cell (filter (alike cell) wanted)) ∙ known_rises setting.catalog cell known;
-    covers = covers_self cell known has;
-    present = sym (versions cell.cube);
-    needed = free.0;
-    unawaited = free.1;
-  }
+      (entries : List Entry) (cell : Cell) (header : Header) → ((cube : ℕ) → version entries cube ≡ version history cube) → is_cell setting.catalog cell ≡ true → Contains wanted cell → IsOwnHeader cell header → IsFree setting entries cell
+      → IsLegalStart setting entries (load_of cell header)
+  start_legal entries cell header versions known has own free =
+      let place = group_place cell wanted has in
+      record {
+        known = known;
+        rising = ap rise own.columns ∙ known_rises setting.catalog cell known;
+        covers = group_covered allowing setting.catalog cell (filter (alike cell) wanted) header own place.0 cell (record { cube = refl; measure = refl; columns = refl }) known place.1;
+        present = sym (ap (version entries) own.cube ∙ versions cell.cube) ∙ refl;
+        needed = free.0;
+        unawaited = free.1;
+      }
 
-  free_on : (entries : List Entry) (before : List Cell) (first : Cell) → Legal setting entries → is_cell setting.catalog first ≡ true → Free entries before → Free (entries ++ Start (load_of first) ∷ []) (before ++ first ∷ [])
-  free_on entries before first legal known free cell here unserved apart =
+  free_on : (entries : List Entry) (before : List Cell) (first : Cell) (header : Header) → Legal setting entries → is_cell setting.catalog first ≡ true → IsOwnHeader first header → Free entries before → Free (entries ++ Start (load_of first header) ∷ []) (before ++ first ∷ [])
+  free_on entries before first header legal known own free cell here unserved apart =
       let either : (list_any (alike cell) before || (alike cell first || false)) ≡ false = sym (list_any-append (alike cell) before (first ∷ [])) ∙ apart in
       let old : list_any (alike cell) before ≡ false = false_from_ne_true _ (λ h. both_ways _ either (or_left _ _ h)) in
       let new : alike cell first ≡ false = false_from_ne_true _ (λ h. both_ways _ either (or_right _ _ (or_left _ _ h))) in
-      let other : just_covers (load_of first).header cell ≡ false = false_from_ne_true _ (λ h. both_ways _ new (covered_alike setting.catalog first (filter (alike first) wanted) cell (known_rises setting.catalog first known) (known_rises setting.catalog cell here) h)) in
-      let was = free cell here unserved old in
-      still_free setting entries (load_of first) cell legal other was.0 was.1
+      let other : just_covers header cell ≡ false = false_from_ne_true _ (λ h. both_ways _ new (covered_alike allowing setting.catalog first (filter (alike first) wanted) header own cell (known_rises setting.catalog first known) (known_rises setting.catalog cell here) h)) in
+      still_free setting entries (load_of first header) cell legal other (free cell here unserved old)
 
-  unserved_told : (cell : Cell) → not (is_some (exact_source history cell)) ≡ true → exact_source history cell ≡ None
-  unserved_told cell h = by (exact_source history cell) h
-    where
-      by : (o : Option ℕ) → not (is_some o) ≡ true → o ≡ None
-      by None e = refl
-      by (Some j) e = absurd (cc)
+  unserved_told : (cell : Cell) → not (has_source setting.catalog history cell) ≡ true → HasNoSource setting.catalog history cell
+  unserved_told cell h = (sources_are_decided.lacks setting.catalog history cell).0 (not-true (has_source setting.catalog history cell) h)
 
   pub steps_legal :
-      (entries : List Entry) (before cells : List Cell) → Legal setting entries → ((cube : ℕ) → version entries cube ≡ version history cube) → Free entries before
-      → list_all (is_cell setting.catalog) cells ≡ true → list_all (λ cell. not (is_some (exact_source history cell))) cells ≡ true → ((k : ℕ) (cell : Cell) → slice_get cells k ≡ Some cell → Contains wanted cell)
-      → AreLegalSteps setting entries (map Start (map load_of (firsts before cells)))
-  steps_legal entries before [] legal versions free known unserved has = tt
-  steps_legal entries before (cell ∷ cells) legal versions free known unserved has =
-      by (list_any (alike cell) before) refl
-      (steps_legal entries before cells legal versions free (and_parts _ _ known).1 (and_parts _ _ unserved).1 (λ k c at. has (suc k) c at))
-      (λ step.
-      steps_legal (entries ++ Start (load_of cell) ∷ []) (before ++ cell ∷ []) cells (legal_grows setting entries (Start (load_of cell)) legal step) (λ cube. version_grows entries (Start (load_of cell)) cube ∙ (let zero_more : version entries cube + 0 ≡ version entries cube = omega arith in zero_more) ∙ versions cube)
-      (free_on entries before cell legal (and_parts _ _ known).0 free) (and_parts _ _ known).1 (and_parts _ _ unserved).1 (λ k c at. has (suc k) c at))
+      (entries : List Entry) (before cells : List Cell) (headers : List Header) → Legal setting entries → ((cube : ℕ) → version entries cube ≡ version history cube) → Free entries before
+      → list_all (is_cell setting.catalog) cells ≡ true → list_all (λ cell. not (has_source setting.catalog history cell)) cells ≡ true → ((k : ℕ) (cell : Cell) → slice_get cells k ≡ Some cell → Contains wanted cell)
+      → AllZip IsOwnHeader (firsts before cells) headers
+      → AreLegalSteps setting entries (map Start (map (λ pair. load_of pair.0 pair.1) (zip (firsts before cells) headers)))
+  steps_legal entries before [] headers legal versions free known unserved has own = by headers own
     where
-      by : (b : Bool) → list_any (alike cell) before ≡ b → AreLegalSteps setting entries (map Start (map load_of (firsts before cells)))
-          → (IsLegalStart setting entries (load_of cell) → AreLegalSteps setting (entries ++ Start (load_of cell) ∷ []) (map Start (map load_of (firsts (before ++ cell ∷ []) cells))))
-          → AreLegalSteps setting entries (map Start (map load_of (firsts before (cell ∷ cells))))
-      by true e seen new = rw e seen
-      by false e seen new =
-          let step : IsLegalStart setting entries (load_of cell) = start_legal entries cell versions (and_parts _ _ known).0 (has 0 cell refl) (free cell (and_parts _ _ known).0 (unserved_told cell (and_parts _ _ unserved).0) e) in
-          rw e (step, new step)
+      by : (hs : List Header) → AllZip IsOwnHeader [] hs → AreLegalSteps setting entries (map Start (map (λ pair. load_of pair.0 pair.1) (zip [] hs)))
+      by [] own = tt
+      by (h ∷ hs) own = absurd own
+  steps_legal entries before (cell ∷ cells) headers legal versions free known unserved has own =
+      by (list_any (alike cell) before) refl headers own
+      (λ hs owns. steps_legal entries before cells hs legal versions free (and_parts _ _ known).1 (and_parts _ _ unserved).1 (λ k c at. has (suc k) c at) owns)
+      (λ h hs mine step owns.
+      steps_legal (entries ++ Start (load_of cell h) ∷ []) (before ++ cell ∷ []) cells hs (legal_grows setting entries (Start (load_of cell h)) legal step) (λ cube. version_grows entries (Start (load_of cell h)) cube ∙ (let zero_more : version entries cube + 0 ≡ version entries cube = omega arith in zero_more) ∙ versions cube)
+      (free_on entries before cell h legal (and_parts _ _ known).0 mine free) (and_parts _ _ known).1 (and_parts _ _ unserved).1 (λ k c at. has (suc k) c at) owns)
+    where
+      by : (b : Bool) → list_any (alike cell) before ≡ b → (hs : List Header) → AllZip IsOwnHeader (firsts before (cell ∷ cells)) hs
+          → ((rest : List Header) → AllZip IsOwnHeader (firsts before cells) rest → AreLegalSteps setting entries (map Start (map (λ pair. load_of pair.0 pair.1) (zip (firsts before cells) rest))))
+          → ((h : Header) (rest : List Header) → IsOwnHeader cell h → IsLegalStart setting entries (load_of cell h) → AllZip IsOwnHeader (firsts (before ++ cell ∷ []) cells) rest
+          → AreLegalSteps setting (entries ++ Start (load_of cell h) ∷ []) (map Start (map (λ pair. load_of pair.0 pair.1) (zip (firsts (before ++ cell ∷ []) cells) rest))))
+          → AreLegalSteps setting entries (map Start (map (λ pair. load_of pair.0 pair.1) (zip (firsts before (cell ∷ cells)) hs)))
+      by true e hs all seen new = rw e (seen hs (rw e at all))
+      by false e [] all seen new = absurd (rw e at all)
+      by false e (h ∷ hs) all seen new =
+          let owns : IsOwnHeader cell h × AllZip IsOwnHeader (firsts (before ++ cell ∷ []) cells) hs = rw e at all in
+          let step : IsLegalStart setting entries (load_of cell h) = start_legal entries cell h versions (and_parts _ _ known).0 (has 0 cell refl) owns.0 (free cell (and_parts _ _ known).0 (unserved_told cell (and_parts _ _ unserved).0) e) in
+          rw e (step, new h hs owns.0 step owns.1)

@@ -13,7 +13,7 @@ use Rattle.history_core.specs.Cache.{CacheOf}
 use Rattle.history_core.specs.Groups.{wanting}
 use Rattle.cache_flush.specs.Loads.{KeptOf, kept_of}
 use Rattle.cache_manager.specs.Kept.{IsKept}
-use Rattle.cache_manager.specs.Lent.{lent}
+use Rattle.cell_groups.specs.Lent.{lent}
 use Rattle.cache_manager.specs.Rollups.{cell_at}
 use Rattle.cache_manager.specs.declared.findings.Found.{Found}
 use Rattle.cache_manager.specs.declared.findings.Found.TheVariants.{Exact, Rolled, Nothing}

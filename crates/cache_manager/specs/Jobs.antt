@@ -5,7 +5,8 @@ use Rattle.olap_meaning.specs.declared.cells.Who.{Who}
 use Rattle.olap_meaning.specs.History.{Load, ends, load_at, rows_of}
 use Rattle.olap_meaning.specs.Worth.{cost}
 use Rattle.segment_body.specs.BodyOf.{BodyOf}
-use Rattle.segment_load.specs.Loads.{JobOf, body_of, rows_in}
+use Rattle.fact_reader.specs.BodyRows.{body_of, rows_in}
+use Rattle.segment_load.specs.Loads.{JobOf}
 use Rattle.history_core.specs.Cache.{CacheOf}
 use Rattle.history_core.specs.Seats.{entries_of}
 

@@ -10,7 +10,7 @@ use Rattle.olap_meaning.specs.History.{Entry, Load, appended, flying, load_at, r
 use Rattle.olap_meaning.specs.Legal as legal
 use Rattle.fact_versions.specs.Facts.{FactsOf, batches_of, rows_held}
 use Rattle.segment_header.specs.Headers.{is_header}
-use Rattle.segment_load.specs.Loads.{HoldsRows, are_batches}
+use Rattle.fact_reader.specs.BodyRows.{HoldsRows, are_batches}
 use Rattle.cache_flush.specs.Loads as kept
 use Rattle.cache_flush.specs.Loads.{KeptOf}
 use Rattle.cache_flush.specs.Flights as flight

@@ -4,6 +4,5 @@ pub mod Kept
 pub mod Plans
 pub mod Laws
 pub mod Runs
-pub mod Lent
 pub mod Rollups
 pub mod Found

@@ -7,9 +7,10 @@ use Rattle.olap_meaning.specs.Covering.{among}
 use Rattle.olap_meaning.specs.History.{Entry, Start, rows_of, version}
 use Rattle.olap_meaning.specs.Legal.{LegalStep}
 use Rattle.history_core.specs.Entries.{entry_of}
-use Rattle.segment_load.specs.Loads.{rows_in}
+use Rattle.fact_reader.specs.BodyRows.{rows_in}
 use Rattle.history_core.specs.Cache.{CacheOf}
-use Rattle.history_core.specs.Groups.{alike, header_for, load_for}
+use Rattle.history_core.specs.Groups.{IsHeaderFor, alike, load_with}
+use Rattle.segment_header.specs.Widening.{Allowing}
 use Rattle.cache_flush.specs.Flights.{FlightOf}
 use Rattle.cache_manager.specs.declared.starts.Flying.{Flying}
 use Rattle.cache_manager.specs.declared.starts.Planned.{Planned}
@@ -25,32 +26,33 @@ flight_for flying =
       shut = [];
     }
 
--- what is prepared for the load of a group, which is to have this number: its Start, its flight and its job
-pub record IsPlanned (cache : CacheOf) (who : Who) (wanted : List Cell) (number : ℕ) (first : Cell)
-    (planned : Planned) : Type 0 where
-  pub start : entry_of planned.start ≡ Start (load_for cache who wanted first)
+-- what is prepared for the load of a group, which is to have this number: its Start, its flight and its job. The group is
+-- told by its first cell and its cells
+pub record IsPrepared (allowing : Allowing) (cache : CacheOf) (who : Who) (cells : List Cell)
+    (number : ℕ) (first : Cell) (planned : Planned) : Type 0 where
+  pub allowed : IsHeaderFor allowing cache.setting.catalog first cells planned.job.header
+  pub start : entry_of planned.start ≡ Start (load_with cache who first planned.job.header)
   pub flight : planned.flight
       ≡ record {
         load = number;
         who = who;
-        header = header_for cache.setting.catalog first (filter (alike first) wanted);
+        header = planned.job.header;
         version = version cache.entries first.cube;
       }
   pub load : planned.job.load ≡ number
   pub who_is : planned.job.who ≡ who
-  pub header : planned.job.header
-      ≡ header_for cache.setting.catalog first (filter (alike first) wanted)
   pub catalog : planned.job.catalog ≡ cache.setting.catalog
   pub rows : rows_in planned.job.snapshot
       ≡ rows_of cache.entries first.cube (version cache.entries first.cube)
 
--- what is prepared for some groups, whose loads are numbered from one on
-abbrev pub ArePlanned : CacheOf → Who → List Cell → ℕ → List Cell → List Planned → Type 0
-ArePlanned cache who wanted number [] [] = ⊤
-ArePlanned cache who wanted number (first ∷ firsts) (planned ∷ plans) =
-    IsPlanned cache who wanted number first planned
-    × ArePlanned cache who wanted (suc number) firsts plans
-ArePlanned cache who wanted number _ _ = ⊥
+-- what is prepared for the groups of some first cells, whose loads are numbered from one on
+abbrev pub ArePrepared : Allowing → CacheOf → Who → List Cell → ℕ → List Cell → List Planned
+    → Type 0
+ArePrepared allowing cache who wanted number [] [] = ⊤
+ArePrepared allowing cache who wanted number (first ∷ firsts) (planned ∷ plans) =
+    IsPrepared allowing cache who (filter (alike first) wanted) number first planned
+    × ArePrepared allowing cache who wanted (suc number) firsts plans
+ArePrepared allowing cache who wanted number _ _ = ⊥
 
 -- each of some entries is a legal step after those before it
 abbrev pub AreLegalSteps : Setting → List Entry → List Entry → Type 0

@@ -44,16 +44,16 @@ pub record IsPlanFor (catalog : Catalog) (loads : List KeptOf) (plan : Plan) (ce
   pub rolls : IsRolledBy measure.aggregator (value_count catalog) cell loads plan
 
 -- cells may be rolled up together: they have one cube, one measure and the same columns
-abbrev pub are_alike : List Cell → Bool
-are_alike [] = true
-are_alike (cell ∷ cells) = list_all (alike cell) cells
+abbrev pub all_alike : List Cell → Bool
+all_alike [] = true
+all_alike (cell ∷ cells) = list_all (alike cell) cells
 
 -- a rollup is one of some cells without an exact source, by one plan that is one for each of them
 pub record IsRollup (catalog : Catalog) (entries : List Entry) (loads : List KeptOf)
     (rollup : Rollup) : Type 0 where
   pub some : 0 < length rollup.cells.items
   pub named : rollup.loads.items ≡ planned rollup.plan
-  pub same : IsTrue (are_alike rollup.cells.items)
+  pub same : IsTrue (all_alike rollup.cells.items)
   pub known : IsTrue (list_all (is_cell catalog) rollup.cells.items)
   pub unserved : All (λ cell. exact_source entries cell ≡ None) rollup.cells.items
   pub planned_for : All (IsPlanFor catalog loads rollup.plan) rollup.cells.items

@@ -12,7 +12,8 @@ use Rattle.olap_meaning.specs.Legal.{caller, is_cell, is_flushable}
 use Rattle.olap_meaning.specs.Worth.{cost}
 use Rattle.fact_versions.specs.Facts.{append_fault}
 use Rattle.fact_versions.specs.declared.faults.AppendFault.TheVariants as fault
-use Rattle.segment_load.specs.Loads.{JobOf, is_batch}
+use Rattle.fact_reader.specs.BodyRows.{is_batch}
+use Rattle.segment_load.specs.Loads.{JobOf}
 use Rattle.cache_manager.specs.declared.calls.Call.{Call}
 use Rattle.cache_manager.specs.declared.calls.Call.TheVariants.{Append, Look, Deliver, Abandon, Flush, Show}
 use Rattle.cache_manager.specs.declared.calls.Reply.{Reply}
@@ -20,7 +21,8 @@ use Rattle.cache_manager.specs.declared.calls.Reply.TheVariants.{Appended, Refus
 use Rattle.history_core.specs.Answers.{HasSource, IsAnswer, SomeWants}
 use Rattle.history_core.specs.Cache.{CacheOf}
 use Rattle.history_core.specs.Arrivals.{arrival_in}
-use Rattle.history_core.specs.Groups.{loads_for}
+use Rattle.history_core.specs.Groups.{AreHeadersFor, load_count, loads_with, wanted_of}
+use Rattle.segment_header.specs.Widening.{Allowing}
 use Rattle.cache_manager.specs.Jobs.{IsJobOf}
 use Rattle.history_core.specs.Seats.{NoneFlies}
 use Rattle.history_core.specs.Groups.{numbers_from}
@@ -66,8 +68,8 @@ added stage (Append seat cube batch) (Appended appended) =
     (version stage.cache.entries cube + 1) batch.rows ∷ []
 added stage (Look seat cells) (Ready answer) =
     history.Answer (who_calls stage seat) answer.sources.value ∷ []
-added stage (Look seat cells) Loading =
-    map history.Start (loads_for stage.cache (who_calls stage seat) cells)
+added stage (Look seat cells) (Loading headers) =
+    map history.Start (loads_with stage.cache (who_calls stage seat) cells headers.items)
 added stage (Deliver job) Ended = ending history.Done stage job
 added stage (Abandon job) Ended = ending history.Drop stage job
 added stage (Flush seat region) (Flushed position) =
@@ -77,9 +79,8 @@ added stage call reply = []
 
 -- the loads whose jobs are out after a call that has this reply
 abbrev pub out_after : Stage → Call → Reply → List ℕ
-out_after stage (Look seat cells) Loading =
-    numbers_from (length stage.cache.entries + 1)
-    (length (loads_for stage.cache (who_calls stage seat) cells))
+out_after stage (Look seat cells) (Loading headers) =
+    numbers_from (length stage.cache.entries + 1) (load_count stage.cache cells)
 out_after stage (Deliver job) Ended = remove stage.out job
 out_after stage (Abandon job) Ended = remove stage.out job
 out_after stage call reply = stage.out
@@ -108,7 +109,7 @@ MayReply stage (Append seat cube batch) (Refused refusal) =
 MayReply stage (Look seat cells) (Ready answer) =
     NoneFlies stage.cache.entries × All (HasSource stage.cache) cells
     × IsAnswer stage.cache cells answer
-MayReply stage (Look seat cells) Loading =
+MayReply stage (Look seat cells) (Loading headers) =
     NoneFlies stage.cache.entries × SomeWants stage.cache cells
 MayReply stage (Look seat cells) Busy = NoneFlies stage.cache.entries → ⊥
 MayReply stage (Look seat cells) OutOfMemory = NoneFlies stage.cache.entries
@@ -125,12 +126,19 @@ MayReply stage (Show seat) (Shown view) =
 MayReply stage (Show seat) OutOfMemory = ⊤
 MayReply stage call reply = ⊥
 
+-- the loads that a call starts which has this reply have headers as may be allowed
+abbrev pub MayStart : Allowing → Stage → Call → Reply → Type 0
+MayStart allowing stage (Look seat cells) (Loading headers) =
+    AreHeadersFor allowing stage.cache.setting.catalog (wanted_of stage.cache cells) headers.items
+MayStart allowing stage call reply = ⊤
+
 -- calls may have these replies, one after another
-abbrev pub MayReplyAll : Stage → List Call → List Reply → Type 0
-MayReplyAll stage [] [] = ⊤
-MayReplyAll stage (call ∷ calls) (reply ∷ replies) =
-    MayReply stage call reply × MayReplyAll (next_stage stage call reply) calls replies
-MayReplyAll stage calls replies = ⊥
+abbrev pub MayReplyAll : Allowing → Stage → List Call → List Reply → Type 0
+MayReplyAll allowing stage [] [] = ⊤
+MayReplyAll allowing stage (call ∷ calls) (reply ∷ replies) =
+    (MayReply stage call reply × MayStart allowing stage call reply)
+    × MayReplyAll allowing (next_stage stage call reply) calls replies
+MayReplyAll allowing stage calls replies = ⊥
 
 -- a run after calls that had these replies
 abbrev pub stage_after : Stage → List Call → List Reply → Stage
@@ -163,12 +171,13 @@ rows_over rows stage calls replies = 0
 
 -- some first ones of some calls were made, each with a reply that it may have, and no more rows than these allow were
 -- looked at
-pub record IsStopped (stage : Stage) (calls : List Call) (before after : ℕ) : Type 0 where
+pub record IsStopped (allowing : Allowing) (stage : Stage) (calls : List Call)
+    (before after : ℕ) : Type 0 where
   pub made : List Call
   pub left : List Call
   pub replies : List Reply
   pub front : calls ≡ made ++ left
-  pub may : MayReplyAll stage made replies
+  pub may : MayReplyAll allowing stage made replies
   pub at_most : after ≤ before + rows_over rows_tried stage made replies
 
 -- numbers that are all different

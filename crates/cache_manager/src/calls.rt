@@ -1,11 +1,12 @@
 //! Whole runs of calls on one manager.
-ghost use Rattle.std.specs.Prelude.{◌≡◌, ◌≤◌, ◌<◌, ◌+◌, ℕ, All, IfOk, IsTrue, OnErr, length};
+ghost use Rattle.std.specs.Prelude.{◌≡◌, ◌≤◌, ◌<◌, ◌+◌, ℕ, All, IfOk, IsTrue, OnErr, length, map};
 ghost use Rattle.std.specs.List.{list_all};
 ghost use Rattle.olap_meaning.specs.Legal.{Legal, is_cell, is_flushable};
 ghost use Rattle.history_core.specs.History.{setting_of};
-ghost use Rattle.segment_load.specs.Loads.{is_batch};
+ghost use Rattle.fact_reader.specs.BodyRows.{is_batch};
+ghost use Rattle.segment_header.specs.Widening.{Widened};
 ghost use Rattle.cache_manager.specs.Jobs.{IsJobOf};
-ghost use Rattle.cache_manager.specs.Runs.{IsRun, IsStopped, MayCall, MayReply, MayReplyAll, first_stage, next_stage, rows_delivered, rows_over, rows_tried, stage_after, stage_of};
+ghost use Rattle.cache_manager.specs.Runs.{IsRun, IsStopped, MayCall, MayReply, MayReplyAll, MayStart, first_stage, next_stage, rows_delivered, rows_over, rows_tried, stage_after, stage_of};
 
 use crate::look::next;
 use crate::manager::Manager;
@@ -13,11 +14,13 @@ use crate::outcome::Look;
 use fact_versions::{AppendFault, Batch, Steps};
 use history_core::{Answer, Appended, CacheView};
 use olap_catalog::Catalog;
-use olap_meaning::{Cell, CubeId, List, OutOfMemory, ROW_LIMIT, Region, Who};
+use olap_meaning::{Cell, CubeId, Header, List, OutOfMemory, ROW_LIMIT, Region, Who};
+use segment_header::{AllowsValues, Widener};
 use segment_load::{LoadJob, run_load};
 use std::alloc::Global;
 use std::sync::Arc;
 use std::sync::ledger::Ledger;
+use traces::Trace;
 
 /// A call on a manager, by any seat.
 #[derive(Drop)]
@@ -54,8 +57,8 @@ pub enum Reply {
     Appended(Appended),
     Refused(AppendFault),
     Ready(Answer),
-    /// The jobs of a look are out.
-    Loading,
+    /// The jobs of a look are out: those of loads with these headers, which contracts see.
+    Loading(Trace<Header>),
     /// A look was not made, since a job is out.
     Busy,
     /// The job was delivered or given up.
@@ -100,12 +103,31 @@ fn run_append(
     }
 }
 
-fn run_look(manager: &mut Manager, jobs: &mut Vec<LoadJob>, who: Who, cells: List<Cell>) -> Reply
+/// The headers of the loads of some jobs, for contracts.
+fn headers_of(jobs: &[LoadJob]) -> Trace<Header>
+    ensures { result.items ≡ map (λ job. job.header) jobs.now }
+{
+    let mut headers = Trace::new();
+    for job in jobs {
+        headers = headers.and(job.header());
+    }
+    headers
+}
+
+fn run_look(
+    manager: &mut Manager,
+    jobs: &mut Vec<LoadJob>,
+    who: Who,
+    cells: List<Cell>,
+    widener: &Widener,
+) -> Reply
     requires run { IsRun manager.old jobs.old.items who.call }
     requires known { IsTrue (list_all (is_cell manager.old.setting.catalog) cells) }
     ensures run { IsRun manager.new jobs.new.items (who.call + 1) }
     ensures reply { MayReply (stage_of manager.old jobs.old.items who.call)
         (Call.Look who.seat cells) result }
+    ensures headers { MayStart (Widened (⟦<Widener as AllowsValues>⟧.answers widener.now))
+        (stage_of manager.old jobs.old.items who.call) (Call.Look who.seat cells) result }
     ensures next { stage_of manager.new jobs.new.items (who.call + 1)
         ≡ next_stage (stage_of manager.old jobs.old.items who.call)
         (Call.Look who.seat cells) result }
@@ -114,11 +136,12 @@ fn run_look(manager: &mut Manager, jobs: &mut Vec<LoadJob>, who: Who, cells: Lis
     if !manager.is_idle() {
         return Reply::Busy;
     }
-    match manager.look(who, cells.as_slice()) {
+    match manager.look(who, cells.as_slice(), widener) {
         Ok(Look::Ready(answer)) => Reply::Ready(answer),
         Ok(Look::Load(started)) => {
+            let headers = headers_of(started.as_slice());
             *jobs = started.into_vec();
-            Reply::Loading
+            Reply::Loading(headers)
         }
         Err(OutOfMemory) => Reply::OutOfMemory,
     }
@@ -218,12 +241,15 @@ fn run_call<L: Ledger>(
     jobs: &mut Vec<LoadJob>,
     number: u64,
     call: Call,
+    widener: &Widener,
     steps: &mut Steps<L>,
 ) -> Reply
     requires run { IsRun manager.old jobs.old.items number }
     requires may { MayCall manager.old.setting.catalog call }
     ensures run { IsRun manager.new jobs.new.items (number + 1) }
     ensures reply { MayReply (stage_of manager.old jobs.old.items number) call result }
+    ensures headers { MayStart (Widened (⟦<Widener as AllowsValues>⟧.answers widener.now))
+        (stage_of manager.old jobs.old.items number) call result }
     ensures next { stage_of manager.new jobs.new.items (number + 1)
         ≡ next_stage (stage_of manager.old jobs.old.items number) call result }
     ensures at_least { steps.old
@@ -238,7 +264,7 @@ fn run_call<L: Ledger>(
         }
         Call::Look { seat, cells } => {
             let who = Who { seat, call: number };
-            run_look(manager, jobs, who, cells)
+            run_look(manager, jobs, who, cells, widener)
         }
         Call::Deliver { job } => run_delivery(alloc, manager, jobs, job, steps),
         Call::Abandon { job } => run_abandonment(manager, jobs, job),
@@ -254,7 +280,7 @@ fn run_call<L: Ledger>(
 }
 
 /// Runs calls, one after another, on a manager of its own. Each gets the next call number, whatever its seat. A job may
-/// be delivered as late as wished, or never.
+/// be delivered as late as wished, or never. The loads of looks have the headers that the widener allows.
 ///
 /// The history after them is legal. It has just the entries that the calls and their replies give, one after another,
 /// and each reply has its cause where its call was made.
@@ -268,6 +294,7 @@ pub fn run_calls<L: Ledger>(
     row_limit: u32,
     budget: u64,
     calls: List<Call>,
+    widener: &Widener,
     steps: &mut Steps<L>,
 ) -> Result<Run, OutOfMemory>
     requires limit { row_limit ≤ ROW_LIMIT }
@@ -276,7 +303,7 @@ pub fn run_calls<L: Ledger>(
         (λ run. run.manager.setting ≡ setting_of catalog.value row_limit budget) }
     ensures legal { IfOk result (λ run. Legal run.manager.setting run.manager.entries) }
     ensures replies { IfOk result
-        (λ run. MayReplyAll
+        (λ run. MayReplyAll (Widened (⟦<Widener as AllowsValues>⟧.answers widener.now))
         (first_stage (setting_of catalog.value row_limit budget)) calls run.replies) }
     ensures entries { IfOk result
         (λ run. run.manager
@@ -291,7 +318,8 @@ pub fn run_calls<L: Ledger>(
         (first_stage (setting_of catalog.value row_limit budget)) calls run.replies) }
     ensures rise { steps.old ≤ steps.new }
     ensures stopped { OnErr result
-        (IsStopped (first_stage (setting_of catalog.value row_limit budget)) calls
+        (IsStopped (Widened (⟦<Widener as AllowsValues>⟧.answers widener.now))
+        (first_stage (setting_of catalog.value row_limit budget)) calls
         steps.old steps.new) }
 {
     let mut manager = Manager::new(alloc, catalog, row_limit, budget)?;
@@ -299,7 +327,7 @@ pub fn run_calls<L: Ledger>(
     let mut replies = List::new(alloc);
     let mut number = 1;
     for call in calls.into_vec() {
-        replies.push(run_call(alloc, &mut manager, &mut jobs, number, call, steps))?;
+        replies.push(run_call(alloc, &mut manager, &mut jobs, number, call, widener, steps))?;
         number = next(number)?;
     }
     manager.steps_are_legal();

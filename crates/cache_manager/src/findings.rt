@@ -4,7 +4,7 @@ ghost use Rattle.std.specs.List.{list_all};
 ghost use Rattle.olap_meaning.specs.History.{exact_source};
 ghost use Rattle.olap_meaning.specs.Legal.{is_cell};
 ghost use Rattle.cache_manager.specs.Found.{AreFindings, IsFound, IsHit, cells_of, wants};
-ghost use Rattle.cache_manager.specs.Lent.{lent};
+ghost use Rattle.cell_groups.specs.Lent.{lent};
 ghost use Rattle.cache_manager.specs.Rollups.{AreKept, GoOn, IsRollup};
 
 use crate::answers::{all_answered, all_sources};

@@ -5,11 +5,11 @@
 //! does; other forms of these may take their place under the same contracts.
 #![tactic(auto)]
 
+mod alike;
 mod answers;
 mod calls;
 mod findings;
 mod flush;
-mod groups;
 pub mod laws;
 mod look;
 mod manager;

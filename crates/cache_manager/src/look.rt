@@ -1,26 +1,26 @@
 //! Looking at cells: they are answered from the kept loads, or the loads that are missing are started.
-ghost use Rattle.std.specs.Prelude.{◌≡◌, ◌∷◌, ◌++◌, [], ◌+◌, All, Contains, IfOk, IsTrue, OnErr, OnOk, is_some, length, map, not};
+ghost use Rattle.std.specs.Prelude.{◌≡◌, ◌∷◌, ◌++◌, [], ◌+◌, All, Contains, IfOk, IsTrue, OnErr, OnOk, length, map, not};
 ghost use Rattle.std.specs.List.{AllByRecursion as Each, list_all};
 ghost use Rattle.olap_meaning.specs.History as history;
-ghost use Rattle.olap_meaning.specs.History.{exact_source};
-ghost use Rattle.olap_meaning.specs.Legal.{IsAnswered, is_cell, is_next_call};
+ghost use Rattle.olap_meaning.specs.Legal.{IsAnswered, has_source, is_cell, is_next_call};
 ghost use Rattle.history_core.specs.Answers.{HasSource, IsAnswer, SomeWants};
 ghost use Rattle.cache_manager.specs.Looks.{IfLoad, IfReady};
 ghost use Rattle.history_core.specs.Groups as groups;
-ghost use Rattle.cache_manager.specs.Lent.{lent};
+ghost use Rattle.cell_groups.specs.Lent.{lent};
+ghost use Rattle.segment_header.specs.Widening.{Widened};
 ghost use Rattle.cache_manager.specs.Jobs.{IsJobOf};
 ghost use Rattle.history_core.specs.Seats.{NoneFlies};
-ghost use Rattle.history_core.specs.Groups.{numbers_from};
-ghost use Rattle.cache_manager.specs.Plans.{ArePlanned, IsPlanned};
+ghost use Rattle.history_core.specs.Groups.{AreHeadersFor, load_count, numbers_from, wanted_of};
+ghost use Rattle.cache_manager.specs.Plans.{ArePrepared, IsPrepared};
 
 use crate::findings::Findings;
-use crate::groups::{first_cells, header_for};
 use crate::manager::Manager;
 use crate::outcome::Look;
 use crate::starts::{Flying, Planned, reserve_places, start_all};
+use cell_groups::{Group, group_cells, header_for};
 use history_core::{Answer, CellSources, Entry};
 use olap_meaning::{Cell, List, OutOfMemory, Who};
-use segment_header::{copy_cell, copy_header};
+use segment_header::{AllowsValues, Widener, copy_cell, copy_header};
 use segment_load::LoadJob;
 use std::sync::Arc;
 
@@ -43,8 +43,9 @@ impl Manager {
     /// columns.
     ///
     /// The cells that have no source are grouped by measure and columns, in the order of their first cells; each group
-    /// gives one load, which allows just the values that its cells have.
-    pub fn look(&mut self, who: Who, cells: &[Cell]) -> Result<Look, OutOfMemory>
+    /// gives one load, which allows in each column what the widener answers for the values that the group's cells have
+    /// there.
+    pub fn look(&mut self, who: Who, cells: &[Cell], widener: &Widener) -> Result<Look, OutOfMemory>
         requires call { IsTrue (is_next_call self.old.entries who) }
         requires known { IsTrue (list_all (is_cell self.old.setting.catalog) cells.now) }
         requires idle { NoneFlies self.old.entries }
@@ -55,20 +56,28 @@ impl Manager {
             (λ answer. self.new.entries ≡ self.old.entries
             ++ history.Answer who answer.sources.value ∷ []) }
         ensures load { IfLoad result (λ jobs. SomeWants self.old cells.now) }
+        ensures headers { IfLoad result
+            (λ jobs. AreHeadersFor (Widened (⟦<Widener as AllowsValues>⟧.answers widener.now))
+            self.old.setting.catalog (wanted_of self.old cells.now)
+            (map (λ job. job.header) jobs)) }
         ensures load_entries { IfLoad result
             (λ jobs. self.new.entries ≡ self.old.entries
-            ++ map history.Start (groups.loads_for self.old who cells.now)) }
+            ++ map history.Start
+            (groups.loads_with self.old who cells.now (map (λ job. job.header) jobs))) }
         ensures numbers { IfLoad result
             (λ jobs. map (λ job. job.load) jobs
-            ≡ numbers_from (length self.old.entries + 1)
-            (length (groups.loads_for self.old who cells.now))) }
+            ≡ numbers_from (length self.old.entries + 1) (load_count self.old cells.now)) }
         ensures jobs { IfLoad result (λ jobs. All (IsJobOf self.new) jobs) }
         ensures unchanged { OnErr result (self.new ≡ self.old) }
     {
         self.steps_are_legal();
         let findings = self.find(cells)?;
         match findings {
-            Findings::Wanting(wanted) => Ok(Look::Load(self.start(who, wanted.as_slice())?)),
+            Findings::Wanting(wanted) => Ok(Look::Load(self.start(
+                who,
+                wanted.as_slice(),
+                widener,
+            )?)),
             Findings::Served(answered, sources) => {
                 let sources = Arc::new(self.alloc, sources)?;
                 let position = self.answer(who, Arc::try_clone(&sources)?)?;
@@ -100,25 +109,27 @@ impl Manager {
         Ok(self.history.len())
     }
 
-    /// Prepares the load of a group of cells, which is to have this number. The group is told by its first cell.
+    /// Prepares the load of a group of cells, which is to have this number.
     fn plan(
         &self,
         who: Who,
         load: u64,
-        first: &Cell,
-        wanted: &[&Cell],
+        group: &Group<'_>,
+        widener: &Widener,
     ) -> Result<Planned, OutOfMemory>
-        requires known { IsTrue (is_cell self.now.setting.catalog first.now) }
-        requires all_known { IsTrue
-            (list_all (is_cell self.now.setting.catalog) (lent wanted.now)) }
-        requires among { Contains (lent wanted.now) first.now }
+        requires known { IsTrue
+            (list_all (is_cell self.now.setting.catalog) (lent group.now.cells.items)) }
+        requires alike { IsTrue
+            (list_all (groups.alike group.now.first.now) (lent group.now.cells.items)) }
+        requires among { Contains (lent group.now.cells.items) group.now.first.now }
         ensures { IfOk result
-            (λ planned. IsPlanned self.now who (lent wanted.now) load first.now planned) }
+            (λ planned. IsPrepared (Widened (⟦<Widener as AllowsValues>⟧.answers widener.now))
+            self.now who (lent group.now.cells.items) load group.now.first.now planned) }
     {
-        let header = header_for(self.alloc, first, wanted)?;
+        let header = header_for(self.alloc, self.catalog(), group, widener)?;
         let copy = copy_header(self.alloc, &header)?;
         let other = copy_header(self.alloc, &header)?;
-        let snapshot = self.snapshot(first.cube)?;
+        let snapshot = self.snapshot(group.first.cube)?;
         let version = snapshot.version();
         let catalog = Arc::try_clone(self.catalog())?;
         Ok(Planned {
@@ -126,7 +137,7 @@ impl Manager {
                 who,
                 header: copy,
                 version,
-                reason: copy_cell(self.alloc, first)?,
+                reason: copy_cell(self.alloc, group.first)?,
             },
             flight: Flying {
                 load,
@@ -139,46 +150,58 @@ impl Manager {
     }
 
     /// Prepares the loads of the groups of some cells.
-    fn plans(&self, who: Who, wanted: &[&Cell]) -> Result<Vec<Planned>, OutOfMemory>
+    fn plans(
+        &self,
+        who: Who,
+        wanted: &[&Cell],
+        widener: &Widener,
+    ) -> Result<Vec<Planned>, OutOfMemory>
         requires known { IsTrue
             (list_all (is_cell self.now.setting.catalog) (lent wanted.now)) }
         ensures { IfOk result
-            (λ plans. ArePlanned self.now who (lent wanted.now) (length self.now.entries + 1)
+            (λ plans. ArePrepared (Widened (⟦<Widener as AllowsValues>⟧.answers widener.now))
+            self.now who (lent wanted.now) (length self.now.entries + 1)
             (groups.firsts [] (lent wanted.now)) plans.items) }
     {
-        let firsts = first_cells(self.alloc, wanted)?;
-        let mut plans = Vec::with_capacity(self.alloc, firsts.len())?;
+        let groups = group_cells(self.alloc, self.catalog(), wanted)?;
+        let mut plans = Vec::with_capacity(self.alloc, groups.len())?;
         let mut load = next(self.history.len())?;
-        for first in firsts.as_slice() {
-            plans.push(self.plan(who, load, first, wanted)?)?;
+        for group in groups.as_slice() {
+            plans.push(self.plan(who, load, group, widener)?)?;
             load = next(load)?;
         }
         Ok(plans)
     }
 
     /// Starts the loads of the groups of some cells that have no source.
-    fn start(&mut self, who: Who, wanted: &[&Cell]) -> Result<List<LoadJob>, OutOfMemory>
+    fn start(
+        &mut self,
+        who: Who,
+        wanted: &[&Cell],
+        widener: &Widener,
+    ) -> Result<List<LoadJob>, OutOfMemory>
         requires known { IsTrue
             (list_all (is_cell self.old.setting.catalog) (lent wanted.now)) }
         requires unserved { IsTrue
-            (list_all (λ cell. not (is_some (exact_source self.old.entries cell)))
+            (list_all (λ cell. not (has_source self.old.setting.catalog self.old.entries cell))
             (lent wanted.now)) }
         requires idle { NoneFlies self.old.entries }
         ensures setting { self.new.setting ≡ self.old.setting }
-        ensures entries { OnOk result
-            (self.new.entries ≡ self.old.entries
-            ++ map history.Start
-            (map (groups.load_for self.old who (lent wanted.now))
-            (groups.firsts [] (lent wanted.now)))) }
+        ensures headers { IfOk result
+            (λ jobs. AreHeadersFor (Widened (⟦<Widener as AllowsValues>⟧.answers widener.now))
+            self.old.setting.catalog (lent wanted.now) (map (λ job. job.header) jobs)) }
+        ensures entries { IfOk result
+            (λ jobs. self.new.entries ≡ self.old.entries
+            ++ map history.Start (groups.loads_over self.old who
+            (groups.firsts [] (lent wanted.now)) (map (λ job. job.header) jobs))) }
         ensures numbers { IfOk result
             (λ jobs. map (λ job. job.load) jobs
             ≡ numbers_from (length self.old.entries + 1)
-            (length (map (groups.load_for self.old who (lent wanted.now))
-            (groups.firsts [] (lent wanted.now))))) }
+            (length (groups.firsts [] (lent wanted.now)))) }
         ensures jobs { IfOk result (λ jobs. All (IsJobOf self.new) jobs) }
         ensures unchanged { OnErr result (self.new ≡ self.old) }
     {
-        let plans = self.plans(who, wanted)?;
+        let plans = self.plans(who, wanted, widener)?;
         let mut jobs = Vec::with_capacity(self.alloc, plans.len())?;
         self.history.steps_are_legal();
         let ends = sum(self.flights.len(), plans.len())?;

@@ -4,7 +4,7 @@ ghost use Rattle.olap_meaning.specs.History.{Append, Done, Drop, Flush, flying, 
 ghost use Rattle.olap_meaning.specs.Legal.{Legal, is_flushable, is_next_call};
 ghost use Rattle.fact_versions.specs.Facts.{append_fault};
 ghost use Rattle.history_core.specs.History.{setting_of};
-ghost use Rattle.segment_load.specs.Loads.{are_batches, is_batch, rows_in};
+ghost use Rattle.fact_reader.specs.BodyRows.{are_batches, is_batch, rows_in};
 ghost use Rattle.history_core.specs.Arrivals.{arrival_in};
 ghost use Rattle.cache_manager.specs.Jobs.{IsOwnBody, IsOwnLoad};
 ghost use Rattle.history_core.specs.Seats.{NoneFlies};

@@ -6,7 +6,7 @@ ghost use Rattle.rollup_plan.specs.Plans.{kept_at};
 ghost use Rattle.cache_manager.specs.Rollups.{AreKept, AreRolledUp, HasJoined, IsBegun, IsRollup, IsToldBy, IsWorth, MayJoin, planned};
 ghost use Rattle.cache_manager.specs.declared.rollups.Rollup.{Rollup as RollupOf};
 
-use crate::groups::are_alike;
+use crate::alike::are_alike;
 use cache_flush::Shelf;
 use history_core::{Answered, History};
 use measure_folds::Tally;

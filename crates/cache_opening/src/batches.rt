@@ -1,7 +1,7 @@
 //! The base batch of a cube.
 ghost use Rattle.std.specs.Prelude.{◌≡◌, ◌<◌, [], Err, IfErr, IfOk, IsSomeAnd, IsTrue, Ok, length, slice_get};
 ghost use Rattle.fact_rows.specs.BatchFiles.{batch_of};
-ghost use Rattle.segment_load.specs.Loads.{is_batch};
+ghost use Rattle.fact_reader.specs.BodyRows.{is_batch};
 ghost use Rattle.cache_opening.specs.Asking.{Comes, Leads, read_by};
 ghost use Rattle.cache_opening.specs.Opening.{facts_from};
 ghost use Rattle.cache_opening.specs.Steps.{HasCubes, IsOrMemory};

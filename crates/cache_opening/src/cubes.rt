@@ -2,7 +2,7 @@
 ghost use Rattle.std.specs.Prelude.{◌≡◌, ◌+◌, ◌++◌, ◌∷◌, [], Err, IfErr, IsSomeAnd, IsTrue, OnOk, slice_get};
 ghost use Rattle.olap_meaning.specs.History.{Append};
 ghost use Rattle.olap_meaning.specs.Legal.{rows_held};
-ghost use Rattle.segment_load.specs.Loads.{is_batch};
+ghost use Rattle.fact_reader.specs.BodyRows.{is_batch};
 ghost use Rattle.cache_opening.specs.Asking.{Comes, Leads, made};
 ghost use Rattle.cache_opening.specs.Steps.{AreOpened, IsAppended, IsBegun, IsNext, IsOrMemory};
 ghost use Rattle.cache_opening.specs.Opening.{batch_from, batches_from, fitting};

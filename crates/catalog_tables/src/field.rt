@@ -1,5 +1,5 @@
 //! One field of a table, record by record: each text once, by first appearance, and its number for each record.
-ghost use Rattle.std.specs.Prelude.{◌≡◌, ◌<◌, ◌++◌, ◌∷◌, [], length, position, slice_get, bytes_eq, IfOk, IfSome, OnOk, OnErr, Some, option_and_then, option_map};
+ghost use Rattle.std.specs.Prelude.{◌≡◌, ◌<◌, ◌≤◌, ◌++◌, ◌∷◌, [], length, position, slice_get, bytes_eq, IfOk, IfSome, OnOk, OnErr, Some, option_and_then, option_map};
 ghost use Rattle.olap_meaning.specs.Catalog.{first_appearances};
 ghost use Rattle.catalog_tables.specs.Tables.{number_of};
 
@@ -56,7 +56,8 @@ impl FieldColumn {
 
     /// How many different texts there are.
     pub fn count(&self) -> u32
-        ensures { result ≡ length (first_appearances self.now) }
+        ensures count { result ≡ length (first_appearances self.now) }
+        ensures limit { length (first_appearances self.now) ≤ RECORD_LIMIT }
     {
         self.names.len() as u32
     }

@@ -4,6 +4,7 @@
 ghost use Rattle.std.specs.Prelude.{◌≡◌, IfOk, IsTrue};
 ghost use Rattle.std.specs.List.{list_all};
 ghost use Rattle.olap_meaning.specs.Legal.{is_cell};
+ghost use Rattle.segment_header.specs.Widening.{Serves, WidensPlainly, are_wanted};
 
 use cache_opening::{OpenFault, open_cache};
 use cell_request::{ResolveFault, cells, resolve};
@@ -12,8 +13,9 @@ use history_core::Answer;
 use line_session::Desk;
 use manager_desk::ManagerDesk;
 use mdx_reader::{QueryFault, read_query};
-use olap_meaning::{Cell, List, OutOfMemory, plain_text};
+use olap_meaning::{Allowed, Cell, List, OutOfMemory, ValueId, plain_text};
 use outside::{Depot, FolderDepot};
+use segment_header::{Widener, Widening, plain_widener, widened_plainly};
 use std::alloc::{AllocError, Global};
 use std::marker::Brand;
 use std::sync::ledger::{Blank, Ledger};
@@ -50,11 +52,12 @@ fn cells_of(alloc: Global, desk: &ManagerDesk) -> Result<List<Cell>, Failure>
 }
 
 // The answer to the cells, asked for by seat 1: the base batches are appended by seat 0. Loads that are missing are run
-// first, and the rows that they read are counted.
+// first, which allow what the widener answers; and the rows that they read are counted.
 fn answer_to<L: Ledger>(
     alloc: Global,
     desk: &mut ManagerDesk,
     cells: &[Cell],
+    widener: &Widener,
     blank: Blank,
 ) -> Result<Answer, OutOfMemory>
     requires cells { IsTrue (list_all (is_cell desk.old.setting.catalog) cells.now) }
@@ -63,7 +66,7 @@ fn answer_to<L: Ledger>(
     requires one { blank.parts ≡ 1 }
 {
     let mut steps: Steps<L> = Steps::new(blank);
-    desk.ask(alloc, cells, &mut steps)
+    desk.ask(alloc, cells, widener, &mut steps)
 }
 
 // What an answer tells of each of its cells.
@@ -80,20 +83,35 @@ fn told(alloc: Global, answer: &Answer) -> Result<String, Failure> {
 }
 
 // Opens the cache, and asks.
-fn run<D: Depot, L: Ledger>(alloc: Global, depot: &mut D, blank: Blank) -> Result<String, Failure>
+fn run<D: Depot, L: Ledger>(
+    alloc: Global,
+    depot: &mut D,
+    widener: &Widener,
+    blank: Blank,
+) -> Result<String, Failure>
     requires name { blank.name ≡ L.name }
     requires parts { blank.parts ≡ L.parts }
     requires one { blank.parts ≡ 1 }
 {
     let mut desk = ManagerDesk::new(open_cache(alloc, depot, SCHEMA)?);
     let cells = cells_of(alloc, &desk)?;
-    let answer = answer_to::<L>(alloc, &mut desk, cells.as_slice(), blank)?;
+    let answer = answer_to::<L>(alloc, &mut desk, cells.as_slice(), widener, blank)?;
     told(alloc, &answer)
 }
 
 fn main(rt: HostRuntime) -> anyhow::Result<()> {
     let mut depot = FolderDepot::new(&rt);
-    let text = run::<_, Brand>(rt.alloc(), &mut depot, Blank::new(1))?;
+    let alloc = rt.alloc();
+    let widen: Widening = Box::new(
+        alloc,
+        move |wanted: &[ValueId], count: u32| -> Result<Allowed, OutOfMemory>
+            requires { IsTrue (are_wanted wanted.now count) }
+            ensures plain { IfOk result (WidensPlainly wanted.now count) }
+            ensures serves { IfOk result (Serves wanted.now count) }
+        { widened_plainly(alloc, wanted, count) },
+    )?;
+    let widener = plain_widener(widen);
+    let text = run::<_, Brand>(alloc, &mut depot, &widener, Blank::new(1))?;
     println!(rt; "{text}")?;
     Ok(())
 }

@@ -1,14 +1,15 @@
 -- Which loads some cells lack.
-use Rattle.std.specs.Prelude.{ℕ, zero, suc, List, [], ◌∷◌, ◌++◌, Bool, not, ◌&&◌, ◌==◌, Option, if◌then◌else◌, bytes_eq, filter, length, map, option_map}
-use Rattle.std.specs.List.{find, list_any}
-use Rattle.olap_meaning.specs.declared.cells.Allowed.TheVariants.{Set}
+use Rattle.std.specs.Prelude.{ℕ, zero, suc, ◌≡◌, List, [], ◌∷◌, ◌++◌, All, Bool, not, ◌&&◌, ◌==◌, Option, if◌then◌else◌, bytes_eq, filter, length, map, option_map}
+use Rattle.std.specs.List.{AllZip, find, list_any, zip}
 use Rattle.olap_meaning.specs.declared.cells.Cell.{Cell}
 use Rattle.olap_meaning.specs.declared.cells.Header.{Header}
 use Rattle.olap_meaning.specs.declared.cells.Who.{Who}
 use Rattle.olap_meaning.specs.declared.tables.Catalog.{Catalog}
 use Rattle.olap_meaning.specs.Catalog.{values}
+use Rattle.olap_meaning.specs.Covering.{columns_of}
 use Rattle.olap_meaning.specs.History.{Entry, Load, is_some_and, version}
 use Rattle.olap_meaning.specs.Legal.{has_source}
+use Rattle.segment_header.specs.Widening.{Allowing, Serves}
 use Rattle.history_core.specs.Cache.{CacheOf}
 
 -- so many numbers, from one on
@@ -19,10 +20,6 @@ numbers_from first (suc count) = first ∷ numbers_from (suc first) count
 -- the cells that have no source, exact or rolled, in order
 abbrev pub wanting : Catalog → List Entry → List Cell → List Cell
 wanting catalog history cells = filter (λ cell. not (has_source catalog history cell)) cells
-
--- the columns of a cell
-abbrev pub columns_of : Cell → List ℕ
-columns_of cell = map (λ pair. pair.0) cell.at
 
 -- two cells may share a load: they have one cube, one measure and the same columns
 abbrev pub alike : Cell → Cell → Bool
@@ -52,29 +49,51 @@ values_on catalog cells column =
     (λ value. list_any (has_on column value) cells)
     (numbers_from 0 (length (values catalog column)))
 
--- the header of a load of some cells that may share one, by one of them: it has their columns, and allows just the
--- values that they have there
-abbrev pub header_for : Catalog → Cell → List Cell → Header
-header_for catalog first cells =
-    record {
-      cube = first.cube;
-      measure = first.measure;
-      columns = map (λ pair. (pair.0, Set (values_on catalog cells pair.0))) first.at;
-    }
+-- a header is one for a load of some cells that may share one, by one of them: it has their cube, their measure and
+-- their columns, and allows in each column what it may, by the values that they have there, and what serves these
+pub record IsHeaderFor (allowing : Allowing) (catalog : Catalog) (first : Cell) (cells : List Cell)
+    (header : Header) : Type 0 where
+  pub cube : header.cube ≡ first.cube
+  pub measure : header.measure ≡ first.measure
+  pub columns : map (λ own. own.0) header.columns ≡ columns_of first
+  pub allowed : All
+      (λ own. allowing (values_on catalog cells own.0) (length (values catalog own.0)) own.1)
+      header.columns
+  pub serves : All
+      (λ own. Serves (values_on catalog cells own.0) (length (values catalog own.0)) own.1)
+      header.columns
 
--- the load of the group of a first cell among the cells that want one: of the present version, for the sake of the
--- first cell
-abbrev pub load_for : CacheOf → Who → List Cell → Cell → Load
-load_for cache who wanted first =
+-- headers are those for the loads of the groups of some cells: one for each group, in order
+abbrev pub AreHeadersFor : Allowing → Catalog → List Cell → List Header → Type 0
+AreHeadersFor allowing catalog wanted headers =
+    AllZip
+    (λ first header. IsHeaderFor allowing catalog first (filter (alike first) wanted) header)
+    (firsts [] wanted) headers
+
+-- the load of a group, by its first cell and its header: of the present version, for the sake of the first cell
+abbrev pub load_with : CacheOf → Who → Cell → Header → Load
+load_with cache who first header =
     record {
       who = who;
-      header = header_for cache.setting.catalog first (filter (alike first) wanted);
+      header = header;
       version = version cache.entries first.cube;
       reason = first;
     }
 
--- the loads that a look starts for some cells: one for each group of those that have no source
-abbrev pub loads_for : CacheOf → Who → List Cell → List Load
-loads_for cache who cells =
-    let wanted = wanting cache.setting.catalog cache.entries cells in
-    map (load_for cache who wanted) (firsts [] wanted)
+-- the loads of some groups, by their first cells and their headers
+abbrev pub loads_over : CacheOf → Who → List Cell → List Header → List Load
+loads_over cache who firsts headers =
+    map (λ pair. load_with cache who pair.0 pair.1) (zip firsts headers)
+
+-- the cells that want a load
+abbrev pub wanted_of : CacheOf → List Cell → List Cell
+wanted_of cache cells = wanting cache.setting.catalog cache.entries cells
+
+-- the loads that a look starts for some cells with these headers: one for each group of those that have no source
+abbrev pub loads_with : CacheOf → Who → List Cell → List Header → List Load
+loads_with cache who cells headers =
+    loads_over cache who (firsts [] (wanted_of cache cells)) headers
+
+-- how many they are
+abbrev pub load_count : CacheOf → List Cell → ℕ
+load_count cache cells = length (firsts [] (wanted_of cache cells))

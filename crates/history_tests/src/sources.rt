@@ -18,6 +18,7 @@ answer 1 2 year 2 => not legal
 answer 1 2 year none => not legal
 # The other is in flight, and then there.
 start 1 1 second 0=0,1=1 => legal
+start 1 1 year => legal
 answer 1 2 year 2+4 => not legal
 has year => no source
 done 1 4 => legal
@@ -41,13 +42,13 @@ has 0:1=1 => no source
 has 0:1=0 => a source, rolled
 answer 1 5 0:1=0 2 => legal
 answer 1 6 0:1=0 2+4 => not legal
-# Where an exact source stands, it alone is the source.
-start 1 1 year => legal
+# What has a rolled source needs no load. Where an exact source stands, it alone is the source.
+start 1 1 year => not legal
 answer 1 6 year 2+4 => legal
-done 1 10 => legal
+done 1 5 => legal
 has year => a source, rolled
 answer 1 7 year 2+4 => not legal
-answer 1 7 year 10 => legal
+answer 1 7 year 5 => legal
 # What a flush shut off is rolled up no more, nor is what is left.
 flush 8 measures 1 0 => legal
 has year => no source
@@ -148,20 +149,20 @@ answer 1 3 0:1=0 2 => legal
 const OPEN: &str = "append 1 1 0 3 => legal
 start 1 1 first 0=*,1=0 => legal
 start 1 1 second 0=*,1=1 => legal
+start 1 1 0:1=0 1=* => legal
 done 1 2 => legal
 done 1 3 => legal
 has 0: => a source, rolled
 answer 1 2 0: 2+3 => legal
 start 1 1 1:0=0,1=0 => legal
-done 1 7 => legal
+done 1 8 => legal
 has 1: => no source
-start 1 1 0:1=0 1=* => legal
-done 1 9 => legal
+done 1 4 => legal
 has 0: => a source, rolled
-answer 1 3 0: 9 => legal
-answer 1 4 0: 2+3+9 => not legal
+answer 1 3 0: 4 => legal
+answer 1 4 0: 2+3+4 => not legal
 answer 1 4 0: 2+3 => legal
-answer 1 5 year 9 => not legal
+answer 1 5 year 4 => not legal
 ";
 
 /// A load that is open everywhere.

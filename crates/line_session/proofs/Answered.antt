@@ -16,33 +16,34 @@ use Rattle.input_lines.specs.Requests.{Request, Ask, Flush, Show}
 use Rattle.input_lines.proofs.Commands.{no_other}
 use Rattle.line_session.specs.Answered.{FlushesAreAnswered, LooksAreAnswered, QueriesAreAnswered}
 use Rattle.line_session.specs.Desks.{AddsNone, HasAsked}
-use Rattle.line_session.specs.Replies.{AnswersFlush, AnswersLine, AnswersMeaning, AnswersRequest, AnswersShow, Dealing, IsGridOf, LeavesUnread, StandsStill, Texts, catalog_of}
+use Rattle.line_session.specs.Replies.{AnswersFlush, AnswersLine, AnswersMeaning, AnswersRequest, AnswersShow, Dealing, IsGridOf, LeavesUnread, StandsStill, catalog_of}
+use Rattle.line_session.specs.Tools.{ToolsOf}
 use Rattle.line_session.proofs.GoingOn.{adds_none}
 use Rattle.line_session.proofs.Wanting.{differ}
 
 -- an answer to the cells of axes, whose grid is the reply
-abbrev IsAnswered : Texts → Dealing → Axes → List ℕ → Type 0
-IsAnswered texts dealing axes reply = (answer : Answer) × HasAsked dealing.before dealing.after (cells_of (catalog_of dealing.before) axes) answer × IsGridOf texts (catalog_of dealing.before) axes answer reply
+abbrev IsAnswered : ToolsOf → Dealing → Axes → List ℕ → Type 0
+IsAnswered tools dealing axes reply = (answer : Answer) × HasAsked tools.allowed dealing.before dealing.after (cells_of (catalog_of dealing.before) axes) answer × IsGridOf tools (catalog_of dealing.before) axes answer reply
 
 -- a grid was given, or there was no memory
-given : (texts : Texts) (dealing : Dealing) (axes : Axes) (position : Option ℕ) (reply : List ℕ) → reply ≢ no_memory_reply → AnswersMeaning texts dealing (Ok axes) position reply → IsAnswered texts dealing axes reply
-given texts dealing axes position reply told (inl gives) = by gives.grid
+given : (tools : ToolsOf) (dealing : Dealing) (axes : Axes) (position : Option ℕ) (reply : List ℕ) → reply ≢ no_memory_reply → AnswersMeaning tools dealing (Ok axes) position reply → IsAnswered tools dealing axes reply
+given tools dealing axes position reply told (inl gives) = by gives.grid
   where
-    by : IsGridOf texts (catalog_of dealing.before) axes gives.answer reply ⊎ (reply ≡ no_memory_reply) → IsAnswered texts dealing axes reply
+    by : IsGridOf tools (catalog_of dealing.before) axes gives.answer reply ⊎ (reply ≡ no_memory_reply) → IsAnswered tools dealing axes reply
     by (inl grid) = (gives.answer, gives.asks, grid)
     by (inr lacks) = absurd (told lacks)
-given texts dealing axes position reply told (inr gives) = absurd (told gives.no_memory)
+given tools dealing axes position reply told (inr gives) = absurd (told gives.no_memory)
 
 -- a line that asks for a query alone was answered by what the query means
-asked_query : (texts : Texts) (dealing : Dealing) (query : Query) (axes : Axes) (request : Request) (position : Option ℕ) (reply : List ℕ) → Ask query ≡ request → axes_meant (catalog_of dealing.before) query ≡ Ok axes → AnswersRequest texts dealing request position reply → AnswersMeaning texts dealing (Ok axes) position reply
-asked_query texts dealing query axes request position reply is means answers =
-    subst (λ (meant : Result Axes Refusal). AnswersMeaning texts dealing meant position reply) means (subst (λ (r : Request). AnswersRequest texts dealing r position reply) (sym is) answers).1
+asked_query : (tools : ToolsOf) (dealing : Dealing) (query : Query) (axes : Axes) (request : Request) (position : Option ℕ) (reply : List ℕ) → Ask query ≡ request → axes_meant (catalog_of dealing.before) query ≡ Ok axes → AnswersRequest tools dealing request position reply → AnswersMeaning tools dealing (Ok axes) position reply
+asked_query tools dealing query axes request position reply is means answers =
+    subst (λ (meant : Result Axes Refusal). AnswersMeaning tools dealing meant position reply) means (subst (λ (r : Request). AnswersRequest tools dealing r position reply) (sym is) answers).1
 
-pub queries_answered : (texts : Texts) → QueriesAreAnswered texts
-queries_answered texts dealing handled argument query axes handles utf8 command writes means told = by handles.answers
+pub queries_answered : (tools : ToolsOf) → QueriesAreAnswered tools
+queries_answered tools dealing handled argument query axes handles utf8 command writes means told = by handles.answers
   where
-    by : AnswersLine texts dealing handled ⊎ LeavesUnread dealing handled → IsAnswered texts dealing axes handled.reply
-    by (inl line) = given texts dealing axes handled.position handled.reply told (asked_query texts dealing query axes line.request handled.position handled.reply (line.only (Ask query) (utf8, record { argument = argument; command = command; writes = writes })) means line.answers)
+    by : AnswersLine tools dealing handled ⊎ LeavesUnread dealing handled → IsAnswered tools dealing axes handled.reply
+    by (inl line) = given tools dealing axes handled.position handled.reply told (asked_query tools dealing query axes line.request handled.position handled.reply (line.only (Ask query) (utf8, record { argument = argument; command = command; writes = writes })) means line.answers)
     by (inr unread) = absurd (told unread.no_memory)
 
 -- a flush that was not read: nothing was added
@@ -57,8 +58,8 @@ lacks_entry dealing cube (Ok region) position reply (inl gives) told = absurd (d
 lacks_entry dealing cube (Ok region) position reply (inr lacks) told = (lacks.0.adds, lacks.0.none)
 lacks_entry dealing cube (Err refused) position reply (still, refuses) told = (subst (AddsNone dealing.before) (sym still.same) (adds_none dealing.before), still.none)
 
-pub flushes_answered : (texts : Texts) → FlushesAreAnswered texts
-flushes_answered texts dealing handled argument text handles utf8 command writes =
+pub flushes_answered : (tools : ToolsOf) → FlushesAreAnswered tools
+flushes_answered tools dealing handled argument text handles utf8 command writes =
     record { answers = answers; lack = lacks_entry dealing cube meant handled.position handled.reply answers }
   where
     cube : ℕ
@@ -67,8 +68,8 @@ flushes_answered texts dealing handled argument text handles utf8 command writes
     meant : Result Region RegionRefusal
     meant = flush_meant (catalog_of dealing.before) text
 
-    by : AnswersLine texts dealing handled ⊎ LeavesUnread dealing handled → AnswersFlush dealing cube meant handled.position handled.reply
-    by (inl line) = subst (λ (r : Request). AnswersRequest texts dealing r handled.position handled.reply) (sym (line.only (Flush text) (utf8, record { argument = argument; command = command; writes = writes }))) line.answers
+    by : AnswersLine tools dealing handled ⊎ LeavesUnread dealing handled → AnswersFlush dealing cube meant handled.position handled.reply
+    by (inl line) = subst (λ (r : Request). AnswersRequest tools dealing r handled.position handled.reply) (sym (line.only (Flush text) (utf8, record { argument = argument; command = command; writes = writes }))) line.answers
     by (inr unread) = unread_flush dealing cube meant handled.position handled.reply unread.nothing unread.no_memory
 
     answers : AnswersFlush dealing cube meant handled.position handled.reply
@@ -84,9 +85,9 @@ takes_none line (utf8, inl mdx) show = shown_without (codes "MDX") line refl mdx
 takes_none line (utf8, inr (inl append)) show = shown_without (codes "APPEND") line refl append show
 takes_none line (utf8, inr (inr flush)) show = shown_without (codes "FLUSH") line refl flush show
 
-pub looks_answered : (texts : Texts) → LooksAreAnswered texts
-looks_answered texts dealing handled handles utf8 show = by handles.answers
+pub looks_answered : (tools : ToolsOf) → LooksAreAnswered tools
+looks_answered tools dealing handled handles utf8 show = by handles.answers
   where
-    by : AnswersLine texts dealing handled ⊎ LeavesUnread dealing handled → AnswersShow dealing handled.position handled.reply
-    by (inl line) = subst (λ (r : Request). AnswersRequest texts dealing r handled.position handled.reply) (sym (line.only Show (utf8, show))) line.answers
+    by : AnswersLine tools dealing handled ⊎ LeavesUnread dealing handled → AnswersShow dealing handled.position handled.reply
+    by (inl line) = subst (λ (r : Request). AnswersRequest tools dealing r handled.position handled.reply) (sym (line.only Show (utf8, show))) line.answers
     by (inr unread) = absurd (takes_none handled.line unread.takes show)

@@ -11,30 +11,31 @@ use Rattle.input_lines.proofs.Falling.{tells_fewer}
 use Rattle.input_lines.specs.declared.next.Next.{Next}
 use Rattle.input_lines.specs.declared.next.Next.TheVariants as next
 use Rattle.line_session.specs.Desks.{DeskOf}
-use Rattle.line_session.specs.Replies.{Dealing, Texts}
+use Rattle.line_session.specs.Replies.{Dealing}
+use Rattle.line_session.specs.Tools.{ToolsOf}
 use Rattle.line_session.specs.Conversations.{Converses, HasConversed, turn, quits, cut_off, too_long, too_long_cut_off, ends, spends, fails}
 use Rattle.line_session.specs.Turns.{Answers, HasPassed, IsStill, Turn}
 use Rattle.line_session.specs.declared.end.SessionEnd.{SessionEnd}
 use Rattle.line_session.specs.declared.end.SessionEnd.TheVariants.{Quit, EndOfInput, LongLine, Budget, ReceiveFault, SendFault}
 use Rattle.line_session.proofs.Taking.{on_from}
 
-module _ (texts : Texts) where
+module _ (tools : ToolsOf) where
   -- a conversation for which nothing was asked
-  still : (reading : Reading) (around : Dealing) (events last given : List Event) (end : SessionEnd) → IsStill around → last ≡ given → Converses texts reading around.before (events ++ given) [] around.before end → Converses texts reading around.before (events ++ last) around.asked around.after end
+  still : (reading : Reading) (around : Dealing) (events last given : List Event) (end : SessionEnd) → IsStill around → last ≡ given → Converses tools reading around.before (events ++ given) [] around.before end → Converses tools reading around.before (events ++ last) around.asked around.after end
   still reading around events last given end is same passes =
-      subst (λ (es : List Event). Converses texts reading around.before (events ++ es) around.asked around.after end) (sym same)
-      (subst (λ (asked : List Fetched). Converses texts reading around.before (events ++ given) asked around.after end) (sym is.1)
-      (subst (λ (desk : DeskOf). Converses texts reading around.before (events ++ given) [] desk end) (sym is.0) passes))
+      subst (λ (es : List Event). Converses tools reading around.before (events ++ es) around.asked around.after end) (sym same)
+      (subst (λ (asked : List Fetched). Converses tools reading around.before (events ++ given) asked around.after end) (sym is.1)
+      (subst (λ (desk : DeskOf). Converses tools reading around.before (events ++ given) [] desk end) (sym is.0) passes))
 
   -- where nothing is answered
-  quiet : (reading : Reading) (around : Dealing) (events last : List Event) (end : SessionEnd) → IsStill around → last ≡ [] → Converses texts reading around.before events [] around.before end → Converses texts reading around.before (events ++ last) around.asked around.after end
+  quiet : (reading : Reading) (around : Dealing) (events last : List Event) (end : SessionEnd) → IsStill around → last ≡ [] → Converses tools reading around.before events [] around.before end → Converses tools reading around.before (events ++ last) around.asked around.after end
   quiet reading around events last end is same passes =
-      still reading around events last [] end is same (subst (λ (es : List Event). Converses texts reading around.before es [] around.before end) (sym (append-nil events)) passes)
+      still reading around events last [] end is same (subst (λ (es : List Event). Converses tools reading around.before es [] around.before end) (sym (append-nil events)) passes)
 
   -- what ends a session is a conversation
-  ended_by : (reading then : Reading) (around : Dealing) (heard last : List Event) (told : Result Next Failed) (end : SessionEnd) → Tells reading heard then told → Answers texts told around then.line last (Some end) → Converses texts reading around.before (heard ++ last) around.asked around.after end
+  ended_by : (reading then : Reading) (around : Dealing) (heard last : List Event) (told : Result Next Failed) (end : SessionEnd) → Tells reading heard then told → Answers tools told around then.line last (Some end) → Converses tools reading around.before (heard ++ last) around.asked around.after end
   ended_by reading then around heard last (Ok next.Line) Quit tells answers =
-      subst (λ (es : List Event). Converses texts reading around.before (heard ++ es) around.asked around.after Quit) (sym answers.ends.1) (quits heard around.asked answers.position answers.reply tells answers.handles answers.ends.0)
+      subst (λ (es : List Event). Converses tools reading around.before (heard ++ es) around.asked around.after Quit) (sym answers.ends.1) (quits heard around.asked answers.position answers.reply tells answers.handles answers.ends.0)
   ended_by reading then around heard last (Ok next.Line) SendFault tells answers =
       cut_off heard last around.asked answers.position answers.reply tells answers.handles answers.ends
   ended_by reading then around heard last (Ok next.Line) _ tells answers = absurd answers.ends
@@ -48,15 +49,15 @@ module _ (texts : Texts) where
   -- a turn that ends the session
   pub turn_ends :
       (reading then : Reading) (before after : DeskOf) (a b : List Event) (answers answered : List Fetched) (files : Option Files) (left rest : Option (List ℕ)) (end : SessionEnd)
-      → (events : List Event) × (asked : List Fetched) × HasPassed a b answers answered files events asked × Turn texts reading then (record { before = before; after = after; asked = asked }) events left rest (Some end)
-      → HasConversed texts a b answers answered files reading before after end
+      → (events : List Event) × (asked : List Fetched) × HasPassed a b answers answered files events asked × Turn tools reading then (record { before = before; after = after; asked = asked }) events left rest (Some end)
+      → HasConversed tools a b answers answered files reading before after end
   turn_ends reading then before after a b answers answered files left rest end (events, asked, passed, one) = record {
     events = events;
     passed = passed.passed;
     asked = asked;
     answered = passed.answered;
     theirs = passed.theirs;
-    converses = subst (λ (es : List Event). Converses texts reading before es asked after end) (sym one.events_are) (ended_by reading then (record { before = before; after = after; asked = asked }) one.heard one.last one.told end one.tells one.answers);
+    converses = subst (λ (es : List Event). Converses tools reading before es asked after end) (sym one.events_are) (ended_by reading then (record { before = before; after = after; asked = asked }) one.heard one.last one.told end one.tells one.answers);
   }
 
 -- what was asked for, first and then
@@ -68,34 +69,34 @@ pub asked_from : (a b c : List Fetched) (first last : List Fetched) → b ≡ a 
 asked_from a b c first last here then = then ∙ ap (λ (es : List Fetched). es ++ last) here ∙ append_assoc a first last
 
 -- a turn that goes on, and then a conversation
-module _ (texts : Texts) where
-  goes_on_by : (reading then : Reading) (around : Dealing) (after : DeskOf) (heard last more : List Event) (later : List Fetched) (told : Result Next Failed) (end : SessionEnd) → Tells reading heard then told → Answers texts told around then.line last None → Converses texts then around.after more later after end
-      → Converses texts reading around.before ((heard ++ last) ++ more) (around.asked ++ later) after end
+module _ (tools : ToolsOf) where
+  goes_on_by : (reading then : Reading) (around : Dealing) (after : DeskOf) (heard last more : List Event) (later : List Fetched) (told : Result Next Failed) (end : SessionEnd) → Tells reading heard then told → Answers tools told around then.line last None → Converses tools then around.after more later after end
+      → Converses tools reading around.before ((heard ++ last) ++ more) (around.asked ++ later) after end
   goes_on_by reading then around after heard last more later (Ok next.Line) end tells answers rest =
-      subst (λ (es : List Event). Converses texts reading around.before ((heard ++ es) ++ more) (around.asked ++ later) after end) (sym answers.ends.1) (turn heard more around.asked later answers.position answers.reply tells answers.handles answers.ends.0 rest)
+      subst (λ (es : List Event). Converses tools reading around.before ((heard ++ es) ++ more) (around.asked ++ later) after end) (sym answers.ends.1) (turn heard more around.asked later answers.position answers.reply tells answers.handles answers.ends.0 rest)
   goes_on_by reading then around after heard last more later _ end tells answers rest = absurd answers
 
   pub turn_goes_on :
       (reading then : Reading) (before middle after : DeskOf) (a b c : List Event) (answers answered told : List Fetched) (files : Option Files) (left rest : Option (List ℕ)) (end : SessionEnd)
-      → (events : List Event) × (asked : List Fetched) × HasPassed a b answers answered files events asked × Turn texts reading then (record { before = before; after = middle; asked = asked }) events left rest None
-      → HasConversed texts b c answered told files then middle after end → HasConversed texts a c answers told files reading before after end
+      → (events : List Event) × (asked : List Fetched) × HasPassed a b answers answered files events asked × Turn tools reading then (record { before = before; after = middle; asked = asked }) events left rest None
+      → HasConversed tools b c answered told files then middle after end → HasConversed tools a c answers told files reading before after end
   turn_goes_on reading then before middle after a b c answers answered told files left rest end (events, asked, passed, one) later = record {
     events = events ++ later.events;
     passed = on_from a b c events later.events passed.passed later.passed;
     asked = asked ++ later.asked;
     answered = asked_from answers answered told asked later.asked passed.answered later.answered;
     theirs = all_theirs files asked later.asked passed.theirs later.theirs;
-    converses = subst (λ (es : List Event). Converses texts reading before (es ++ later.events) (asked ++ later.asked) after end) (sym one.events_are) (goes_on_by reading then (record { before = before; after = middle; asked = asked }) after one.heard one.last later.events later.asked one.told end one.tells one.answers later.converses);
+    converses = subst (λ (es : List Event). Converses tools reading before (es ++ later.events) (asked ++ later.asked) after end) (sym one.events_are) (goes_on_by reading then (record { before = before; after = middle; asked = asked }) after one.heard one.last later.events later.asked one.told end one.tells one.answers later.converses);
   }
 
   -- a turn that goes on gave a line, and so fewer bytes may be lines
-  line_told : (around : Dealing) (line : List ℕ) (last : List Event) (told : Result Next Failed) → Answers texts told around line last None → told ≡ Ok next.Line
+  line_told : (around : Dealing) (line : List ℕ) (last : List Event) (told : Result Next Failed) → Answers tools told around line last None → told ≡ Ok next.Line
   line_told around line last (Ok next.Line) answers = refl
   line_told around line last _ answers = absurd answers
 
   pub turn_fewer :
       (reading then : Reading) (before after : DeskOf) (a b : List Event) (answers answered : List Fetched) (files : Option Files) (left rest : Option (List ℕ))
-      → (events : List Event) × (asked : List Fetched) × HasPassed a b answers answered files events asked × Turn texts reading then (record { before = before; after = after; asked = asked }) events left rest None
+      → (events : List Event) × (asked : List Fetched) × HasPassed a b answers answered files events asked × Turn tools reading then (record { before = before; after = after; asked = asked }) events left rest None
       → allowed then < allowed reading
   turn_fewer reading then before after a b answers answered files left rest (events, asked, passed, one) =
       tells_fewer reading then one.heard (subst (λ (told : Result Next Failed). Tells reading one.heard then told) (line_told (record { before = before; after = after; asked = asked }) then.line one.last one.told one.answers) one.tells)

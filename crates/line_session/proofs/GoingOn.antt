@@ -16,7 +16,8 @@ use Rattle.fact_rows.specs.declared.fault.BatchFault.{BatchFault}
 use Rattle.fact_versions.specs.FactRows.{FactRows}
 use Rattle.history_core.specs.Cache.{CacheOf}
 use Rattle.line_session.specs.Desks.{AddsNone, DeskOf, GoesOn, GoesOnBy}
-use Rattle.line_session.specs.Replies.{AnswersAppend, AnswersFlush, AnswersMeaning, AnswersRequest, AnswersShow, AppendsFile, AppendsRows, Dealing, Texts, catalog_of}
+use Rattle.line_session.specs.Replies.{AnswersAppend, AnswersFlush, AnswersMeaning, AnswersRequest, AnswersShow, AppendsFile, AppendsRows, Dealing, catalog_of}
+use Rattle.line_session.specs.Tools.{ToolsOf}
 
 -- a desk that was not asked goes on by nothing
 pub stands : (desk : DeskOf) → GoesOnBy desk desk []
@@ -36,13 +37,13 @@ same_goes_on before after same = subst (GoesOn before) (sym same) ([], stands be
 none_goes_on : (before after : DeskOf) → AddsNone before after → GoesOn before after
 none_goes_on before after adds = (adds.more, adds.goes_on)
 
-meaning_goes_on : (texts : Texts) (around : Dealing) (meaning : Result Axes Refusal) (position : Option ℕ) (reply : List ℕ) → AnswersMeaning texts around meaning position reply → GoesOn around.before around.after
-meaning_goes_on texts around (Ok axes) position reply (inl grid) = (_, grid.asks.adds.goes_on)
-meaning_goes_on texts around (Ok axes) position reply (inr none) = elim none.asks [
+meaning_goes_on : (tools : ToolsOf) (around : Dealing) (meaning : Result Axes Refusal) (position : Option ℕ) (reply : List ℕ) → AnswersMeaning tools around meaning position reply → GoesOn around.before around.after
+meaning_goes_on tools around (Ok axes) position reply (inl grid) = (_, grid.asks.adds.goes_on)
+meaning_goes_on tools around (Ok axes) position reply (inr none) = elim none.asks [
   | inl same ↦ same_goes_on around.before around.after same
   | inr asks ↦ (asks.more, asks.goes_on)
 ]
-meaning_goes_on texts around (Err refused) position reply is = same_goes_on around.before around.after is.0.same
+meaning_goes_on tools around (Err refused) position reply is = same_goes_on around.before around.after is.0.same
 
 rows_go_on : (around : Dealing) (cube : ℕ) (read : Result FactRows BatchFault) (position : Option ℕ) (reply : List ℕ) → AppendsRows around cube read position reply → GoesOn around.before around.after
 rows_go_on around cube (Ok rows) position reply (inl version) = (_, version.appends.adds.goes_on)
@@ -70,19 +71,19 @@ show_goes_on around position reply (unasked, inl gives) = (_, gives.shows.adds.g
 show_goes_on around position reply (unasked, inr lacks) = none_goes_on around.before around.after lacks.adds
 
 -- whatever a line asks for
-pub request_goes_on : (texts : Texts) (around : Dealing) (request : Request) (position : Option ℕ) (reply : List ℕ) → AnswersRequest texts around request position reply → GoesOn around.before around.after
-request_goes_on texts around NotText position reply is = same_goes_on around.before around.after is.0.same
-request_goes_on texts around Blank position reply is = same_goes_on around.before around.after is.0.same
-request_goes_on texts around NoCommand position reply is = same_goes_on around.before around.after is.0.same
-request_goes_on texts around (Stops byte) position reply is = same_goes_on around.before around.after is.0.same
-request_goes_on texts around Quit position reply is = same_goes_on around.before around.after is.0.same
-request_goes_on texts around (After n) position reply is = (is.fronts.more, is.fronts.goes_on)
-request_goes_on texts around (Append argument) position reply is = append_goes_on around argument (find_cube (catalog_of around.before) argument.cube) position reply is
-request_goes_on texts around (Ask query) position reply is = meaning_goes_on texts around (axes_meant (catalog_of around.before) query) position reply is.1
-request_goes_on texts around (Flush text) position reply is =
+pub request_goes_on : (tools : ToolsOf) (around : Dealing) (request : Request) (position : Option ℕ) (reply : List ℕ) → AnswersRequest tools around request position reply → GoesOn around.before around.after
+request_goes_on tools around NotText position reply is = same_goes_on around.before around.after is.0.same
+request_goes_on tools around Blank position reply is = same_goes_on around.before around.after is.0.same
+request_goes_on tools around NoCommand position reply is = same_goes_on around.before around.after is.0.same
+request_goes_on tools around (Stops byte) position reply is = same_goes_on around.before around.after is.0.same
+request_goes_on tools around Quit position reply is = same_goes_on around.before around.after is.0.same
+request_goes_on tools around (After n) position reply is = (is.fronts.more, is.fronts.goes_on)
+request_goes_on tools around (Append argument) position reply is = append_goes_on around argument (find_cube (catalog_of around.before) argument.cube) position reply is
+request_goes_on tools around (Ask query) position reply is = meaning_goes_on tools around (axes_meant (catalog_of around.before) query) position reply is.1
+request_goes_on tools around (Flush text) position reply is =
     flush_goes_on around (cube_named (catalog_of around.before) text) (flush_meant (catalog_of around.before) text) position reply is
-request_goes_on texts around Show position reply is = show_goes_on around position reply is
-request_goes_on texts around Unbuilt position reply is = same_goes_on around.before around.after is.0.same
+request_goes_on tools around Show position reply is = show_goes_on around position reply is
+request_goes_on tools around Unbuilt position reply is = same_goes_on around.before around.after is.0.same
 
 -- and where nothing of it was read
 pub still_goes_on : (desk : DeskOf) → GoesOn desk desk

@@ -4,14 +4,15 @@ use Rattle.query_meaning.specs.Replies.{no_memory_reply}
 use Rattle.query_meaning.specs.Requests.{MayTakeMemory}
 use Rattle.input_lines.specs.Requests.{Request, IsOnly, IsRequest}
 use Rattle.line_session.specs.Desks.{DeskOf}
-use Rattle.line_session.specs.Replies.{AnswersRequest, Dealing, Handles, Texts}
+use Rattle.line_session.specs.Replies.{AnswersRequest, Dealing, Handles}
+use Rattle.line_session.specs.Tools.{ToolsOf}
 use Rattle.line_session.proofs.Replying.{between, stands_still}
 use Rattle.line_session.proofs.Wanting.{lack}
 
 -- a line was read, which asks for one thing, and answered
-pub handles_request : (texts : Texts) (around : Dealing) (line : List ℕ) (request : Request) (position : Option ℕ) (reply : List ℕ) → IsRequest line request → IsOnly line request → AnswersRequest texts around request position reply → Handles texts around (record { line = line; position = position; reply = reply })
-handles_request texts around line request position reply asks only answers = record { answers = inl (record { request = request; asks = asks; only = only; answers = answers }); lack = lack texts around line request position reply asks answers }
+pub handles_request : (tools : ToolsOf) (around : Dealing) (line : List ℕ) (request : Request) (position : Option ℕ) (reply : List ℕ) → IsRequest line request → IsOnly line request → AnswersRequest tools around request position reply → Handles tools around (record { line = line; position = position; reply = reply })
+handles_request tools around line request position reply asks only answers = record { answers = inl (record { request = request; asks = asks; only = only; answers = answers }); lack = lack tools around line request position reply asks answers }
 
 -- there was no memory to read it
-pub handles_none : (texts : Texts) (desk : DeskOf) (line reply : List ℕ) → MayTakeMemory line → reply ≡ no_memory_reply → Handles texts (between desk desk []) (record { line = line; position = None; reply = reply })
-handles_none texts desk line reply may told = record { answers = inr (record { takes = may; nothing = stands_still desk; no_memory = told }); lack = λ _. inl may }
+pub handles_none : (tools : ToolsOf) (desk : DeskOf) (line reply : List ℕ) → MayTakeMemory line → reply ≡ no_memory_reply → Handles tools (between desk desk []) (record { line = line; position = None; reply = reply })
+handles_none tools desk line reply may told = record { answers = inr (record { takes = may; nothing = stands_still desk; no_memory = told }); lack = λ _. inl may }

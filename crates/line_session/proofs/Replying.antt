@@ -20,7 +20,8 @@ use Rattle.result_layout.specs.Axes.{values_of}
 use Rattle.outside.specs.Fetched.{Fetched}
 use Rattle.outside.specs.Told.{AreTheirs, Files, IsOf}
 use Rattle.line_session.specs.Desks.{DeskOf, HasAsked, HasNotAsked}
-use Rattle.line_session.specs.Replies.{AnswersMeaning, Dealing, GivesGrid, IsGridOf, StandsStill, Texts}
+use Rattle.line_session.specs.Replies.{AnswersMeaning, Dealing, GivesGrid, IsGridOf, StandsStill}
+use Rattle.line_session.specs.Tools.{ToolsOf}
 
 abbrev pub between : DeskOf → DeskOf → List Fetched → Dealing
 between before after asked = record { before = before; after = after; asked = asked }
@@ -29,55 +30,55 @@ pub stands_still : (desk : DeskOf) → StandsStill (between desk desk []) None
 stands_still desk = record { same = refl; unasked = refl; none = refl }
 
 -- a text that was made is written so, and has the form
-grid_whole : (texts : Texts) (catalog : Catalog) (axes : Axes) (answer : Answer) (made : Result (List ℕ) OutOfMemory) → IfOk made (IsGridText texts (grid_of catalog axes answer.position (values_of answer.cells)))
-    → IfOk made (λ text. IsOfGrid text (grid_of catalog axes answer.position (values_of answer.cells))) → IfOk made (λ text. IsGridOf texts catalog axes answer text)
-grid_whole texts catalog axes answer (Ok text) written form = record { written = written; form = form }
-grid_whole texts catalog axes answer (Err error) written form = tt
+grid_whole : (tools : ToolsOf) (catalog : Catalog) (axes : Axes) (answer : Answer) (made : Result (List ℕ) OutOfMemory) → IfOk made (IsGridText tools.texts (grid_of catalog axes answer.position (values_of answer.cells)))
+    → IfOk made (λ text. IsOfGrid text (grid_of catalog axes answer.position (values_of answer.cells))) → IfOk made (λ text. IsGridOf tools catalog axes answer text)
+grid_whole tools catalog axes answer (Ok text) written form = record { written = written; form = form }
+grid_whole tools catalog axes answer (Err error) written form = tt
 
 -- a text that was made of an answer is its grid; or there was no memory
-grid_or_none : (texts : Texts) (catalog : Catalog) (axes : Axes) (answer : Answer) (made : Result (List ℕ) OutOfMemory) (reply : List ℕ) → IfOk made (λ text. IsGridOf texts catalog axes answer text) → MatchResult made (λ text. reply ≡ text) (λ _. reply ≡ no_memory_reply)
-    → IsGridOf texts catalog axes answer reply ⊎ (reply ≡ no_memory_reply)
-grid_or_none texts catalog axes answer (Ok text) reply grid is = inl (subst (IsGridOf texts catalog axes answer) (sym is) grid)
-grid_or_none texts catalog axes answer (Err error) reply grid is = inr is
+grid_or_none : (tools : ToolsOf) (catalog : Catalog) (axes : Axes) (answer : Answer) (made : Result (List ℕ) OutOfMemory) (reply : List ℕ) → IfOk made (λ text. IsGridOf tools catalog axes answer text) → MatchResult made (λ text. reply ≡ text) (λ _. reply ≡ no_memory_reply)
+    → IsGridOf tools catalog axes answer reply ⊎ (reply ≡ no_memory_reply)
+grid_or_none tools catalog axes answer (Ok text) reply grid is = inl (subst (IsGridOf tools catalog axes answer) (sym is) grid)
+grid_or_none tools catalog axes answer (Err error) reply grid is = inr is
 
 -- cells were answered
 pub gives_grid :
-    (texts : Texts) (before after : DeskOf) (known : Catalog) (axes : Axes) (cells : List Cell) (answer : Answer) (made : Result (List ℕ) OutOfMemory) (reply : List ℕ) → known ≡ before.cache.setting.catalog → cells ≡ cells_of known axes
-    → HasAsked before after cells answer → IfOk made (IsGridText texts (grid_of known axes answer.position (values_of answer.cells))) → IfOk made (λ text. IsOfGrid text (grid_of known axes answer.position (values_of answer.cells))) → MatchResult made (λ text. reply ≡ text) (λ _. reply ≡ no_memory_reply)
-    → GivesGrid texts (between before after []) axes (Some answer.position) reply
-gives_grid texts before after known axes cells answer made reply same are asked written form is =
-    let Q : Catalog → Type 0 = λ c. HasAsked before after (cells_of c axes) answer in
-    let R : Catalog → Type 0 = λ c. IfOk made (λ text. IsGridOf texts c axes answer text) in record {
+    (tools : ToolsOf) (before after : DeskOf) (known : Catalog) (axes : Axes) (cells : List Cell) (answer : Answer) (made : Result (List ℕ) OutOfMemory) (reply : List ℕ) → known ≡ before.cache.setting.catalog → cells ≡ cells_of known axes
+    → HasAsked tools.allowed before after cells answer → IfOk made (IsGridText tools.texts (grid_of known axes answer.position (values_of answer.cells))) → IfOk made (λ text. IsOfGrid text (grid_of known axes answer.position (values_of answer.cells))) → MatchResult made (λ text. reply ≡ text) (λ _. reply ≡ no_memory_reply)
+    → GivesGrid tools (between before after []) axes (Some answer.position) reply
+gives_grid tools before after known axes cells answer made reply same are asked written form is =
+    let Q : Catalog → Type 0 = λ c. HasAsked tools.allowed before after (cells_of c axes) answer in
+    let R : Catalog → Type 0 = λ c. IfOk made (λ text. IsGridOf tools c axes answer text) in record {
       answer = answer;
-      asks = subst Q same (subst (λ (cs : List Cell). HasAsked before after cs answer) are asked);
+      asks = subst Q same (subst (λ (cs : List Cell). HasAsked tools.allowed before after cs answer) are asked);
       position_is = refl;
-      grid = grid_or_none texts before.cache.setting.catalog axes answer made reply (subst R same (grid_whole texts known axes answer made written form)) is;
+      grid = grid_or_none tools before.cache.setting.catalog axes answer made reply (subst R same (grid_whole tools known axes answer made written form)) is;
     }
 
 -- cells were not answered
 pub gives_none :
-    (texts : Texts) (before after : DeskOf) (known : Catalog) (axes : Axes) (cells : List Cell) (reply : List ℕ) → known ≡ before.cache.setting.catalog → cells ≡ cells_of known axes
-    → HasNotAsked before after cells → reply ≡ no_memory_reply → AnswersMeaning texts (between before after []) (Ok axes) None reply
-gives_none texts before after known axes cells reply same are asked told =
-    let Q : Catalog → Type 0 = λ c. HasNotAsked before after (cells_of c axes) in
-    inr (record { asks = inr (subst Q same (subst (HasNotAsked before after) are asked)); none = refl; no_memory = told })
+    (tools : ToolsOf) (before after : DeskOf) (known : Catalog) (axes : Axes) (cells : List Cell) (reply : List ℕ) → known ≡ before.cache.setting.catalog → cells ≡ cells_of known axes
+    → HasNotAsked tools.allowed before after cells → reply ≡ no_memory_reply → AnswersMeaning tools (between before after []) (Ok axes) None reply
+gives_none tools before after known axes cells reply same are asked told =
+    let Q : Catalog → Type 0 = λ c. HasNotAsked tools.allowed before after (cells_of c axes) in
+    inr (record { asks = inr (subst Q same (subst (HasNotAsked tools.allowed before after) are asked)); none = refl; no_memory = told })
 
 -- there was no memory for a query
-pub lacks : (texts : Texts) (desk : DeskOf) (meaning : Result Axes Refusal) (reply : List ℕ) → reply ≡ no_memory_reply → AnswersMeaning texts (between desk desk []) meaning None reply
-lacks texts desk (Ok axes) reply told = inr (record { asks = inl refl; none = refl; no_memory = told })
-lacks texts desk (Err refused) reply told = (stands_still desk, inr told)
+pub lacks : (tools : ToolsOf) (desk : DeskOf) (meaning : Result Axes Refusal) (reply : List ℕ) → reply ≡ no_memory_reply → AnswersMeaning tools (between desk desk []) meaning None reply
+lacks tools desk (Ok axes) reply told = inr (record { asks = inl refl; none = refl; no_memory = told })
+lacks tools desk (Err refused) reply told = (stands_still desk, inr told)
 
 -- a query means no axes, or there was no memory for it
 pub no_axes :
-    (texts : Texts) (desk : DeskOf) (meaning : Result Axes Refusal) (why : ResolveFault) (reply : List ℕ) → (why ≡ fault.OutOfMemory) ⊎ IsSomeAnd (refusal_of why) (λ refused. meaning ≡ Err refused)
-    → (reply ≡ no_memory_reply) ⊎ IsSomeAnd (refusal_of why) (λ refused. reply ≡ refusal_reply refused) → AnswersMeaning texts (between desk desk []) meaning None reply
-no_axes texts desk meaning why reply is (inl told) = lacks texts desk meaning reply told
-no_axes texts desk meaning why reply (inl memory) (inr told) = absurd (subst (λ (w : ResolveFault). IsSomeAnd (refusal_of w) (λ refused. reply ≡ refusal_reply refused)) memory told)
-no_axes texts desk meaning why reply (inr is) (inr told) = by (refusal_of why) is told
+    (tools : ToolsOf) (desk : DeskOf) (meaning : Result Axes Refusal) (why : ResolveFault) (reply : List ℕ) → (why ≡ fault.OutOfMemory) ⊎ IsSomeAnd (refusal_of why) (λ refused. meaning ≡ Err refused)
+    → (reply ≡ no_memory_reply) ⊎ IsSomeAnd (refusal_of why) (λ refused. reply ≡ refusal_reply refused) → AnswersMeaning tools (between desk desk []) meaning None reply
+no_axes tools desk meaning why reply is (inl told) = lacks tools desk meaning reply told
+no_axes tools desk meaning why reply (inl memory) (inr told) = absurd (subst (λ (w : ResolveFault). IsSomeAnd (refusal_of w) (λ refused. reply ≡ refusal_reply refused)) memory told)
+no_axes tools desk meaning why reply (inr is) (inr told) = by (refusal_of why) is told
   where
-    by : (o : Option Refusal) → IsSomeAnd o (λ refused. meaning ≡ Err refused) → IsSomeAnd o (λ refused. reply ≡ refusal_reply refused) → AnswersMeaning texts (between desk desk []) meaning None reply
+    by : (o : Option Refusal) → IsSomeAnd o (λ refused. meaning ≡ Err refused) → IsSomeAnd o (λ refused. reply ≡ refusal_reply refused) → AnswersMeaning tools (between desk desk []) meaning None reply
     by None i t = absurd i
-    by (Some refused) i t = subst (λ (m : Result Axes Refusal). AnswersMeaning texts (between desk desk []) m None reply) (sym i) (stands_still desk, inl t)
+    by (Some refused) i t = subst (λ (m : Result Axes Refusal). AnswersMeaning tools (between desk desk []) m None reply) (sym i) (stands_still desk, inl t)
 
 -- nothing that was asked for is theirs
 pub none_theirs : (files : Option Files) → AreTheirs files []

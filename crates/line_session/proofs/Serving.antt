@@ -13,7 +13,8 @@ use Rattle.input_lines.specs.Reader.{GivesLine, IsAtEnd, Reading, TellsFront, Te
 use Rattle.input_lines.specs.declared.next.Next.{Next}
 use Rattle.input_lines.specs.declared.next.Next.TheVariants as next
 use Rattle.line_session.specs.Desks.{DeskOf}
-use Rattle.line_session.specs.Replies.{Dealing, Handled, Texts}
+use Rattle.line_session.specs.Replies.{Dealing, Handled}
+use Rattle.line_session.specs.Tools.{ToolsOf}
 use Rattle.line_session.specs.Sessions.{AreFirst, none, line as first_line, AreHandled, AreSent, EndsAtLast, IsServed, ends_session, go_on}
 use Rattle.line_session.specs.Turns.{Answers, HasPassed, IsStill, Replies, Turn}
 use Rattle.line_session.specs.declared.end.SessionEnd.{SessionEnd}
@@ -91,17 +92,17 @@ sent_then most n ReceiveFault left rest text lines before middle after reply rep
 sent_then most n Memory left rest text lines before middle after reply replies goes first sent then = sent_past before middle after reply replies sent then
 
 -- of what an object has answered in all, and what it answers then
-pub record Serves (texts : Texts) (most : ℕ) (end : SessionEnd) (before after : DeskOf) (answers_before answers_after : List Fetched) (left : Option (List ℕ)) (sent_before sent_after : List ℕ) : Type 0 where
+pub record Serves (tools : ToolsOf) (most : ℕ) (end : SessionEnd) (before after : DeskOf) (answers_before answers_after : List Fetched) (left : Option (List ℕ)) (sent_before sent_after : List ℕ) : Type 0 where
   pub asked : List Fetched
   pub answered : answers_after ≡ answers_before ++ asked
-  pub served : IsServed texts most end (record { before = before; after = after; asked = asked }) left sent_before sent_after
+  pub served : IsServed tools most end (record { before = before; after = after; asked = asked }) left sent_before sent_after
 
-module _ (texts : Texts) where
+module _ (tools : ToolsOf) where
   -- a line that goes on was answered, and then a session is served
   line_then :
-      (most n : ℕ) (end : SessionEnd) (around : Dealing) (after : DeskOf) (later : List Fetched) (left rest : Option (List ℕ)) (text : List ℕ) (last : List Event) (before middle final : List ℕ) → end ≢ Memory → Replies texts around text last None → TellsFront left most next.Line text rest n
-      → middle ≡ before ++ taken last → IsServed texts n end (record { before = around.after; after = after; asked = later }) rest middle final
-      → IsServed texts most end (record { before = around.before; after = after; asked = around.asked ++ later }) left before final
+      (most n : ℕ) (end : SessionEnd) (around : Dealing) (after : DeskOf) (later : List Fetched) (left rest : Option (List ℕ)) (text : List ℕ) (last : List Event) (before middle final : List ℕ) → end ≢ Memory → Replies tools around text last None → TellsFront left most next.Line text rest n
+      → middle ≡ before ++ taken last → IsServed tools n end (record { before = around.after; after = after; asked = later }) rest middle final
+      → IsServed tools most end (record { before = around.before; after = after; asked = around.asked ++ later }) left before final
   line_then most n end around after later left rest text last before middle final other replies first sent served = record {
     handled = record { line = text; position = replies.position; reply = replies.reply } ∷ served.handled;
     session = (around.after, around.asked, later, refl, replies.handles, served.session);
@@ -115,7 +116,7 @@ module _ (texts : Texts) where
 
   -- the only line of a session
   line_ends :
-      (most n : ℕ) (end : SessionEnd) (around : Dealing) (left rest : Option (List ℕ)) (text : List ℕ) (last : List Event) (before after : List ℕ) → Replies texts around text last (Some end) → TellsFront left most next.Line text rest n → after ≡ before ++ taken last → IsServed texts most end around left before after
+      (most n : ℕ) (end : SessionEnd) (around : Dealing) (left rest : Option (List ℕ)) (text : List ℕ) (last : List Event) (before after : List ℕ) → Replies tools around text last (Some end) → TellsFront left most next.Line text rest n → after ≡ before ++ taken last → IsServed tools most end around left before after
   line_ends most n Quit around left rest text last before after replies first sent = record {
     handled = record { line = text; position = replies.position; reply = replies.reply } ∷ [];
     session = (around.after, around.asked, [], sym (append-nil around.asked), replies.handles, (refl, refl));
@@ -135,7 +136,7 @@ module _ (texts : Texts) where
   line_ends most n _ around left rest text last before after replies first sent = absurd replies.ends
 
   -- no line was handled
-  none_handled : (most : ℕ) (end : SessionEnd) (around : Dealing) (left : Option (List ℕ)) (before after : List ℕ) → IsStill around → IfSome left (AreHandled most end []) → AreSent most end left [] before after [] → IsServed texts most end around left before after
+  none_handled : (most : ℕ) (end : SessionEnd) (around : Dealing) (left : Option (List ℕ)) (before after : List ℕ) → IsStill around → IfSome left (AreHandled most end []) → AreSent most end left [] before after [] → IsServed tools most end around left before after
   none_handled most end around left before after is lines sent = record { handled = []; session = is; lines = lines; sent = sent }
 
   -- at the end of all that was told no more is taken
@@ -144,8 +145,8 @@ module _ (texts : Texts) where
 
   -- what ends a session was answered
   ends_by :
-      (most n : ℕ) (end : SessionEnd) (around : Dealing) (left rest : Option (List ℕ)) (text : List ℕ) (last : List Event) (before after : List ℕ) (told : Result Next Failed) → Answers texts told around text last (Some end) → IfOk told (λ next. TellsFront left most next text rest n) → after ≡ before ++ taken last
-      → IsServed texts most end around left before after
+      (most n : ℕ) (end : SessionEnd) (around : Dealing) (left rest : Option (List ℕ)) (text : List ℕ) (last : List Event) (before after : List ℕ) (told : Result Next Failed) → Answers tools told around text last (Some end) → IfOk told (λ next. TellsFront left most next text rest n) → after ≡ before ++ taken last
+      → IsServed tools most end around left before after
   ends_by most n end around left rest text last before after (Ok next.Line) answers first sent = line_ends most n end around left rest text last before after answers first sent
   ends_by most n LongLine around left rest text last before after (Ok next.TooLong) answers first sent =
       none_handled most LongLine around left before after answers.0 (told_of (AreHandled most LongLine []) most n next.TooLong left rest text (λ bytes behind is. (most, bytes, none, refl, is)) first)
@@ -174,8 +175,8 @@ module _ (texts : Texts) where
   -- a turn that ends the session
   pub turn_ends_served :
       (reading then : Reading) (before after : DeskOf) (a b : List Event) (answers answered : List Fetched) (files : Option (List (List ℕ × List ℕ))) (left rest : Option (List ℕ)) (end : SessionEnd) → IsAtEnd reading.ended left
-      → (events : List Event) × (asked : List Fetched) × HasPassed a b answers answered files events asked × Turn texts reading then (record { before = before; after = after; asked = asked }) events left rest (Some end)
-      → Serves texts (allowed reading) end before after answers answered (not_given reading left) (taken a) (taken b)
+      → (events : List Event) × (asked : List Fetched) × HasPassed a b answers answered files events asked × Turn tools reading then (record { before = before; after = after; asked = asked }) events left rest (Some end)
+      → Serves tools (allowed reading) end before after answers answered (not_given reading left) (taken a) (taken b)
   turn_ends_served reading then before after a b answers answered files left rest end at_end (events, asked, passed, one) = record {
     asked = asked;
     answered = passed.answered;
@@ -186,16 +187,16 @@ module _ (texts : Texts) where
 
   -- a turn that goes on, and then a session
   goes_on_by :
-      (most n : ℕ) (end : SessionEnd) (around : Dealing) (after : DeskOf) (later : List Fetched) (left rest : Option (List ℕ)) (text : List ℕ) (last : List Event) (before middle final : List ℕ) (told : Result Next Failed) → end ≢ Memory → Answers texts told around text last None → IfOk told (λ next. TellsFront left most next text rest n)
-      → middle ≡ before ++ taken last → IsServed texts n end (record { before = around.after; after = after; asked = later }) rest middle final
-      → IsServed texts most end (record { before = around.before; after = after; asked = around.asked ++ later }) left before final
+      (most n : ℕ) (end : SessionEnd) (around : Dealing) (after : DeskOf) (later : List Fetched) (left rest : Option (List ℕ)) (text : List ℕ) (last : List Event) (before middle final : List ℕ) (told : Result Next Failed) → end ≢ Memory → Answers tools told around text last None → IfOk told (λ next. TellsFront left most next text rest n)
+      → middle ≡ before ++ taken last → IsServed tools n end (record { before = around.after; after = after; asked = later }) rest middle final
+      → IsServed tools most end (record { before = around.before; after = after; asked = around.asked ++ later }) left before final
   goes_on_by most n end around after later left rest text last before middle final (Ok next.Line) other answers first sent served = line_then most n end around after later left rest text last before middle final other answers first sent served
   goes_on_by most n end around after later left rest text last before middle final _ other answers first sent served = absurd answers
 
   pub turn_goes_on_served :
       (reading then : Reading) (before middle after : DeskOf) (a b : List Event) (c : List ℕ) (answers answered told : List Fetched) (files : Option (List (List ℕ × List ℕ))) (left rest : Option (List ℕ)) (end : SessionEnd) → end ≢ Memory → IsAtEnd reading.ended left
-      → (events : List Event) × (asked : List Fetched) × HasPassed a b answers answered files events asked × Turn texts reading then (record { before = before; after = middle; asked = asked }) events left rest None
-      → Serves texts (allowed then) end middle after answered told (not_given then rest) (taken b) c → Serves texts (allowed reading) end before after answers told (not_given reading left) (taken a) c
+      → (events : List Event) × (asked : List Fetched) × HasPassed a b answers answered files events asked × Turn tools reading then (record { before = before; after = middle; asked = asked }) events left rest None
+      → Serves tools (allowed then) end middle after answered told (not_given then rest) (taken b) c → Serves tools (allowed reading) end before after answers told (not_given reading left) (taken a) c
   turn_goes_on_served reading then before middle after a b c answers answered told files left rest end other at_end (events, asked, passed, one) later = record {
     asked = asked ++ later.asked;
     answered = later.answered ∙ ap (λ (es : List Fetched). es ++ later.asked) passed.answered ∙ append_assoc answers asked later.asked;
@@ -212,14 +213,14 @@ module _ (texts : Texts) where
   -- what is served of a reader that holds nothing is served of the link
   pub from_begin :
       (most : ℕ) (end : SessionEnd) (before after : DeskOf) (answers answered : List Fetched) (left : Option (List ℕ)) (sent sent_last : List ℕ) (reading : Reading) → reading ≡ record { line = []; held = []; room = most; beyond = []; ended = false }
-      → Serves texts (allowed reading) end before after answers answered (not_given reading left) sent sent_last
-      → (asked : List Fetched) × (answered ≡ answers ++ asked) × IsServed texts most end (record { before = before; after = after; asked = asked }) left sent sent_last
+      → Serves tools (allowed reading) end before after answers answered (not_given reading left) sent sent_last
+      → (asked : List Fetched) × (answered ≡ answers ++ asked) × IsServed tools most end (record { before = before; after = after; asked = asked }) left sent sent_last
   from_begin most end before after answers answered left sent sent_last reading is serves =
       let begin : Reading = record { line = []; held = []; room = most; beyond = []; ended = false } in
-      let there : Serves texts (allowed begin) end before after answers answered (not_given begin left) sent sent_last = subst (λ (r : Reading). Serves texts (allowed r) end before after answers answered (not_given r left) sent sent_last) is serves in
+      let there : Serves tools (allowed begin) end before after answers answered (not_given begin left) sent sent_last = subst (λ (r : Reading). Serves tools (allowed r) end before after answers answered (not_given r left) sent sent_last) is serves in
       let all : length {A = ℕ} [] + most ≡ most = omega arith in (
         there.asked,
         there.answered,
-        subst (λ (l : Option (List ℕ)). IsServed texts most end (record { before = before; after = after; asked = there.asked }) l sent sent_last) (none_held left most)
-            (subst (λ (n : ℕ). IsServed texts n end (record { before = before; after = after; asked = there.asked }) (not_given begin left) sent sent_last) all there.served),
+        subst (λ (l : Option (List ℕ)). IsServed tools most end (record { before = before; after = after; asked = there.asked }) l sent sent_last) (none_held left most)
+            (subst (λ (n : ℕ). IsServed tools n end (record { before = before; after = after; asked = there.asked }) (not_given begin left) sent sent_last) all there.served),
       )

@@ -12,7 +12,7 @@ use Rattle.input_lines.specs.declared.next.Next.{Next}
 use Rattle.input_lines.specs.declared.next.Next.TheVariants as next
 use Rattle.line_session.specs.Desks.{DeskOf}
 use Rattle.line_session.specs.Conversations.{IsCutOff}
-use Rattle.line_session.specs.Replies.{Texts}
+use Rattle.line_session.specs.Tools.{ToolsOf}
 use Rattle.line_session.specs.Turns.{Answers, HasPassed, Replies, Turn}
 use Rattle.line_session.specs.declared.end.SessionEnd.{SessionEnd}
 use Rattle.line_session.specs.declared.end.SessionEnd.TheVariants.{LongLine, SendFault}
@@ -38,13 +38,13 @@ heard_then a b c answers answered files heard last asked here then = record { pa
 abbrev FirstTold : Reading → Reading → Option (List ℕ) → Option (List ℕ) → Next → Type 0
 FirstTold reading then left rest next = IsAtEnd reading.ended left → TellsFront (not_given reading left) (allowed reading) next then.line (not_given then rest) (allowed then)
 
-module _ (texts : Texts) where
+module _ (tools : ToolsOf) where
   -- a line came, and was answered
   pub line_turn :
       (reading then : Reading) (before after : DeskOf) (a b c : List Event) (answers answered : List Fetched) (files : Option Files) (left rest behind : Option (List ℕ)) (line : List ℕ) (end : Option SessionEnd) → line ≡ then.line → behind ≡ rest → (events : List Event) × (b ≡ a ++ events) × Tells reading events then (Ok next.Line)
       → (IsAtEnd reading.ended left → TellsFront (not_given reading left) (allowed reading) next.Line then.line (not_given then rest) (allowed then))
-      → (events : List Event) × (asked : List Fetched) × HasPassed b c answers answered files events asked × Replies texts (record { before = before; after = after; asked = asked }) line events end
-      → (events : List Event) × (asked : List Fetched) × HasPassed a c answers answered files events asked × Turn texts reading then (record { before = before; after = after; asked = asked }) events left behind end
+      → (events : List Event) × (asked : List Fetched) × HasPassed b c answers answered files events asked × Replies tools (record { before = before; after = after; asked = asked }) line events end
+      → (events : List Event) × (asked : List Fetched) × HasPassed a c answers answered files events asked × Turn tools reading then (record { before = before; after = after; asked = asked }) events left behind end
   line_turn reading then before after a b c answers answered files left rest behind line end same unread (heard, here, tells) first (last, asked, passed, replies) = (
     heard ++ last,
     asked,
@@ -56,7 +56,7 @@ module _ (texts : Texts) where
       tells = tells;
       first = subst (λ (l : Option (List ℕ)). FirstTold reading then left l next.Line) (sym unread) first;
       events_are = refl;
-      answers = subst (λ (l : List ℕ). Replies texts (record { before = before; after = after; asked = asked }) l last end) same replies;
+      answers = subst (λ (l : List ℕ). Replies tools (record { before = before; after = after; asked = asked }) l last end) same replies;
     },
   )
 
@@ -65,7 +65,7 @@ module _ (texts : Texts) where
       (reading then : Reading) (desk : DeskOf) (a b c : List Event) (answers : List Fetched) (files : Option Files) (left rest behind : Option (List ℕ)) (end : SessionEnd) → behind ≡ rest → (events : List Event) × (b ≡ a ++ events) × Tells reading events then (Ok next.TooLong)
       → (IsAtEnd reading.ended left → TellsFront (not_given reading left) (allowed reading) next.TooLong then.line (not_given then rest) (allowed then))
       → (end ≡ LongLine) ⊎ (end ≡ SendFault) → (end ≡ LongLine → c ≡ b ++ took too_long_reply ∷ []) → (end ≡ SendFault → (last : List Event) × (c ≡ b ++ last) × IsCutOff too_long_reply last)
-      → (events : List Event) × (asked : List Fetched) × HasPassed a c answers answers files events asked × Turn texts reading then (record { before = desk; after = desk; asked = asked }) events left behind (Some end)
+      → (events : List Event) × (asked : List Fetched) × HasPassed a c answers answers files events asked × Turn tools reading then (record { before = desk; after = desk; asked = asked }) events left behind (Some end)
   long_turn reading then desk a b c answers files left rest behind end unread (heard, here, tells) first (inl is) all front = (
     heard ++ took too_long_reply ∷ [],
     [],
@@ -77,7 +77,7 @@ module _ (texts : Texts) where
       tells = tells;
       first = subst (λ (l : Option (List ℕ)). FirstTold reading then left l next.TooLong) (sym unread) first;
       events_are = refl;
-      answers = subst (λ (e : SessionEnd). Answers texts (Ok next.TooLong) (record { before = desk; after = desk; asked = [] }) then.line (took too_long_reply ∷ []) (Some e)) (sym is) ((refl, refl), refl);
+      answers = subst (λ (e : SessionEnd). Answers tools (Ok next.TooLong) (record { before = desk; after = desk; asked = [] }) then.line (took too_long_reply ∷ []) (Some e)) (sym is) ((refl, refl), refl);
     },
   )
   long_turn reading then desk a b c answers files left rest behind end unread (heard, here, tells) first (inr is) all front =
@@ -92,15 +92,15 @@ module _ (texts : Texts) where
           tells = tells;
           first = subst (λ (l : Option (List ℕ)). FirstTold reading then left l next.TooLong) (sym unread) first;
           events_are = refl;
-          answers = subst (λ (e : SessionEnd). Answers texts (Ok next.TooLong) (record { before = desk; after = desk; asked = [] }) then.line cut.0 (Some e)) (sym is) ((refl, refl), cut.2);
+          answers = subst (λ (e : SessionEnd). Answers tools (Ok next.TooLong) (record { before = desk; after = desk; asked = [] }) then.line cut.0 (Some e)) (sym is) ((refl, refl), cut.2);
         },
       )
 
   -- the session ends at what came, and nothing is answered
   pub still_turn :
       (reading then : Reading) (desk : DeskOf) (a b : List Event) (answers : List Fetched) (files : Option Files) (left rest : Option (List ℕ)) (told : Result Next Failed) (end : SessionEnd) → (events : List Event) × (b ≡ a ++ events) × Tells reading events then told → IfOk told (FirstTold reading then left rest)
-      → Answers texts told (record { before = desk; after = desk; asked = [] }) then.line [] (Some end)
-      → (events : List Event) × (asked : List Fetched) × HasPassed a b answers answers files events asked × Turn texts reading then (record { before = desk; after = desk; asked = asked }) events left rest (Some end)
+      → Answers tools told (record { before = desk; after = desk; asked = [] }) then.line [] (Some end)
+      → (events : List Event) × (asked : List Fetched) × HasPassed a b answers answers files events asked × Turn tools reading then (record { before = desk; after = desk; asked = asked }) events left rest (Some end)
   still_turn reading then desk a b answers files left rest told end (heard, here, tells) first answered = (
     heard,
     [],

@@ -21,7 +21,8 @@ use Rattle.fact_versions.specs.FactRows.{FactRows}
 use Rattle.fault_texts.specs.FaultTexts.{refused_append_text, refused_batch_text}
 use Rattle.line_session.specs.Answered.{UnbuiltIsReplied}
 use Rattle.line_session.specs.Desks.{with_more}
-use Rattle.line_session.specs.Replies.{AnswersAppend, AnswersFlush, AnswersLine, AnswersMeaning, AnswersRequest, AnswersShow, AppendsFile, AppendsRows, Dealing, IsGridOf, LeavesUnread, Texts, catalog_of, front_reply, kept_text}
+use Rattle.line_session.specs.Replies.{AnswersAppend, AnswersFlush, AnswersLine, AnswersMeaning, AnswersRequest, AnswersShow, AppendsFile, AppendsRows, Dealing, IsGridOf, LeavesUnread, catalog_of, front_reply, kept_text}
+use Rattle.line_session.specs.Tools.{ToolsOf}
 use Rattle.line_session.proofs.Wanting.{differ}
 
 -- a reply is not that something is not built, by one of its bytes
@@ -45,15 +46,15 @@ told_refusal (refusal.AxisTwice hierarchy) reply is told = other 4 (refusal_repl
 told_refusal (refusal.MixedSet at) reply is told = other 4 (refusal_reply (refusal.MixedSet at)) (λ same. omega arith) reply is told
 told_refusal (refusal.TooManyCells count limit) reply is told = other 4 (refusal_reply (refusal.TooManyCells count limit)) (λ same. omega arith) reply is told
 
-told_meaning : (texts : Texts) (dealing : Dealing) (meant : Result Axes Refusal) (position : Option ℕ) (reply : List ℕ) → AnswersMeaning texts dealing meant position reply → reply ≡ unbuilt_reply → ⊥
-told_meaning texts dealing (Ok axes) position reply (inl gives) told = by gives.grid
+told_meaning : (tools : ToolsOf) (dealing : Dealing) (meant : Result Axes Refusal) (position : Option ℕ) (reply : List ℕ) → AnswersMeaning tools dealing meant position reply → reply ≡ unbuilt_reply → ⊥
+told_meaning tools dealing (Ok axes) position reply (inl gives) told = by gives.grid
   where
-    by : IsGridOf texts (catalog_of dealing.before) axes gives.answer reply ⊎ (reply ≡ no_memory_reply) → ⊥
+    by : IsGridOf tools (catalog_of dealing.before) axes gives.answer reply ⊎ (reply ≡ no_memory_reply) → ⊥
     by (inl grid) = other 0 _ (λ same. omega arith) reply grid.written.is told
     by (inr lacks) = no_memory reply lacks told
-told_meaning texts dealing (Ok axes) position reply (inr gives) told = no_memory reply gives.no_memory told
-told_meaning texts dealing (Err refused) position reply (still, inl is) told = told_refusal refused reply is told
-told_meaning texts dealing (Err refused) position reply (still, inr lacks) told = no_memory reply lacks told
+told_meaning tools dealing (Ok axes) position reply (inr gives) told = no_memory reply gives.no_memory told
+told_meaning tools dealing (Err refused) position reply (still, inl is) told = told_refusal refused reply is told
+told_meaning tools dealing (Err refused) position reply (still, inr lacks) told = no_memory reply lacks told
 
 told_rows : (dealing : Dealing) (cube : ℕ) (rows : Result FactRows BatchFault) (position : Option ℕ) (reply : List ℕ) → AppendsRows dealing cube rows position reply → reply ≡ unbuilt_reply → ⊥
 told_rows dealing cube (Ok rows) position reply (inl gives) told = other 0 (version_reply gives.told.position gives.told.version) (λ same. omega arith) reply gives.text told
@@ -96,18 +97,18 @@ told_kept dealing position reply (unasked, inl gives) told = by gives.text
 told_kept dealing position reply (unasked, inr lacks) told = no_memory reply lacks.no_memory told
 
 -- that something is not built is replied to what asks for that alone
-only_unbuilt : (texts : Texts) (dealing : Dealing) (line : List ℕ) (request : Request) (position : Option ℕ) (reply : List ℕ) → IsRequest line request → AnswersRequest texts dealing request position reply → reply ≡ unbuilt_reply → IsRequest line Unbuilt
-only_unbuilt texts dealing line NotText position reply asks is told = absurd (other 4 not_text_reply (λ same. omega arith) reply is.1 told)
-only_unbuilt texts dealing line Blank position reply asks is told = absurd (other 0 [] (λ same. omega arith) reply is.1 told)
-only_unbuilt texts dealing line NoCommand position reply asks is told = absurd (other 4 no_command_reply (λ same. omega arith) reply is.1 told)
-only_unbuilt texts dealing line (Stops byte) position reply asks is told = absurd (other 4 (syntax_reply byte) (λ same. omega arith) reply is.1 told)
-only_unbuilt texts dealing line Quit position reply asks is told = absurd (other 0 quit_reply (λ same. omega arith) reply is.1 told)
-only_unbuilt texts dealing line (After n) position reply asks is told = absurd (told_front n is.front reply is.text told)
-only_unbuilt texts dealing line (Append argument) position reply asks is told = absurd (told_append dealing argument (find_cube (catalog_of dealing.before) argument.cube) position reply is told)
-only_unbuilt texts dealing line (Ask query) position reply asks is told = absurd (told_meaning texts dealing (axes_meant (catalog_of dealing.before) query) position reply is.1 told)
-only_unbuilt texts dealing line (Flush text) position reply asks is told = absurd (told_flush dealing (cube_named (catalog_of dealing.before) text) (flush_meant (catalog_of dealing.before) text) position reply is told)
-only_unbuilt texts dealing line Show position reply asks is told = absurd (told_kept dealing position reply is told)
-only_unbuilt texts dealing line Unbuilt position reply asks is told = asks
+only_unbuilt : (tools : ToolsOf) (dealing : Dealing) (line : List ℕ) (request : Request) (position : Option ℕ) (reply : List ℕ) → IsRequest line request → AnswersRequest tools dealing request position reply → reply ≡ unbuilt_reply → IsRequest line Unbuilt
+only_unbuilt tools dealing line NotText position reply asks is told = absurd (other 4 not_text_reply (λ same. omega arith) reply is.1 told)
+only_unbuilt tools dealing line Blank position reply asks is told = absurd (other 0 [] (λ same. omega arith) reply is.1 told)
+only_unbuilt tools dealing line NoCommand position reply asks is told = absurd (other 4 no_command_reply (λ same. omega arith) reply is.1 told)
+only_unbuilt tools dealing line (Stops byte) position reply asks is told = absurd (other 4 (syntax_reply byte) (λ same. omega arith) reply is.1 told)
+only_unbuilt tools dealing line Quit position reply asks is told = absurd (other 0 quit_reply (λ same. omega arith) reply is.1 told)
+only_unbuilt tools dealing line (After n) position reply asks is told = absurd (told_front n is.front reply is.text told)
+only_unbuilt tools dealing line (Append argument) position reply asks is told = absurd (told_append dealing argument (find_cube (catalog_of dealing.before) argument.cube) position reply is told)
+only_unbuilt tools dealing line (Ask query) position reply asks is told = absurd (told_meaning tools dealing (axes_meant (catalog_of dealing.before) query) position reply is.1 told)
+only_unbuilt tools dealing line (Flush text) position reply asks is told = absurd (told_flush dealing (cube_named (catalog_of dealing.before) text) (flush_meant (catalog_of dealing.before) text) position reply is told)
+only_unbuilt tools dealing line Show position reply asks is told = absurd (told_kept dealing position reply is told)
+only_unbuilt tools dealing line Unbuilt position reply asks is told = asks
 
 -- a line with a command of which nothing is built has none whose argument may take memory
 takes_none : (line : List ℕ) → MayTakeMemory line → has_one_of unbuilt_commands line ≡ true → ⊥
@@ -115,13 +116,13 @@ takes_none line (utf8, inl mdx) has = none_is_no (argument_of (codes "MDX") line
 takes_none line (utf8, inr (inl append)) has = none_is_no (argument_of (codes "APPEND") line) (built_no (codes "APPEND") line refl has) append
 takes_none line (utf8, inr (inr flush)) has = none_is_no (argument_of (codes "FLUSH") line) (built_no (codes "FLUSH") line refl has) flush
 
-pub unbuilt_replied : (texts : Texts) → UnbuiltIsReplied texts
-unbuilt_replied texts dealing handled handles = (replied handles.answers, has handles.answers)
+pub unbuilt_replied : (tools : ToolsOf) → UnbuiltIsReplied tools
+unbuilt_replied tools dealing handled handles = (replied handles.answers, has handles.answers)
   where
-    replied : AnswersLine texts dealing handled ⊎ LeavesUnread dealing handled → handled.reply ≡ unbuilt_reply → IsRequest handled.line Unbuilt
-    replied (inl line) told = only_unbuilt texts dealing handled.line line.request handled.position handled.reply line.asks line.answers told
+    replied : AnswersLine tools dealing handled ⊎ LeavesUnread dealing handled → handled.reply ≡ unbuilt_reply → IsRequest handled.line Unbuilt
+    replied (inl line) told = only_unbuilt tools dealing handled.line line.request handled.position handled.reply line.asks line.answers told
     replied (inr unread) told = absurd (no_memory handled.reply unread.no_memory told)
 
-    has : AnswersLine texts dealing handled ⊎ LeavesUnread dealing handled → IsRequest handled.line Unbuilt → handled.reply ≡ unbuilt_reply
-    has (inl line) asks = (subst (λ (r : Request). AnswersRequest texts dealing r handled.position handled.reply) (sym (line.only Unbuilt asks)) line.answers).1
+    has : AnswersLine tools dealing handled ⊎ LeavesUnread dealing handled → IsRequest handled.line Unbuilt → handled.reply ≡ unbuilt_reply
+    has (inl line) asks = (subst (λ (r : Request). AnswersRequest tools dealing r handled.position handled.reply) (sym (line.only Unbuilt asks)) line.answers).1
     has (inr unread) asks = absurd (takes_none handled.line unread.takes asks.1)

@@ -14,20 +14,22 @@ use Rattle.query_meaning.specs.WholeFlushes.{WritesFlush}
 use Rattle.query_meaning.specs.WholeQueries.{WritesQuery}
 use Rattle.history_core.specs.declared.answers.Answer.{Answer}
 use Rattle.line_session.specs.Desks.{AddsNone, HasAsked}
-use Rattle.line_session.specs.Replies.{AnswersFlush, AnswersShow, Dealing, Handled, Handles, IsGridOf, Texts, catalog_of}
+use Rattle.line_session.specs.Replies.{AnswersFlush, AnswersShow, Dealing, Handled, Handles, IsGridOf, catalog_of}
+use Rattle.line_session.specs.Tools.{ToolsOf}
 
 -- where a line of text is a query that means axes, and no want of memory is replied, the reply is the grid of an answer to
 -- their cells
-abbrev pub QueriesAreAnswered : Texts → Type 0
-QueriesAreAnswered texts =
+abbrev pub QueriesAreAnswered : ToolsOf → Type 0
+QueriesAreAnswered tools =
     (dealing : Dealing) (handled : Handled) (argument : List ℕ) (query : Query) (axes : Axes)
-    → Handles texts dealing handled
+    → Handles tools dealing handled
     → is_utf8 handled.line ≡ true → argument_of (codes "MDX") handled.line ≡ Some argument
     → WritesQuery argument query → axes_meant (catalog_of dealing.before) query ≡ Ok axes
     → handled.reply ≢ no_memory_reply
     → (answer : Answer)
-    × HasAsked dealing.before dealing.after (cells_of (catalog_of dealing.before) axes) answer
-    × IsGridOf texts (catalog_of dealing.before) axes answer handled.reply
+    × HasAsked tools.allowed dealing.before dealing.after
+    (cells_of (catalog_of dealing.before) axes) answer
+    × IsGridOf tools (catalog_of dealing.before) axes answer handled.reply
 
 -- a line that is a flush of this text was answered by what it means: where it means a region, this is flushed, and the
 -- reply is the position of the entry; where it means none, nothing is added, and the reply is the first refusal; and where
@@ -40,24 +42,24 @@ pub record FlushIsAnswered (dealing : Dealing) (text : RegionText)
       → AddsNone dealing.before dealing.after × (handled.position ≡ None)
 
 -- a line of text that is a flush is answered by what the flush means
-abbrev pub FlushesAreAnswered : Texts → Type 0
-FlushesAreAnswered texts =
+abbrev pub FlushesAreAnswered : ToolsOf → Type 0
+FlushesAreAnswered tools =
     (dealing : Dealing) (handled : Handled) (argument : List ℕ) (text : RegionText)
-    → Handles texts dealing handled
+    → Handles tools dealing handled
     → is_utf8 handled.line ≡ true → argument_of (codes "FLUSH") handled.line ≡ Some argument
     → WritesFlush argument text → FlushIsAnswered dealing text handled
 
 -- a line of text that asks for what is kept is answered: the look is an entry, and the reply is the text of what was kept
 -- before it; or there was no memory
-abbrev pub LooksAreAnswered : Texts → Type 0
-LooksAreAnswered texts =
-    (dealing : Dealing) (handled : Handled) → Handles texts dealing handled
+abbrev pub LooksAreAnswered : ToolsOf → Type 0
+LooksAreAnswered tools =
+    (dealing : Dealing) (handled : Handled) → Handles tools dealing handled
     → is_utf8 handled.line ≡ true → is_show handled.line ≡ true
     → AnswersShow dealing handled.position handled.reply
 
 -- that something is not built is replied to just the lines of text with a command of which nothing is
-abbrev pub UnbuiltIsReplied : Texts → Type 0
-UnbuiltIsReplied texts =
-    (dealing : Dealing) (handled : Handled) → Handles texts dealing handled
+abbrev pub UnbuiltIsReplied : ToolsOf → Type 0
+UnbuiltIsReplied tools =
+    (dealing : Dealing) (handled : Handled) → Handles tools dealing handled
     → (handled.reply ≡ unbuilt_reply)
     ↔ ((is_utf8 handled.line ≡ true) × (has_one_of unbuilt_commands handled.line ≡ true))

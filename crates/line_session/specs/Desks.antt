@@ -2,6 +2,7 @@
 use Rattle.std.specs.Prelude.{ℕ, ◌≡◌, ◌⊎◌, ◌+◌, ◌<◌, ◌≤◌, ⊤, List, [], ◌∷◌, ◌++◌, Bool, true, false, Contains, Option, Some, None, drop, length, map, option_map, sum_by, take, filter, is_some, not}
 use Rattle.std.specs.List.{list_all}
 use Rattle.olap_meaning.specs.declared.cells.Cell.{Cell}
+use Rattle.olap_meaning.specs.declared.cells.Header.{Header}
 use Rattle.olap_meaning.specs.declared.cells.Who.{Who}
 use Rattle.olap_meaning.specs.declared.regions.Region.{Region}
 use Rattle.olap_meaning.specs.declared.tables.Row.{Row}
@@ -15,7 +16,8 @@ use Rattle.fact_versions.specs.declared.faults.AppendFault.TheVariants as fault
 use Rattle.history_core.specs.Answers.{IsAnswer}
 use Rattle.history_core.specs.Arrivals.{arrival_in}
 use Rattle.history_core.specs.Cache.{CacheOf}
-use Rattle.history_core.specs.Groups.{loads_for, numbers_from}
+use Rattle.history_core.specs.Groups.{AreHeadersFor, IsHeaderFor, alike, firsts, load_count, load_with, loads_with, numbers_from, wanted_of}
+use Rattle.segment_header.specs.Widening.{Allowing}
 use Rattle.history_core.specs.Seats.{actor, entries_of}
 use Rattle.history_core.specs.Shown.{cache_lines}
 use Rattle.history_core.specs.declared.answers.Answer.{Answer}
@@ -93,42 +95,61 @@ none_behind_drops (entry ∷ entries) = none_behind_drops entries
 abbrev pub unawaited : List Entry → List Cell → List Cell
 unawaited entries cells = filter (λ cell. not (is_some (awaited_load entries cell))) cells
 
--- the loads that a look at some cells starts over these entries: those that the cells lack for which none is awaited
-abbrev pub loads_of_look : CacheOf → List Entry → Who → List Cell → List Load
-loads_of_look cache entries who cells =
-    loads_for
-    (record { setting = cache.setting; entries = entries }) who (unawaited entries cells)
+-- a load is one that a look at some cells may start: that of one of their groups, with a header as may be allowed
+pub record MayBeStarted (allowing : Allowing) (cache : CacheOf) (who : Who) (cells : List Cell)
+    (load : Load) : Type 0 where
+  pub first : Cell
+  pub own : Contains (firsts [] (wanted_of cache cells)) first
+  pub allowed : IsHeaderFor allowing cache.setting.catalog first
+      (filter (alike first) (wanted_of cache cells)) load.header
+  pub load_is : load ≡ load_with cache who first load.header
+
+-- a load is one that a look at some cells may start over these entries: one that the cells lack for which none is awaited
+abbrev pub IsLoadOfLook : Allowing → CacheOf → List Entry → Who → List Cell → Load → Type 0
+IsLoadOfLook allowing cache entries who cells load =
+    MayBeStarted allowing
+    (record { setting = cache.setting; entries = entries }) who (unawaited entries cells) load
 
 -- the Start at a position is one of a look at some cells, behind so many entries: that look gives it over what was
 -- seen then, and since then there are only Starts of the same call
-pub record IsOfLook (cache : CacheOf) (begun : ℕ) (who : Who) (cells : List Cell) (p : ℕ)
-    (load : Load) : Type 0 where
+pub record IsOfLook (allowing : Allowing) (cache : CacheOf) (begun : ℕ) (who : Who)
+    (cells : List Cell) (p : ℕ) (load : Load) : Type 0 where
   pub front : ℕ
   pub late : begun ≤ front
   pub earlier : front < p
   pub together : (q : ℕ) → front < q → q < p
       → (other : Load) × (load_at cache.entries q ≡ Some other) × (other.who ≡ who)
-  pub given : Contains (loads_of_look cache (take front cache.entries) who cells) load
+  pub given : IsLoadOfLook allowing cache (take front cache.entries) who cells load
 
 -- the entries of a seat among some that were added are parts of loads for some cells, all of one call: each Start is
 -- one of a look at just these cells
-pub record AreLoadsFor (before : CacheOf) (who : Who) (cells : List Cell)
+pub record AreLoadsFor (allowing : Allowing) (before : CacheOf) (who : Who) (cells : List Cell)
     (more : List Entry) : Type 0 where
   pub parts : list_all is_of_load (entries_of more who.seat) ≡ true
   pub call : (entry : Entry) → Contains (entries_of more who.seat) entry → actor entry ≡ Some who
   pub starts : (p : ℕ) (load : Load) → length before.entries < p
       → load_at (before.entries ++ more) p ≡ Some load → load.who ≡ who
-      → IsOfLook (with_more before more) (length before.entries) who cells p load
+      → IsOfLook allowing (with_more before more) (length before.entries) who cells p load
 
 -- the numbers of the loads that some cells lack, in the order of their Starts
-abbrev pub load_numbers : CacheOf → Who → List Cell → List ℕ
-load_numbers cache who cells =
-    numbers_from (length cache.entries + 1) (length (loads_for cache who cells))
+abbrev pub load_numbers : CacheOf → List Cell → List ℕ
+load_numbers cache cells = numbers_from (length cache.entries + 1) (load_count cache cells)
 
--- the loads that some cells lack are started and then delivered, each in its turn
-abbrev pub loads_delivered : CacheOf → Who → List Cell → List Entry
-loads_delivered cache who cells =
-    map Start (loads_for cache who cells) ++ map (Done who) (load_numbers cache who cells)
+-- the loads that some cells lack are started with these headers, and then delivered, each in its turn
+abbrev pub delivered_with : CacheOf → Who → List Cell → List Header → List Entry
+delivered_with cache who cells headers =
+    map Start (loads_with cache who cells headers) ++ map (Done who) (load_numbers cache cells)
+
+-- headers are those of the loads that some cells lack, as may be allowed
+abbrev pub AreHeadersOf : Allowing → CacheOf → List Cell → List Header → Type 0
+AreHeadersOf allowing cache cells headers =
+    AreHeadersFor allowing cache.setting.catalog (wanted_of cache cells) headers
+
+-- the loads that some cells lack are started, with headers as may be allowed, and then delivered, each in its turn
+abbrev pub AreLoadsDelivered : Allowing → CacheOf → Who → List Cell → List Entry → Type 0
+AreLoadsDelivered allowing cache who cells more =
+    (headers : List Header) × AreHeadersOf allowing cache cells headers
+    × (more ≡ delivered_with cache who cells headers)
 
 -- AreEnds who numbers entries: these loads are ended, each in its turn: delivered, or given up
 abbrev pub AreEnds : Who → List ℕ → List Entry → Type 0
@@ -137,40 +158,44 @@ AreEnds who (j ∷ js) (entry ∷ entries) =
     ((entry ≡ Done who j) ⊎ (entry ≡ Drop who j)) × AreEnds who js entries
 AreEnds who numbers entries = ⊥
 
--- nothing is added, or the loads that some cells lack are started, and then each is ended
-abbrev pub AreLoadsEnded : CacheOf → Who → List Cell → List Entry → Type 0
-AreLoadsEnded cache who cells more =
+-- nothing is added, or the loads that some cells lack are started, with headers as may be allowed, and then each is
+-- ended
+abbrev pub AreLoadsEnded : Allowing → CacheOf → Who → List Cell → List Entry → Type 0
+AreLoadsEnded allowing cache who cells more =
     (more ≡ [])
-    ⊎ ((ends : List Entry) × AreEnds who (load_numbers cache who cells) ends
-    × (more ≡ map Start (loads_for cache who cells) ++ ends))
+    ⊎ ((headers : List Header) × AreHeadersOf allowing cache cells headers
+    × (ends : List Entry) × AreEnds who (load_numbers cache cells) ends
+    × (more ≡ map Start (loads_with cache who cells headers) ++ ends))
 
 -- cells were answered: the loads that they lack, each delivered, and then, as the last entry, the answer to the cells
 -- at that time, with the sources that it tells; no load of the seat flies. A desk alone starts the loads of one look, and
 -- none where each cell has a source
-pub record HasAsked (before after : DeskOf) (cells : List Cell) (answer : Answer) : Type 0 where
+pub record HasAsked (allowing : Allowing) (before after : DeskOf) (cells : List Cell)
+    (answer : Answer) : Type 0 where
   pub who : Who
   pub own : who.seat ≡ before.seat
   pub more : List Entry
   pub adds : AddsCall before after more (history.Answer who answer.sources.value)
-  pub loads : AreLoadsFor before.cache who cells more
+  pub loads : AreLoadsFor allowing before.cache who cells more
   pub delivered : list_all is_start_or_done (entries_of more before.seat) ≡ true
-  pub alone : before.alone ≡ true → more ≡ loads_delivered before.cache who cells
+  pub alone : before.alone ≡ true → AreLoadsDelivered allowing before.cache who cells more
   pub answered : IsAnswer (with_more before.cache more) cells answer
   pub idle : IsIdle after
 
 -- cells were not answered: at most loads that they lack were started, for the seat's next call, and no load of the seat
 -- flies; behind one that was given up none was started
-pub record HasNotAsked (before after : DeskOf) (cells : List Cell) : Type 0 where
+pub record HasNotAsked (allowing : Allowing) (before after : DeskOf)
+    (cells : List Cell) : Type 0 where
   pub who : Who
   pub own : who.seat ≡ before.seat
   pub next : is_next_call before.cache.entries who ≡ true
   pub more : List Entry
   pub goes_on : GoesOnBy before after more
   pub fronts : after.fronts ≡ before.fronts
-  pub loads : AreLoadsFor before.cache who cells more
+  pub loads : AreLoadsFor allowing before.cache who cells more
   pub given_up : none_behind_drops (entries_of more before.seat) ≡ true
   pub idle : IsIdle after
-  pub alone : before.alone ≡ true → AreLoadsEnded before.cache who cells more
+  pub alone : before.alone ≡ true → AreLoadsEnded allowing before.cache who cells more
 
 -- rows were appended to a cube: as the last entry, by the seat; it makes the cube's next version
 pub record HasAppended (before after : DeskOf) (cube : ℕ) (rows : List Row)

@@ -5,3 +5,4 @@ pub mod Sessions
 pub mod Conversations
 pub mod Turns
 pub mod Answered
+pub mod Tools

@@ -2,7 +2,6 @@
 use Rattle.std.specs.Prelude.{ℕ, ◌≡◌, ◌⊎◌, ◌+◌, List, [], ◌∷◌, Option, Some, None, Result, Ok, Err, length, nat_le, if◌then◌else◌}
 use Rattle.olap_meaning.specs.declared.tables.Catalog.{Catalog}
 use Rattle.olap_meaning.specs.Catalog.{find_cube}
-use Rattle.olap_meaning.specs.declared.CellValue.{CellValue}
 use Rattle.olap_meaning.specs.declared.regions.Region.{Region}
 use Rattle.olap_meaning.specs.History.{Entry}
 use Rattle.query_meaning.specs.declared.axes.Axes.{Axes}
@@ -32,11 +31,8 @@ use Rattle.history_core.specs.declared.answers.Appended.{Appended}
 use Rattle.history_core.specs.declared.answers.CacheView.{CacheView}
 use Rattle.result_layout.specs.Axes.{values_of}
 use Rattle.result_layout.specs.CacheTexts.{cache_text}
+use Rattle.line_session.specs.Tools.{ToolsOf}
 use Rattle.line_session.specs.Desks.{AddsNone, DeskOf, HasAppended, HasAsked, HasFlushed, HasReadFront, HasNotAsked, HasShown, with_more}
-
--- which texts may be given for a value
-abbrev pub Texts : Type 1
-Texts = CellValue → List ℕ → Type 0
 
 -- a line that was handled: the line, the position of its entry, where it has one, and its reply
 pub record Handled : Type 0 where
@@ -62,37 +58,38 @@ pub record StandsStill (dealing : Dealing) (position : Option ℕ) : Type 0 wher
 
 -- a text is the grid of an answer over the axes of a query: it shows each value by a text that may be given for it; and
 -- whatever shows the values, it has the form of this grid
-pub record IsGridOf (texts : Texts) (catalog : Catalog) (axes : Axes) (answer : Answer)
+pub record IsGridOf (tools : ToolsOf) (catalog : Catalog) (axes : Axes) (answer : Answer)
     (text : List ℕ) : Type 0 where
-  pub written : IsGridText texts
+  pub written : IsGridText tools.texts
       (grid_of catalog axes answer.position (values_of answer.cells)) text
   pub form : IsOfGrid text (grid_of catalog axes answer.position (values_of answer.cells))
 
 -- the cells of axes were answered in one answer, in their order, and the reply is the grid of the answer; or, since there
 -- was no memory for the grid, that
-pub record GivesGrid (texts : Texts) (dealing : Dealing) (axes : Axes) (position : Option ℕ)
+pub record GivesGrid (tools : ToolsOf) (dealing : Dealing) (axes : Axes) (position : Option ℕ)
     (reply : List ℕ) : Type 0 where
   pub answer : Answer
-  pub asks : HasAsked dealing.before dealing.after
+  pub asks : HasAsked tools.allowed dealing.before dealing.after
       (cells_of (catalog_of dealing.before) axes) answer
   pub position_is : position ≡ Some answer.position
-  pub grid : IsGridOf texts (catalog_of dealing.before) axes answer reply
+  pub grid : IsGridOf tools (catalog_of dealing.before) axes answer reply
       ⊎ (reply ≡ no_memory_reply)
 
 -- there was no memory for the query or its cells, or for their loads or their answer
-pub record GivesNoGrid (dealing : Dealing) (axes : Axes) (position : Option ℕ)
+pub record GivesNoGrid (tools : ToolsOf) (dealing : Dealing) (axes : Axes) (position : Option ℕ)
     (reply : List ℕ) : Type 0 where
   pub asks : (dealing.after ≡ dealing.before)
-      ⊎ HasNotAsked dealing.before dealing.after (cells_of (catalog_of dealing.before) axes)
+      ⊎ HasNotAsked tools.allowed dealing.before dealing.after
+      (cells_of (catalog_of dealing.before) axes)
   pub none : position ≡ None
   pub no_memory : reply ≡ no_memory_reply
 
 -- the reply to a query by what it means: the grid of the answer to its cells; or its first refusal; and there may be no
 -- memory
-abbrev pub AnswersMeaning : Texts → Dealing → Result Axes Refusal → Option ℕ → List ℕ → Type 0
-AnswersMeaning texts dealing (Ok axes) position reply =
-    GivesGrid texts dealing axes position reply ⊎ GivesNoGrid dealing axes position reply
-AnswersMeaning texts dealing (Err refused) position reply =
+abbrev pub AnswersMeaning : ToolsOf → Dealing → Result Axes Refusal → Option ℕ → List ℕ → Type 0
+AnswersMeaning tools dealing (Ok axes) position reply =
+    GivesGrid tools dealing axes position reply ⊎ GivesNoGrid tools dealing axes position reply
+AnswersMeaning tools dealing (Err refused) position reply =
     StandsStill dealing position
     × ((reply ≡ refusal_reply refused) ⊎ (reply ≡ no_memory_reply))
 
@@ -212,36 +209,36 @@ AnswersShow dealing position reply =
     × (GivesKept dealing position reply ⊎ LacksMemory dealing position reply)
 
 -- the reply to a line that asks for this, the position of its entry, and what it adds
-abbrev pub AnswersRequest : Texts → Dealing → Request → Option ℕ → List ℕ → Type 0
-AnswersRequest texts dealing NotText position reply =
+abbrev pub AnswersRequest : ToolsOf → Dealing → Request → Option ℕ → List ℕ → Type 0
+AnswersRequest tools dealing NotText position reply =
     StandsStill dealing position × (reply ≡ not_text_reply)
-AnswersRequest texts dealing Blank position reply = StandsStill dealing position × (reply ≡ [])
-AnswersRequest texts dealing NoCommand position reply =
+AnswersRequest tools dealing Blank position reply = StandsStill dealing position × (reply ≡ [])
+AnswersRequest tools dealing NoCommand position reply =
     StandsStill dealing position × (reply ≡ no_command_reply)
-AnswersRequest texts dealing (Stops byte) position reply =
+AnswersRequest tools dealing (Stops byte) position reply =
     StandsStill dealing position × (reply ≡ syntax_reply byte)
-AnswersRequest texts dealing Quit position reply = StandsStill dealing position × (reply ≡ quit_reply)
-AnswersRequest texts dealing (After asked) position reply = TellsWhatIsSeen dealing asked position reply
-AnswersRequest texts dealing (Append argument) position reply =
+AnswersRequest tools dealing Quit position reply = StandsStill dealing position × (reply ≡ quit_reply)
+AnswersRequest tools dealing (After asked) position reply = TellsWhatIsSeen dealing asked position reply
+AnswersRequest tools dealing (Append argument) position reply =
     AnswersAppend dealing argument
     (find_cube (catalog_of dealing.before) argument.cube) position reply
-AnswersRequest texts dealing (Ask query) position reply =
+AnswersRequest tools dealing (Ask query) position reply =
     (dealing.asked ≡ [])
-    × AnswersMeaning texts dealing
+    × AnswersMeaning tools dealing
     (axes_meant (catalog_of dealing.before) query) position reply
-AnswersRequest texts dealing (Flush text) position reply =
+AnswersRequest tools dealing (Flush text) position reply =
     AnswersFlush dealing (cube_named (catalog_of dealing.before) text)
     (flush_meant (catalog_of dealing.before) text) position reply
-AnswersRequest texts dealing Show position reply = AnswersShow dealing position reply
-AnswersRequest texts dealing Unbuilt position reply =
+AnswersRequest tools dealing Show position reply = AnswersShow dealing position reply
+AnswersRequest tools dealing Unbuilt position reply =
     StandsStill dealing position × (reply ≡ unbuilt_reply)
 
 -- a line was read, which asks for this and for nothing else, and answered
-pub record AnswersLine (texts : Texts) (dealing : Dealing) (handled : Handled) : Type 0 where
+pub record AnswersLine (tools : ToolsOf) (dealing : Dealing) (handled : Handled) : Type 0 where
   pub request : Request
   pub asks : IsRequest handled.line request
   pub only : (other : Request) → IsRequest handled.line other → other ≡ request
-  pub answers : AnswersRequest texts dealing request handled.position handled.reply
+  pub answers : AnswersRequest tools dealing request handled.position handled.reply
 
 -- there was no memory to read a line, whose command has an argument that may take memory; it added nothing
 pub record LeavesUnread (dealing : Dealing) (handled : Handled) : Type 0 where
@@ -251,6 +248,6 @@ pub record LeavesUnread (dealing : Dealing) (handled : Handled) : Type 0 where
 
 -- a line was handled. That there was no memory is replied to four commands alone, and to one of them only where its
 -- argument is of its form
-pub record Handles (texts : Texts) (dealing : Dealing) (handled : Handled) : Type 0 where
-  pub answers : AnswersLine texts dealing handled ⊎ LeavesUnread dealing handled
+pub record Handles (tools : ToolsOf) (dealing : Dealing) (handled : Handled) : Type 0 where
+  pub answers : AnswersLine tools dealing handled ⊎ LeavesUnread dealing handled
   pub lack : handled.reply ≡ no_memory_reply → MayFindNoMemory handled.line

@@ -9,7 +9,8 @@ use Rattle.outside.specs.Fetched.{Fetched}
 use Rattle.outside.specs.Told.{TakesFront}
 use Rattle.input_lines.specs.Reader.{IsSpent}
 use Rattle.line_session.specs.Desks.{DeskOf}
-use Rattle.line_session.specs.Replies.{Dealing, Handled, Handles, Texts}
+use Rattle.line_session.specs.Replies.{Dealing, Handled, Handles}
+use Rattle.line_session.specs.Tools.{ToolsOf}
 use Rattle.line_session.specs.declared.end.SessionEnd.{SessionEnd}
 use Rattle.line_session.specs.declared.end.SessionEnd.TheVariants.{Quit, EndOfInput, LongLine, Budget, ReceiveFault, SendFault, Memory}
 
@@ -17,14 +18,14 @@ use Rattle.line_session.specs.declared.end.SessionEnd.TheVariants.{Quit, EndOfIn
 abbrev pub byte_limit : ℕ
 byte_limit = 1099511627776
 
--- IsSession texts before asked handled after: these lines were handled, one after another, with these replies and entries;
+-- IsSession tools before asked handled after: these lines were handled, one after another, with these replies and entries;
 -- for them the depot was asked this, in all; and so what is seen goes on
-abbrev pub IsSession : Texts → DeskOf → List Fetched → List Handled → DeskOf → Type 0
-IsSession texts before asked [] after = (after ≡ before) × (asked ≡ [])
-IsSession texts before asked (handled ∷ more) after =
+abbrev pub IsSession : ToolsOf → DeskOf → List Fetched → List Handled → DeskOf → Type 0
+IsSession tools before asked [] after = (after ≡ before) × (asked ≡ [])
+IsSession tools before asked (handled ∷ more) after =
     (middle : DeskOf) × (first : List Fetched) × (rest : List Fetched) × (asked ≡ first ++ rest)
-    × Handles texts (record { before = before; after = middle; asked = first }) handled
-    × IsSession texts middle rest more after
+    × Handles tools (record { before = before; after = middle; asked = first }) handled
+    × IsSession tools middle rest more after
 
 -- a line ends the session
 abbrev pub ends_session : List ℕ → Bool
@@ -96,10 +97,10 @@ AreSent most end left lines before after text = after ≡ before ++ text
 
 -- a session was served: the lines that were handled are those of the input, each with its reply, and the replies were
 -- sent. At most so many bytes of the input may be taken, and one more
-pub record IsServed (texts : Texts) (most : ℕ) (end : SessionEnd) (dealing : Dealing) (left : Option (List ℕ))
+pub record IsServed (tools : ToolsOf) (most : ℕ) (end : SessionEnd) (dealing : Dealing) (left : Option (List ℕ))
     (sent_before sent_after : List ℕ) : Type 0 where
   pub handled : List Handled
-  pub session : IsSession texts dealing.before dealing.asked handled dealing.after
+  pub session : IsSession tools dealing.before dealing.asked handled dealing.after
   pub lines : IfSome left (AreHandled most end (map (λ one. one.line) handled))
   pub sent : AreSent most end left (map (λ one. one.line) handled) sent_before sent_after
       (flat_map (λ one. one.reply) handled)

@@ -8,7 +8,8 @@ use Rattle.outside.specs.declared.source.Failed.{Failed}
 use Rattle.input_lines.specs.Reader.{IsAtEnd, Reading, Tells, TellsFront, allowed, not_given}
 use Rattle.input_lines.specs.declared.next.Next.{Next}
 use Rattle.input_lines.specs.declared.next.Next.TheVariants as next
-use Rattle.line_session.specs.Replies.{Dealing, Handles, Texts}
+use Rattle.line_session.specs.Replies.{Dealing, Handles}
+use Rattle.line_session.specs.Tools.{ToolsOf}
 use Rattle.line_session.specs.Sessions.{ends_session}
 use Rattle.line_session.specs.Conversations.{IsCutOff, sent}
 use Rattle.line_session.specs.declared.end.SessionEnd.{SessionEnd}
@@ -30,11 +31,11 @@ EndsReply line reply events (Some SendFault) = IsCutOff reply events
 EndsReply line reply events (Some end) = ⊥
 
 -- a line was handled, and this has passed of its reply; the session goes on, or ends there
-pub record Replies (texts : Texts) (dealing : Dealing) (line : List ℕ) (events : List Event)
+pub record Replies (tools : ToolsOf) (dealing : Dealing) (line : List ℕ) (events : List Event)
     (end : Option SessionEnd) : Type 0 where
   pub position : Option ℕ
   pub reply : List ℕ
-  pub handles : Handles texts dealing (record { line = line; position = position; reply = reply })
+  pub handles : Handles tools dealing (record { line = line; position = position; reply = reply })
   pub ends : EndsReply line reply events end
 
 -- nothing was asked of the desk or of the depot
@@ -42,19 +43,19 @@ abbrev pub IsStill : Dealing → Type 0
 IsStill dealing = (dealing.after ≡ dealing.before) × (dealing.asked ≡ [])
 
 -- what comes next of an input was answered, and this has passed of the answer; the session goes on, or ends there
-abbrev pub Answers : Texts → Result Next Failed → Dealing → List ℕ → List Event → Option SessionEnd → Type 0
-Answers texts (Ok next.Line) dealing line events end = Replies texts dealing line events end
-Answers texts (Ok next.TooLong) dealing line events (Some LongLine) =
+abbrev pub Answers : ToolsOf → Result Next Failed → Dealing → List ℕ → List Event → Option SessionEnd → Type 0
+Answers tools (Ok next.Line) dealing line events end = Replies tools dealing line events end
+Answers tools (Ok next.TooLong) dealing line events (Some LongLine) =
     IsStill dealing × (events ≡ took too_long_reply ∷ [])
-Answers texts (Ok next.TooLong) dealing line events (Some SendFault) =
+Answers tools (Ok next.TooLong) dealing line events (Some SendFault) =
     IsStill dealing × IsCutOff too_long_reply events
-Answers texts (Ok next.End) dealing line events (Some EndOfInput) = IsStill dealing × (events ≡ [])
-Answers texts (Ok next.Spent) dealing line events (Some Budget) = IsStill dealing × (events ≡ [])
-Answers texts (Err e) dealing line events (Some ReceiveFault) = IsStill dealing × (events ≡ [])
-Answers texts told dealing line events end = ⊥
+Answers tools (Ok next.End) dealing line events (Some EndOfInput) = IsStill dealing × (events ≡ [])
+Answers tools (Ok next.Spent) dealing line events (Some Budget) = IsStill dealing × (events ≡ [])
+Answers tools (Err e) dealing line events (Some ReceiveFault) = IsStill dealing × (events ≡ [])
+Answers tools told dealing line events end = ⊥
 
 -- a turn: what comes next is heard and answered. Where the link tells what is left, it is what that begins with
-pub record Turn (texts : Texts) (reading then : Reading) (dealing : Dealing) (events : List Event)
+pub record Turn (tools : ToolsOf) (reading then : Reading) (dealing : Dealing) (events : List Event)
     (left_before left_after : Option (List ℕ)) (end : Option SessionEnd) : Type 0 where
   pub told : Result Next Failed
   pub heard : List Event
@@ -64,4 +65,4 @@ pub record Turn (texts : Texts) (reading then : Reading) (dealing : Dealing) (ev
       → TellsFront (not_given reading left_before) (allowed reading) next then.line
       (not_given then left_after) (allowed then))
   pub events_are : events ≡ heard ++ last
-  pub answers : Answers texts told dealing then.line last end
+  pub answers : Answers tools told dealing then.line last end

@@ -6,7 +6,7 @@ ghost use Rattle.olap_meaning.specs.Catalog.{find_cube};
 ghost use Rattle.outside.specs.Fetched.{Fetched};
 ghost use Rattle.outside.specs.Told.{AreTheirs};
 ghost use Rattle.query_meaning.specs.Replies.{no_memory_reply, refused_batch_reply, version_reply};
-ghost use Rattle.segment_load.specs.Loads.{is_batch};
+ghost use Rattle.fact_reader.specs.BodyRows.{is_batch};
 ghost use Rattle.line_session.specs.Replies.{AnswersAppend, AppendsRows, AppendsTo, Dealing, GivesVersion, LacksMemory, RefusesRows};
 
 use crate::desk::Desk;

@@ -2,12 +2,14 @@
 ghost use Rattle.std.specs.Prelude.{◌≡◌, ◌≤◌, ◌<◌, ◌+◌, IfErr, IfOk, IsTrue, OnErr, OnOk, length};
 ghost use Rattle.std.specs.List.{list_all};
 ghost use Rattle.olap_meaning.specs.Legal.{Legal, is_cell, is_flushable};
-ghost use Rattle.segment_load.specs.Loads.{is_batch};
+ghost use Rattle.fact_reader.specs.BodyRows.{is_batch};
+ghost use Rattle.segment_header.specs.Widening.{Widened};
 ghost use Rattle.line_session.specs.Desks.{AddsNone, DeskOf, HasAppended, HasAsked, HasFlushed, HasReadFront, HasNotAppended, HasNotAsked, HasShown, IsIdle, rows_between};
 
 use fact_versions::{AppendFault, Batch, Steps};
 use history_core::{Answer, Appended, CacheView, NotYet};
 use olap_meaning::{Cell, CubeId, OutOfMemory, Region};
+use segment_header::{AllowsValues, Widener};
 use std::alloc::Global;
 use std::sync::ledger::Ledger;
 
@@ -21,19 +23,25 @@ pub trait Desk {
         ensures legal { Legal (seen self.now).cache.setting (seen self.now).cache.entries }
         ensures idle { IsIdle (seen self.now) };
 
-    /// Answers cells, in their order. The loads that are missing are run and delivered first; where memory is wanting,
+    /// Answers cells, in their order. The loads that are missing, which allow what the widener answers, are run and
+    /// delivered first; where memory is wanting,
     /// those that were started are given up. It adds as many steps as the loads that it has started have rows, and at most
     /// as many where memory is wanting.
     fn ask<L: Ledger>(
         &mut self,
         alloc: Global,
         cells: &[Cell],
+        widener: &Widener,
         steps: &mut Steps<L>,
     ) -> Result<Answer, OutOfMemory>
         requires known { IsTrue
             (list_all (is_cell (seen self.old).cache.setting.catalog) cells.now) }
-        ensures asked { IfOk result (HasAsked (seen self.old) (seen self.new) cells.now) }
-        ensures refused { OnErr result (HasNotAsked (seen self.old) (seen self.new) cells.now) }
+        ensures asked { IfOk result (HasAsked
+            (Widened (⟦<Widener as AllowsValues>⟧.answers widener.now))
+            (seen self.old) (seen self.new) cells.now) }
+        ensures refused { OnErr result (HasNotAsked
+            (Widened (⟦<Widener as AllowsValues>⟧.answers widener.now))
+            (seen self.old) (seen self.new) cells.now) }
         ensures cost { OnOk result
             (steps.new ≡ steps.old + rows_between (seen self.old) (seen self.new)) }
         ensures at_least { steps.old ≤ steps.new }

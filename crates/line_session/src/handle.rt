@@ -4,10 +4,10 @@ ghost use Rattle.input_lines.specs.Asked.{asked};
 ghost use Rattle.input_lines.specs.Requests.{IsRequest};
 ghost use Rattle.outside.specs.Fetched.{Fetched};
 ghost use Rattle.outside.specs.Told.{AreTheirs};
-ghost use Rattle.shown_values.specs.Given.{Given};
 ghost use Rattle.line_session.specs.Desks.{GoesOn, rows_between};
 ghost use Rattle.line_session.specs.Replies.{AnswersRequest, Handles, TellsWhatIsSeen};
 ghost use Rattle.line_session.specs.Sessions.{ends_session};
+ghost use Rattle.line_session.specs.Tools.{tools_of};
 
 use crate::append::reply_to_append;
 use crate::desk::Desk;
@@ -21,6 +21,7 @@ use input_lines::{Request, read_request};
 use olap_catalog::Catalog;
 use olap_meaning::OutOfMemory;
 use outside::Depot;
+use segment_header::{AllowsValues, Widener};
 use shown_values::{Formatter, GivesTexts};
 use std::alloc::Global;
 use std::sync::ledger::Ledger;
@@ -52,7 +53,8 @@ fn reply_to_request<P: Desk, D: Depot, L: Ledger>(
     ensures answered { (position : Option ℕ) × (fetched : List Fetched)
         × (D.answers depot.new ≡ D.answers depot.old ++ fetched)
         × AreTheirs (D.files depot.old) fetched
-        × AnswersRequest (Given (⟦<Formatter as GivesTexts>⟧.answers tools.now.formatter))
+        × AnswersRequest (tools_of (⟦<Formatter as GivesTexts>⟧.answers tools.now.formatter)
+        (⟦<Widener as AllowsValues>⟧.answers tools.now.widener))
         (record { before = P.seen desk.old; after = P.seen desk.new; asked = fetched })
         (asked request.now) position result }
     ensures files { D.files depot.new ≡ D.files depot.old }
@@ -96,7 +98,8 @@ pub(crate) fn reply_to_line<P: Desk, D: Depot, L: Ledger>(
     ensures handled { (position : Option ℕ) × (asked : List Fetched)
         × (D.answers depot.new ≡ D.answers depot.old ++ asked)
         × AreTheirs (D.files depot.old) asked
-        × Handles (Given (⟦<Formatter as GivesTexts>⟧.answers tools.now.formatter))
+        × Handles (tools_of (⟦<Formatter as GivesTexts>⟧.answers tools.now.formatter)
+        (⟦<Widener as AllowsValues>⟧.answers tools.now.widener))
         (record { before = P.seen desk.old; after = P.seen desk.new; asked = asked })
         (record { line = line.now; position = position; reply = result.0 }) }
     ensures files { D.files depot.new ≡ D.files depot.old }

@@ -8,9 +8,9 @@ ghost use Rattle.query_meaning.specs.Grids.{row_tuples};
 ghost use Rattle.query_meaning.specs.OwnAxes.{AreAxesOf};
 ghost use Rattle.query_meaning.specs.Replies.{no_memory_reply, refusal_reply};
 ghost use Rattle.query_meaning.specs.Resolution.{axes_meant};
-ghost use Rattle.shown_values.specs.Given.{Given};
 ghost use Rattle.line_session.specs.Desks.{rows_between};
 ghost use Rattle.line_session.specs.Replies.{AnswersMeaning};
+ghost use Rattle.line_session.specs.Tools.{tools_of};
 
 use crate::desk::Desk;
 use crate::reply::Reply;
@@ -21,6 +21,7 @@ use olap_catalog::Catalog;
 use olap_meaning::{Cell, OutOfMemory, named_line};
 use query_meaning::{Axes, Query};
 use result_layout::grid;
+use segment_header::{AllowsValues, Widener};
 use shown_values::{Formatter, GivesTexts};
 use std::alloc::Global;
 use std::sync::ledger::Ledger;
@@ -65,13 +66,14 @@ fn reply_to_cells<P: Desk, L: Ledger>(
         ≡ length (row_tuples axes.now) * length axes.now.columns.tuples }
     requires known { IsTrue (list_all (is_cell catalog.now) cells.now) }
     ensures reply { (position : Option ℕ)
-        × AnswersMeaning (Given (⟦<Formatter as GivesTexts>⟧.answers tools.now.formatter))
+        × AnswersMeaning (tools_of (⟦<Formatter as GivesTexts>⟧.answers tools.now.formatter)
+        (⟦<Widener as AllowsValues>⟧.answers tools.now.widener))
         (record { before = P.seen desk.old; after = P.seen desk.new; asked = [] })
         (Ok axes.now) position result }
     ensures at_least { steps.old ≤ steps.new }
     ensures at_most { steps.new ≤ steps.old + rows_between (P.seen desk.old) (P.seen desk.new) }
 {
-    match desk.ask(alloc, cells, steps) {
+    match desk.ask(alloc, cells, &tools.widener, steps) {
         Ok(answer) => Reply::made(grid(alloc, catalog, axes, &answer, &tools.formatter)),
         Err(OutOfMemory) => Reply::no_memory(),
     }
@@ -89,7 +91,8 @@ fn reply_to_axes<P: Desk, L: Ledger>(
     requires catalog { catalog.now ≡ (P.seen desk.old).cache.setting.catalog }
     requires own { AreAxesOf catalog.now axes.now }
     ensures reply { (position : Option ℕ)
-        × AnswersMeaning (Given (⟦<Formatter as GivesTexts>⟧.answers tools.now.formatter))
+        × AnswersMeaning (tools_of (⟦<Formatter as GivesTexts>⟧.answers tools.now.formatter)
+        (⟦<Widener as AllowsValues>⟧.answers tools.now.widener))
         (record { before = P.seen desk.old; after = P.seen desk.new; asked = [] })
         (Ok axes.now) position result }
     ensures at_least { steps.old ≤ steps.new }
@@ -112,7 +115,8 @@ pub(crate) fn reply_to_query<P: Desk, L: Ledger>(
 ) -> Reply
     requires catalog { catalog.now ≡ (P.seen desk.old).cache.setting.catalog }
     ensures reply { (position : Option ℕ)
-        × AnswersMeaning (Given (⟦<Formatter as GivesTexts>⟧.answers tools.now.formatter))
+        × AnswersMeaning (tools_of (⟦<Formatter as GivesTexts>⟧.answers tools.now.formatter)
+        (⟦<Widener as AllowsValues>⟧.answers tools.now.widener))
         (record { before = P.seen desk.old; after = P.seen desk.new; asked = [] })
         (axes_meant catalog.now query.now) position result }
     ensures at_least { steps.old ≤ steps.new }

@@ -5,11 +5,11 @@ ghost use Rattle.outside.specs.Event.{Event, took};
 ghost use Rattle.outside.specs.Fetched.{Fetched};
 ghost use Rattle.outside.specs.Talks.{taken};
 ghost use Rattle.input_lines.specs.Reader.{IsAtEnd};
-ghost use Rattle.shown_values.specs.Given.{Given};
 ghost use Rattle.line_session.specs.Desks.{GoesOn, IsIdle, rows_between};
 ghost use Rattle.line_session.specs.Conversations.{HasConversed, IsCutOff, fresh, sent};
 ghost use Rattle.line_session.specs.Sessions.{IsServed, byte_limit};
 ghost use Rattle.line_session.specs.Turns.{HasPassed, Replies, Turn};
+ghost use Rattle.line_session.specs.Tools.{tools_of};
 
 use crate::desk::Desk;
 use crate::end::SessionEnd;
@@ -19,6 +19,7 @@ use fact_versions::Steps;
 use input_lines::{LineReader, Next};
 use olap_catalog::Catalog;
 use outside::{CutOff, Depot, Failed, Link};
+use segment_header::{AllowsValues, Widener};
 use shown_values::{Formatter, GivesTexts};
 use std::alloc::Global;
 use std::sync::ledger::Ledger;
@@ -52,7 +53,8 @@ fn answer_line<P: Desk, K: Link, D: Depot, L: Ledger>(
     ensures answered { (events : List Event) × (asked : List Fetched)
         × HasPassed (K.talk link.old) (K.talk link.new) (D.answers depot.old) (D.answers depot.new)
         (D.files depot.old) events asked
-        × Replies (Given (⟦<Formatter as GivesTexts>⟧.answers tools.now.formatter))
+        × Replies (tools_of (⟦<Formatter as GivesTexts>⟧.answers tools.now.formatter)
+        (⟦<Widener as AllowsValues>⟧.answers tools.now.widener))
         (record { before = P.seen desk.old; after = P.seen desk.new; asked = asked })
         line.now events result }
     ensures unread { K.left link.new ≡ K.left link.old }
@@ -99,7 +101,8 @@ fn take_turn<P: Desk, K: Link, D: Depot, L: Ledger>(
     ensures turn { (events : List Event) × (asked : List Fetched)
         × HasPassed (K.talk link.old) (K.talk link.new) (D.answers depot.old) (D.answers depot.new)
         (D.files depot.old) events asked
-        × Turn (Given (⟦<Formatter as GivesTexts>⟧.answers tools.now.formatter)) reader.old reader.new
+        × Turn (tools_of (⟦<Formatter as GivesTexts>⟧.answers tools.now.formatter)
+        (⟦<Widener as AllowsValues>⟧.answers tools.now.widener)) reader.old reader.new
         (record { before = P.seen desk.old; after = P.seen desk.new; asked = asked })
         events (K.left link.old) (K.left link.new) result }
     ensures end { IsAtEnd reader.old.ended (K.left link.old)
@@ -148,7 +151,8 @@ pub fn serve<P: Desk, K: Link, D: Depot, L: Ledger>(
     requires most { most ≤ byte_limit }
     // What has passed is a conversation, of every link and every depot.
     ensures conversed { result ≢ SessionEnd.Memory → HasConversed
-        (Given (⟦<Formatter as GivesTexts>⟧.answers tools.now.formatter))
+        (tools_of (⟦<Formatter as GivesTexts>⟧.answers tools.now.formatter)
+        (⟦<Widener as AllowsValues>⟧.answers tools.now.widener))
         (K.talk link.old) (K.talk link.new)
         (D.answers depot.old) (D.answers depot.new) (D.files depot.old) (fresh most)
         (P.seen desk.old) (P.seen desk.new) result }
@@ -156,7 +160,8 @@ pub fn serve<P: Desk, K: Link, D: Depot, L: Ledger>(
     // Where the link tells what is left, the lines that were handled are those of it.
     ensures served { result ≢ SessionEnd.Memory → (asked : List Fetched)
         × (D.answers depot.new ≡ D.answers depot.old ++ asked)
-        × IsServed (Given (⟦<Formatter as GivesTexts>⟧.answers tools.now.formatter)) most result
+        × IsServed (tools_of (⟦<Formatter as GivesTexts>⟧.answers tools.now.formatter)
+        (⟦<Widener as AllowsValues>⟧.answers tools.now.widener)) most result
         (record { before = P.seen desk.old; after = P.seen desk.new; asked = asked })
         (K.left link.old) (taken (K.talk link.old)) (taken (K.talk link.new)) }
 

@@ -1,5 +1,6 @@
 //! What sessions work with.
 
+use segment_header::Widener;
 use shown_values::Formatter;
 
 /// What sessions work with. Threads may share it.
@@ -7,6 +8,8 @@ use shown_values::Formatter;
 pub struct Tools {
     /// Shows the values of cells in grids (Schema Guide, "Cell Formatter").
     pub formatter: Formatter,
+    /// Says what the loads of queries allow, so that a load may fetch more than what a query asks for.
+    pub widener: Widener,
 }
 
 fn may_be_shared<T: Send + Sync>(_value: &T) {}

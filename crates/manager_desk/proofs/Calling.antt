@@ -7,6 +7,7 @@ use Rattle.std.proofs.lemmas.List.{append-nil}
 use Rattle.std.proofs.lemmas.List.Elements.{All-append, All-cons, All-nil, filter-append}
 use Rattle.std.proofs.lemmas.List.Folds.{list_all-append}
 use Rattle.olap_meaning.specs.declared.cells.Cell.{Cell}
+use Rattle.olap_meaning.specs.declared.cells.Header.{Header}
 use Rattle.olap_meaning.specs.declared.cells.Who.{Who}
 use Rattle.olap_meaning.specs.declared.regions.Region.{Region}
 use Rattle.olap_meaning.specs.declared.tables.Row.{Row}
@@ -18,10 +19,11 @@ use Rattle.history_core.specs.declared.answers.Appended.{Appended}
 use Rattle.history_core.specs.declared.answers.CacheView.{CacheView}
 use Rattle.history_core.specs.Arrivals.{arrival_in}
 use Rattle.history_core.specs.Cache.{CacheOf}
-use Rattle.history_core.specs.Groups.{loads_for}
+use Rattle.history_core.specs.Groups.{loads_with}
+use Rattle.segment_header.specs.Widening.{Allowing}
 use Rattle.history_core.specs.Seats.{NoneFlies, is_of_seat, entries_of}
 use Rattle.history_core.specs.Shown.{cache_lines}
-use Rattle.line_session.specs.Desks.{AddsCall, AreLoadsFor, DeskOf, GoesOnBy, HasAppended, HasAsked, HasFlushed, HasNotAsked, HasShown, is_start_or_done, load_numbers, loads_delivered, none_behind_drops, with_more}
+use Rattle.line_session.specs.Desks.{AddsCall, AreLoadsFor, DeskOf, GoesOnBy, HasAppended, HasAsked, HasFlushed, HasNotAsked, HasShown, delivered_with, is_start_or_done, load_numbers, none_behind_drops, with_more}
 use Rattle.manager_desk.specs.Delivered.{rows_by}
 use Rattle.manager_desk.specs.Ends.{AddsAnswer, AddsEnded}
 use Rattle.manager_desk.specs.Keeping.{IsDesk}
@@ -54,46 +56,47 @@ adds_call before after more call setting entries own last = record {
   fronts = refl;
 }
 
-module _ (before : CacheOf) (who : Who) (cells : List Cell) where
-  delivered_parts : All (IsPartOf who) (loads_delivered before who cells)
-  delivered_parts = look_parts before who cells (map (Done who) (load_numbers before who cells)) (dones_are_ends who (load_numbers before who cells))
+module _ (allowing : Allowing) (before : CacheOf) (who : Who) (cells : List Cell) where
+  delivered_parts : (headers : List Header) → All (IsPartOf who) (delivered_with before who cells headers)
+  delivered_parts headers = look_parts before who cells headers (map (Done who) (load_numbers before cells)) (dones_are_ends who (load_numbers before cells))
 
   -- cells that were answered
-  pub has_asked : (after : CacheOf) (answer : Told) → NoneFlies before.entries → NoneFlies after.entries → who.seat ≡ 1 → AddsAnswer before after who cells answer → HasAsked (desk_of before) (desk_of after) cells answer
+  pub has_asked : (after : CacheOf) (answer : Told) → NoneFlies before.entries → NoneFlies after.entries → who.seat ≡ 1 → AddsAnswer allowing before after who cells answer → HasAsked allowing (desk_of before) (desk_of after) cells answer
   has_asked after answer idle quiet seat adds =
-      let own : All (λ e. is_of_seat 1 e ≡ true) (loads_delivered before who cells) = parts_seat who 1 (loads_delivered before who cells) seat delivered_parts in
+      let more : List Entry = delivered_with before who cells adds.headers in
+      let own : All (λ e. is_of_seat 1 e ≡ true) more = parts_seat who 1 more seat (delivered_parts adds.headers) in
       record {
         who = who;
         own = seat;
-        more = loads_delivered before who cells;
-        adds = adds_call before after (loads_delivered before who cells) (Answer who answer.sources.value) adds.setting adds.entries own (eq-eqb who.seat 1 seat);
-        loads = are_loads_for before who cells (map (Done who) (load_numbers before who cells)) idle (dones_are_ends who (load_numbers before who cells));
-        delivered = ap (list_all is_start_or_done) (own_entries 1 (loads_delivered before who cells) own) ∙ delivered_all who (loads_for before who cells) (load_numbers before who cells);
-        alone = λ _. refl;
+        more = more;
+        adds = adds_call before after more (Answer who answer.sources.value) adds.setting adds.entries own (eq-eqb who.seat 1 seat);
+        loads = are_loads_for allowing before who cells adds.headers adds.allowed (map (Done who) (load_numbers before cells)) idle (dones_are_ends who (load_numbers before cells));
+        delivered = ap (list_all is_start_or_done) (own_entries 1 more own) ∙ delivered_all who (loads_with before who cells adds.headers) (load_numbers before cells);
+        alone = λ _. (adds.headers, adds.allowed, refl);
         answered = adds.answered;
         idle = λ j load at own. quiet j;
       }
 
-  ended_parts : (after : CacheOf) (adds : AddsEnded before after who cells) → All (IsPartOf who) adds.more
+  ended_parts : (after : CacheOf) (adds : AddsEnded allowing before after who cells) → All (IsPartOf who) adds.more
   ended_parts after adds = elim adds.ended [
     | inl none ↦ subst (λ (es : List Entry). All (IsPartOf who) es) (sym none) (All-nil (IsPartOf who))
-    | inr some ↦ subst (λ (es : List Entry). All (IsPartOf who) es) (sym some.2) (look_parts before who cells some.0 some.1)
+    | inr some ↦ subst (λ (es : List Entry). All (IsPartOf who) es) (sym some.4) (look_parts before who cells some.0 some.2 some.3)
   ]
 
-  ended_loads : (after : CacheOf) (adds : AddsEnded before after who cells) → NoneFlies before.entries → AreLoadsFor before who cells adds.more
+  ended_loads : (after : CacheOf) (adds : AddsEnded allowing before after who cells) → NoneFlies before.entries → AreLoadsFor allowing before who cells adds.more
   ended_loads after adds idle = elim adds.ended [
-    | inl none ↦ subst (λ (es : List Entry). AreLoadsFor before who cells es) (sym none) (no_loads_for before who cells)
-    | inr some ↦ subst (λ (es : List Entry). AreLoadsFor before who cells es) (sym some.2) (are_loads_for before who cells some.0 idle some.1)
+    | inl none ↦ subst (λ (es : List Entry). AreLoadsFor allowing before who cells es) (sym none) (no_loads_for allowing before who cells)
+    | inr some ↦ subst (λ (es : List Entry). AreLoadsFor allowing before who cells es) (sym some.4) (are_loads_for allowing before who cells some.0 some.1 some.2 idle some.3)
   ]
 
-  ended_behind : (after : CacheOf) (adds : AddsEnded before after who cells) → none_behind_drops adds.more ≡ true
+  ended_behind : (after : CacheOf) (adds : AddsEnded allowing before after who cells) → none_behind_drops adds.more ≡ true
   ended_behind after adds = elim adds.ended [
     | inl none ↦ ap none_behind_drops none
-    | inr some ↦ ap none_behind_drops some.2 ∙ none_behind who (loads_for before who cells) (load_numbers before who cells) some.0 some.1
+    | inr some ↦ ap none_behind_drops some.4 ∙ none_behind who (loads_with before who cells some.0) (load_numbers before cells) some.2 some.3
   ]
 
   -- cells that were not answered
-  pub has_not_asked : (after : CacheOf) → NoneFlies before.entries → NoneFlies after.entries → who.seat ≡ 1 → is_next_call before.entries who ≡ true → AddsEnded before after who cells → HasNotAsked (desk_of before) (desk_of after) cells
+  pub has_not_asked : (after : CacheOf) → NoneFlies before.entries → NoneFlies after.entries → who.seat ≡ 1 → is_next_call before.entries who ≡ true → AddsEnded allowing before after who cells → HasNotAsked allowing (desk_of before) (desk_of after) cells
   has_not_asked after idle quiet seat next adds =
       let parts = ended_parts after adds in
       let own : All (λ e. is_of_seat 1 e ≡ true) adds.more = parts_seat who 1 adds.more seat parts in
@@ -111,8 +114,8 @@ module _ (before : CacheOf) (who : Who) (cells : List Cell) where
       }
 
 -- where nothing was added, cells were not answered
-pub nothing_asked : (cache : CacheOf) (who : Who) (cells : List Cell) → NoneFlies cache.entries → who.seat ≡ 1 → is_next_call cache.entries who ≡ true → HasNotAsked (desk_of cache) (desk_of cache) cells
-nothing_asked cache who cells idle seat next = has_not_asked cache who cells cache idle idle seat next (record { more = []; setting = refl; entries = sym (append-nil cache.entries); ended = inl refl })
+pub nothing_asked : (allowing : Allowing) (cache : CacheOf) (who : Who) (cells : List Cell) → NoneFlies cache.entries → who.seat ≡ 1 → is_next_call cache.entries who ≡ true → HasNotAsked allowing (desk_of cache) (desk_of cache) cells
+nothing_asked allowing cache who cells idle seat next = has_not_asked allowing cache who cells cache idle idle seat next (record { more = []; setting = refl; entries = sym (append-nil cache.entries); ended = inl refl })
 
 -- calls below a number are below a greater one
 below_rises : (n m : ℕ) (entry : Entry) → n ≤ m → is_call_below n entry ≡ true → is_call_below m entry ≡ true
@@ -149,20 +152,20 @@ next_call before after call seat n m grown le own below next =
     next_after before after (call ∷ []) seat n m grown le one next
 
 -- the next call after cells were answered or not
-pub next_answered : (before after : CacheOf) (who : Who) (cells : List Cell) (answer : Told) (last : ℕ) → who ≡ record { seat = 1; call = last + 1 } → AddsAnswer before after who cells answer → is_next_call before.entries (record { seat = 1; call = last + 1 }) ≡ true
+pub next_answered : (allowing : Allowing) (before after : CacheOf) (who : Who) (cells : List Cell) (answer : Told) (last : ℕ) → who ≡ record { seat = 1; call = last + 1 } → AddsAnswer allowing before after who cells answer → is_next_call before.entries (record { seat = 1; call = last + 1 }) ≡ true
     → is_next_call after.entries (record { seat = 1; call = who.call + 1 }) ≡ true
-next_answered before after who cells answer last is adds next =
+next_answered allowing before after who cells answer last is adds next =
     let seat : who.seat ≡ 1 = ap (λ (w : Who). w.seat) is in
     let number : who.call ≡ last + 1 = ap (λ (w : Who). w.call) is in
-    next_call (before.entries ++ loads_delivered before who cells) after.entries (Answer who answer.sources.value) 1 (last + 1) (who.call + 1) adds.entries (omega (arith, number)) (eq-eqb who.seat 1 seat)
+    next_call (before.entries ++ delivered_with before who cells adds.headers) after.entries (Answer who answer.sources.value) 1 (last + 1) (who.call + 1) adds.entries (omega (arith, number)) (eq-eqb who.seat 1 seat)
     (lt-ltb who.call (who.call + 1) (omega arith))
-    (next_parts before.entries (before.entries ++ loads_delivered before who cells) (loads_delivered before who cells) who 1 (last + 1) (last + 1) refl (omega arith) (delivered_parts before who cells) next)
+    (next_parts before.entries (before.entries ++ delivered_with before who cells adds.headers) (delivered_with before who cells adds.headers) who 1 (last + 1) (last + 1) refl (omega arith) (delivered_parts allowing before who cells adds.headers) next)
 
-pub next_refused : (before after : CacheOf) (who : Who) (cells : List Cell) (last : ℕ) → who ≡ record { seat = 1; call = last + 1 } → AddsEnded before after who cells → is_next_call before.entries (record { seat = 1; call = last + 1 }) ≡ true
+pub next_refused : (allowing : Allowing) (before after : CacheOf) (who : Who) (cells : List Cell) (last : ℕ) → who ≡ record { seat = 1; call = last + 1 } → AddsEnded allowing before after who cells → is_next_call before.entries (record { seat = 1; call = last + 1 }) ≡ true
     → is_next_call after.entries (record { seat = 1; call = who.call + 1 }) ≡ true
-next_refused before after who cells last is adds next =
+next_refused allowing before after who cells last is adds next =
     let number : who.call ≡ last + 1 = ap (λ (w : Who). w.call) is in
-    next_parts before.entries after.entries adds.more who 1 (last + 1) (who.call + 1) adds.entries (omega (arith, number)) (ended_parts before who cells after adds) next
+    next_parts before.entries after.entries adds.more who 1 (last + 1) (who.call + 1) adds.entries (omega (arith, number)) (ended_parts allowing before who cells after adds) next
 
 -- a seat that has done nothing has made no call
 pub unused_next : (entries : List Entry) (call : ℕ) → entries_of entries 1 ≡ [] → is_next_call entries (record { seat = 1; call = call }) ≡ true

@@ -15,7 +15,8 @@ use Rattle.olap_meaning.specs.Legal.{Legal}
 use Rattle.olap_meaning.specs.Worth.{load_rows}
 use Rattle.olap_meaning.proofs.Loads.{load_start, start_load}
 use Rattle.olap_meaning.proofs.Positions.{entry-append, entry_from-take}
-use Rattle.segment_load.specs.Loads.{JobOf, rows_in}
+use Rattle.fact_reader.specs.BodyRows.{rows_in}
+use Rattle.segment_load.specs.Loads.{JobOf}
 use Rattle.history_core.specs.Cache.{CacheOf}
 use Rattle.history_core.specs.Seats.{is_of_seat, entries_of}
 use Rattle.cache_manager.specs.Jobs.{IsJobOf}

@@ -8,6 +8,7 @@ use Rattle.std.proofs.lemmas.List.Elements.{All-append, All-cons, All-contains, 
 use Rattle.std.proofs.lemmas.List.Folds.{list_any-append}
 use Rattle.std.proofs.lemmas.List.Sums.{sum_by-append, sum_by-cons}
 use Rattle.olap_meaning.specs.declared.cells.Cell.{Cell}
+use Rattle.olap_meaning.specs.declared.cells.Header.{Header}
 use Rattle.olap_meaning.specs.declared.cells.Who.{Who}
 use Rattle.olap_meaning.specs.declared.tables.Setting.{Setting}
 use Rattle.olap_meaning.specs.Covering.{among}
@@ -19,15 +20,16 @@ use Rattle.olap_meaning.proofs.Steps.{none_evicted}
 use Rattle.history_core.specs.declared.answers.Answer.{Answer as Told}
 use Rattle.history_core.specs.Answers.{HasSource, IsAnswer, SomeWants}
 use Rattle.history_core.specs.Cache.{CacheOf}
-use Rattle.history_core.specs.Groups.{loads_for, numbers_from, wanting}
+use Rattle.history_core.specs.Groups.{loads_with, numbers_from, wanted_of, wanting}
+use Rattle.segment_header.specs.Widening.{Allowing}
 use Rattle.history_core.specs.Seats.{NoneFlies, actor, is_of_seat}
 use Rattle.cache_manager.specs.Jobs.{IsJobOf}
 use Rattle.cache_manager.proofs.Pushes.{flying_back}
-use Rattle.cache_manager.proofs.Ready.{delivered_looks_are_ready}
-use Rattle.line_session.specs.Desks.{AreEnds, is_of_load, load_numbers, loads_delivered, rows_to_read, rows_started, with_more}
+use Rattle.cache_manager.proofs.Ready.{delivered_looks_are_ready, serving_headers}
+use Rattle.line_session.specs.Desks.{AreEnds, AreHeadersOf, delivered_with, is_of_load, load_numbers, rows_to_read, rows_started, with_more}
 use Rattle.manager_desk.specs.Ends.{AddsAnswer, AddsEnded, AreOut, EndsJobs, done_of, rows_of_job}
 use Rattle.manager_desk.proofs.Looks.{look_parts}
-use Rattle.manager_desk.proofs.Own.{IsPartOf, dones_are_ends, dones_of_call, ends_of_call, loads_own, parts_all, parts_seat}
+use Rattle.manager_desk.proofs.Own.{IsPartOf, dones_are_ends, dones_of_call, ends_of_call, loads_counted, loads_own, parts_all, parts_seat}
 use Rattle.manager_desk.proofs.Reading.{dones_read_none, jobs_are, rows_started_are}
 
 -- after some Starts only their loads may fly, beside those that did
@@ -92,12 +94,16 @@ none_wanting cache (cell ∷ cells) all =
     let here : not (has_source cache.setting.catalog cache.entries cell) ≡ false = ap not (All-head (HasSource cache) cell cells all) in
     rw here (none_wanting cache cells (All-tail (HasSource cache) cell cells all))
 
-pub none_missing : (cache : CacheOf) (who : Who) (cells : List Cell) → All (HasSource cache) cells → loads_for cache who cells ≡ []
+pub none_missing : (cache : CacheOf) (who : Who) (cells : List Cell) → All (HasSource cache) cells → loads_with cache who cells [] ≡ []
 none_missing cache who cells all = rw (none_wanting cache cells all) refl
 
+-- no header is wanted then
+pub none_allowed : (allowing : Allowing) (cache : CacheOf) (cells : List Cell) → All (HasSource cache) cells → AreHeadersOf allowing cache cells []
+none_allowed allowing cache cells all = rw (none_wanting cache cells all) tt
+
 -- and none is started or delivered
-none_delivered : (cache : CacheOf) (who : Who) (cells : List Cell) → All (HasSource cache) cells → loads_delivered cache who cells ≡ []
-none_delivered cache who cells all = ap (λ (loads : List Load). map Start loads ++ map (Done who) (numbers_from (length cache.entries + 1) (length loads))) (none_missing cache who cells all)
+none_delivered : (cache : CacheOf) (who : Who) (cells : List Cell) → All (HasSource cache) cells → delivered_with cache who cells [] ≡ []
+none_delivered cache who cells all = rw (none_wanting cache cells all) refl
 
 -- caches of the same setting and entries are the same
 pub same_cache : (one other : CacheOf) → one.setting ≡ other.setting → one.entries ≡ other.entries → one ≡ other
@@ -106,16 +112,18 @@ same_cache one other setting entries =
 
 -- the answer to cells behind the loads that they lack, each delivered
 pub adds_answer :
-    (before middle after : CacheOf) (who : Who) (cells : List Cell) (answer : Told) → middle.setting ≡ before.setting → middle.entries ≡ before.entries ++ loads_delivered before who cells → after.setting ≡ middle.setting
-    → after.entries ≡ middle.entries ++ Answer who answer.sources.value ∷ [] → IsAnswer middle cells answer → AddsAnswer before after who cells answer
-adds_answer before middle after who cells answer same loaded kept grown is = record {
+    (allowing : Allowing) (before middle after : CacheOf) (who : Who) (cells : List Cell) (headers : List Header) (answer : Told) → AreHeadersOf allowing before cells headers → middle.setting ≡ before.setting → middle.entries ≡ before.entries ++ delivered_with before who cells headers → after.setting ≡ middle.setting
+    → after.entries ≡ middle.entries ++ Answer who answer.sources.value ∷ [] → IsAnswer middle cells answer → AddsAnswer allowing before after who cells answer
+adds_answer allowing before middle after who cells headers answer allowed same loaded kept grown is = record {
+  headers = headers;
+  allowed = allowed;
   setting = kept ∙ same;
   entries = grown ∙ ap (λ (es : List Entry). es ++ Answer who answer.sources.value ∷ []) loaded;
-  answered = subst (λ (cache : CacheOf). IsAnswer cache cells answer) (same_cache middle (with_more before (loads_delivered before who cells)) same loaded) is;
+  answered = subst (λ (cache : CacheOf). IsAnswer cache cells answer) (same_cache middle (with_more before (delivered_with before who cells headers)) same loaded) is;
 }
 
 -- where each cell has a source, the loads that they lack are there
-pub none_lacking : (cache : CacheOf) (who : Who) (cells : List Cell) → All (HasSource cache) cells → cache.entries ≡ cache.entries ++ loads_delivered cache who cells
+pub none_lacking : (cache : CacheOf) (who : Who) (cells : List Cell) → All (HasSource cache) cells → cache.entries ≡ cache.entries ++ delivered_with cache who cells []
 none_lacking cache who cells all = sym (ap (λ (es : List Entry). cache.entries ++ es) (none_delivered cache who cells all) ∙ append-nil cache.entries)
 
 -- deliveries flush nothing, and deliver each of their loads
@@ -142,91 +150,96 @@ dones_keep before starts who all (n ∷ ns) stays into =
     (dones_keep before starts who all ns stays (λ j h. into j (or_right (n == j) (among ns j) h)))
 
 -- where the loads of a look were all delivered, each of its cells has a source
-pub ready_again : (before after : CacheOf) (who : Who) (cells : List Cell) → Legal after.setting after.entries → list_all (is_cell before.setting.catalog) cells ≡ true → after.setting ≡ before.setting → after.entries ≡ before.entries ++ loads_delivered before who cells → All (HasSource after) cells
-ready_again before after who cells legal known same grown =
-    subst (λ (cache : CacheOf). All (HasSource cache) cells) (sym (same_cache after (with_more before (loads_delivered before who cells)) same grown))
-    (delivered_looks_are_ready before who cells (map (Done who) (load_numbers before who cells)) known (none cells) (λ j. dones_evict_none j who (load_numbers before who cells))
-    (dones_keep before.entries (map Start (loads_for before who cells)) who (load_numbers before who cells) (load_numbers before who cells) (λ j. ap (list_any (evicts j)) (sym grown) ∙ none_evicted after.setting after.entries legal j) (λ j h. h)))
+pub ready_again : (allowing : Allowing) (before after : CacheOf) (who : Who) (cells : List Cell) (headers : List Header) → AreHeadersOf allowing before cells headers → Legal after.setting after.entries → list_all (is_cell before.setting.catalog) cells ≡ true → after.setting ≡ before.setting → after.entries ≡ before.entries ++ delivered_with before who cells headers → All (HasSource after) cells
+ready_again allowing before after who cells headers allowed legal known same grown =
+    subst (λ (cache : CacheOf). All (HasSource cache) cells) (sym (same_cache after (with_more before (delivered_with before who cells headers)) same grown))
+    (delivered_looks_are_ready before who cells headers (map (Done who) (load_numbers before cells)) known (serving_headers allowing before.setting.catalog (wanted_of before cells) headers allowed) (none cells) (λ j. dones_evict_none j who (load_numbers before cells))
+    (dones_keep before.entries (map Start (loads_with before who cells headers)) who (load_numbers before cells) (load_numbers before cells) (λ j. ap (list_any (evicts j)) (sym grown) ∙ none_evicted after.setting after.entries legal j) (λ j h. h)))
   where
-    none : (some : List Cell) → All (λ cell. list_any (flushes cell) (map (Done who) (load_numbers before who cells)) ≡ false) some
+    none : (some : List Cell) → All (λ cell. list_any (flushes cell) (map (Done who) (load_numbers before cells)) ≡ false) some
     none [] = All-nil _
-    none (cell ∷ others) = All-cons (λ c. list_any (flushes c) (map (Done who) (load_numbers before who cells)) ≡ false) cell others (dones_flush_none cell who (load_numbers before who cells)) (none others)
+    none (cell ∷ others) = All-cons (λ c. list_any (flushes c) (map (Done who) (load_numbers before cells)) ≡ false) cell others (dones_flush_none cell who (load_numbers before cells)) (none others)
 
 -- a look that has started its loads, and its jobs
-pub record IsStarted (before middle : CacheOf) (who : Who) (cells : List Cell) (jobs : List JobOf) : Type 0 where
+pub record IsStarted (allowing : Allowing) (before middle : CacheOf) (who : Who) (cells : List Cell) (headers : List Header) (jobs : List JobOf) : Type 0 where
+  pub allowed : AreHeadersOf allowing before cells headers
   pub setting : middle.setting ≡ before.setting
-  pub entries : middle.entries ≡ before.entries ++ map Start (loads_for before who cells)
-  pub numbers : map (λ job. job.load) jobs ≡ load_numbers before who cells
+  pub entries : middle.entries ≡ before.entries ++ map Start (loads_with before who cells headers)
+  pub numbers : map (λ job. job.load) jobs ≡ load_numbers before cells
   pub are : All (IsJobOf middle) jobs
   pub legal : Legal middle.setting middle.entries
 
-module _ (before middle : CacheOf) (who : Who) (cells : List Cell) (jobs : List JobOf) (look : IsStarted before middle who cells jobs) where
+module _ (allowing : Allowing) (before middle : CacheOf) (who : Who) (cells : List Cell) (headers : List Header) (jobs : List JobOf) (look : IsStarted allowing before middle who cells headers jobs) where
+  -- the numbers of the jobs' loads, as many as there are loads
+  pub numbers_are : map (λ job. job.load) jobs ≡ numbers_from (length before.entries + 1) (length (loads_with before who cells headers))
+  numbers_are = look.numbers ∙ ap (numbers_from (length before.entries + 1)) (sym (loads_counted allowing before who cells headers look.allowed))
+
   whole_jobs : (rest : List Entry)
-      → All (λ job. job.who ≡ who) jobs × (sum_by rows_of_job jobs ≡ sum_by (rows_to_read ((before.entries ++ map Start (loads_for before who cells)) ++ rest)) (map Start (loads_for before who cells)))
+      → All (λ job. job.who ≡ who) jobs × (sum_by rows_of_job jobs ≡ sum_by (rows_to_read ((before.entries ++ map Start (loads_with before who cells headers)) ++ rest)) (map Start (loads_with before who cells headers)))
   whole_jobs rest =
-      jobs_are middle.setting before.entries (loads_for before who cells) jobs who rest (length before.entries + 1) (subst (Legal middle.setting) look.entries look.legal) refl look.numbers
-      (subst (λ (es : List Entry). All (IsJobOf (record { setting = middle.setting; entries = es })) jobs) look.entries look.are) (loads_own before who cells)
+      jobs_are middle.setting before.entries (loads_with before who cells headers) jobs who rest (length before.entries + 1) (subst (Legal middle.setting) look.entries look.legal) refl numbers_are
+      (subst (λ (es : List Entry). All (IsJobOf (record { setting = middle.setting; entries = es })) jobs) look.entries look.are) (loads_own before who cells headers)
 
   -- the jobs are of the call
   pub jobs_own : All (λ job. job.who ≡ who) jobs
   jobs_own = (whole_jobs []).0
 
   -- the ends of the jobs, behind the Starts
-  pub ended_added : (after : List Entry) (ended : EndsJobs middle.entries after jobs) → after ≡ before.entries ++ (map Start (loads_for before who cells) ++ ended.ends)
-  ended_added after ended = ended.entries ∙ ap (λ (es : List Entry). es ++ ended.ends) look.entries ∙ append_assoc before.entries (map Start (loads_for before who cells)) ended.ends
+  pub ended_added : (after : List Entry) (ended : EndsJobs middle.entries after jobs) → after ≡ before.entries ++ (map Start (loads_with before who cells headers) ++ ended.ends)
+  ended_added after ended = ended.entries ∙ ap (λ (es : List Entry). es ++ ended.ends) look.entries ∙ append_assoc before.entries (map Start (loads_with before who cells headers)) ended.ends
 
-  pub ended_are : (after : List Entry) (ended : EndsJobs middle.entries after jobs) → AreEnds who (load_numbers before who cells) ended.ends
+  pub ended_are : (after : List Entry) (ended : EndsJobs middle.entries after jobs) → AreEnds who (load_numbers before cells) ended.ends
   ended_are after ended = subst (λ (ns : List ℕ). AreEnds who ns ended.ends) look.numbers (ends_of_call who jobs ended.ends jobs_own ended.are)
 
   -- the loads that were started and ended
-  pub adds_ended : (after : CacheOf) → after.setting ≡ middle.setting → EndsJobs middle.entries after.entries jobs → AddsEnded before after who cells
+  pub adds_ended : (after : CacheOf) → after.setting ≡ middle.setting → EndsJobs middle.entries after.entries jobs → AddsEnded allowing before after who cells
   adds_ended after same ended = record {
-    more = map Start (loads_for before who cells) ++ ended.ends;
+    more = map Start (loads_with before who cells headers) ++ ended.ends;
     setting = same ∙ look.setting;
     entries = ended_added after.entries ended;
-    ended = inr (ended.ends, ended_are after.entries ended, refl);
+    ended = inr (headers, look.allowed, ended.ends, ended_are after.entries ended, refl);
   }
 
   -- the next call stays the next
   pub next_again : (after : List Entry) → EndsJobs middle.entries after jobs → is_next_call before.entries who ≡ true → is_next_call after who ≡ true
   next_again after ended next =
-      still_next before.entries after (map Start (loads_for before who cells) ++ ended.ends) who (ended_added after ended)
-      (parts_all who (map Start (loads_for before who cells) ++ ended.ends) (look_parts before who cells ended.ends (ended_are after ended))) next
+      still_next before.entries after (map Start (loads_with before who cells headers) ++ ended.ends) who (ended_added after ended)
+      (parts_all who (map Start (loads_with before who cells headers) ++ ended.ends) (look_parts before who cells headers ended.ends (ended_are after ended))) next
 
   -- the loads that were all delivered
-  pub all_delivered : (after : List Entry) → after ≡ middle.entries ++ map done_of jobs → after ≡ before.entries ++ loads_delivered before who cells
+  pub all_delivered : (after : List Entry) → after ≡ middle.entries ++ map done_of jobs → after ≡ before.entries ++ delivered_with before who cells headers
   all_delivered after ended =
-      ended ∙ ap (λ (es : List Entry). es ++ map done_of jobs) look.entries ∙ append_assoc before.entries (map Start (loads_for before who cells)) (map done_of jobs)
-      ∙ ap (λ (es : List Entry). before.entries ++ (map Start (loads_for before who cells) ++ es)) (dones_of_call who jobs jobs_own ∙ ap (map (Done who)) look.numbers)
+      ended ∙ ap (λ (es : List Entry). es ++ map done_of jobs) look.entries ∙ append_assoc before.entries (map Start (loads_with before who cells headers)) (map done_of jobs)
+      ∙ ap (λ (es : List Entry). before.entries ++ (map Start (loads_with before who cells headers) ++ es)) (dones_of_call who jobs jobs_own ∙ ap (map (Done who)) look.numbers)
 
   -- what the jobs read, beside the rows of what came after the Starts
   pub read_by_starts :
-      (after rest : List Entry) → after ≡ middle.entries ++ rest → All (λ e. is_of_seat 1 e ≡ true) (map Start (loads_for before who cells) ++ rest)
+      (after rest : List Entry) → after ≡ middle.entries ++ rest → All (λ e. is_of_seat 1 e ≡ true) (map Start (loads_with before who cells headers) ++ rest)
       → rows_started 1 before.entries after ≡ sum_by rows_of_job jobs + sum_by (rows_to_read after) rest
   read_by_starts after rest grown own =
-      let joined : after ≡ (before.entries ++ map Start (loads_for before who cells)) ++ rest = grown ∙ ap (λ (es : List Entry). es ++ rest) look.entries in
-      rows_started_are before.entries after (map Start (loads_for before who cells)) rest (joined ∙ append_assoc before.entries (map Start (loads_for before who cells)) rest) own
-      ∙ ap (λ (m : ℕ). m + sum_by (rows_to_read after) rest) (ap (λ (es : List Entry). sum_by (rows_to_read es) (map Start (loads_for before who cells))) joined ∙ sym (whole_jobs rest).1)
+      let joined : after ≡ (before.entries ++ map Start (loads_with before who cells headers)) ++ rest = grown ∙ ap (λ (es : List Entry). es ++ rest) look.entries in
+      rows_started_are before.entries after (map Start (loads_with before who cells headers)) rest (joined ∙ append_assoc before.entries (map Start (loads_with before who cells headers)) rest) own
+      ∙ ap (λ (m : ℕ). m + sum_by (rows_to_read after) rest) (ap (λ (es : List Entry). sum_by (rows_to_read es) (map Start (loads_with before who cells headers))) joined ∙ sym (whole_jobs rest).1)
 
   pub read_ended : (after : List Entry) (ended : EndsJobs middle.entries after jobs) → who.seat ≡ 1 → rows_started 1 before.entries after ≡ sum_by rows_of_job jobs + sum_by (rows_to_read after) ended.ends
   read_ended after ended seat =
-      read_by_starts after ended.ends ended.entries (parts_seat who 1 (map Start (loads_for before who cells) ++ ended.ends) seat (look_parts before who cells ended.ends (ended_are after ended)))
+      read_by_starts after ended.ends ended.entries (parts_seat who 1 (map Start (loads_with before who cells headers) ++ ended.ends) seat (look_parts before who cells headers ended.ends (ended_are after ended)))
 
   -- where they were all delivered and the cells were answered, just the jobs' rows were read
   pub read_in_all :
       (after : List Entry) (answer : Entry) → who.seat ≡ 1 → actor answer ≡ Some who → ((es : List Entry) → rows_to_read es answer ≡ 0) → after ≡ (middle.entries ++ map done_of jobs) ++ answer ∷ []
       → rows_started 1 before.entries after ≡ sum_by rows_of_job jobs
   read_in_all after answer seat own none grown =
-      let dones : map done_of jobs ≡ map (Done who) (load_numbers before who cells) = dones_of_call who jobs jobs_own ∙ ap (map (Done who)) look.numbers in
-      let parts : All (IsPartOf who) (map Start (loads_for before who cells) ++ map done_of jobs) =
-      subst (λ (es : List Entry). All (IsPartOf who) (map Start (loads_for before who cells) ++ es)) (sym dones)
-      (look_parts before who cells (map (Done who) (load_numbers before who cells)) (dones_are_ends who (load_numbers before who cells))) in
+      let dones : map done_of jobs ≡ map (Done who) (load_numbers before cells) = dones_of_call who jobs jobs_own ∙ ap (map (Done who)) look.numbers in
+      let parts : All (IsPartOf who) (map Start (loads_with before who cells headers) ++ map done_of jobs) =
+      subst (λ (es : List Entry). All (IsPartOf who) (map Start (loads_with before who cells headers) ++ es)) (sym dones)
+      (look_parts before who cells headers (map (Done who) (load_numbers before cells)) (dones_are_ends who (load_numbers before cells))) in
       let last : All (λ e. is_of_seat 1 e ≡ true) (answer ∷ []) =
       All-cons (λ e. is_of_seat 1 e ≡ true) answer [] (ap (is_some_and (λ (w : Who). w.seat == 1)) own ∙ eq-eqb who.seat 1 seat) (All-nil (λ e. is_of_seat 1 e ≡ true)) in
-      let all : All (λ e. is_of_seat 1 e ≡ true) ((map Start (loads_for before who cells) ++ map done_of jobs) ++ answer ∷ []) =
-      All-append (λ e. is_of_seat 1 e ≡ true) (map Start (loads_for before who cells) ++ map done_of jobs) (answer ∷ []) (parts_seat who 1 (map Start (loads_for before who cells) ++ map done_of jobs) seat parts) last in
+      let all : All (λ e. is_of_seat 1 e ≡ true) ((map Start (loads_with before who cells headers) ++ map done_of jobs) ++ answer ∷ []) =
+      All-append (λ e. is_of_seat 1 e ≡ true) (map Start (loads_with before who cells headers) ++ map done_of jobs) (answer ∷ []) (parts_seat who 1 (map Start (loads_with before who cells headers) ++ map done_of jobs) seat parts) last in
       let read = read_by_starts after (map done_of jobs ++ answer ∷ []) (grown ∙ append_assoc middle.entries (map done_of jobs) (answer ∷ []))
-      (subst (λ (es : List Entry). All (λ e. is_of_seat 1 e ≡ true) es) (append_assoc (map Start (loads_for before who cells)) (map done_of jobs) (answer ∷ [])) all) in
+      (subst (λ (es : List Entry). All (λ e. is_of_seat 1 e ≡ true) es) (append_assoc (map Start (loads_with before who cells headers)) (map done_of jobs) (answer ∷ [])) all) in
       let split = sum_by-append (rows_to_read after) (map done_of jobs) (answer ∷ []) in
       let one : sum_by (rows_to_read after) (answer ∷ []) ≡ rows_to_read after answer + 0 = sum_by-cons (rows_to_read after) answer [] in
       let nothing : rows_to_read after answer ≡ 0 = none after in

@@ -1,16 +1,18 @@
 -- The parts of the loads of one call are all of its seat.
-use Rattle.std.proofs.Common.{◌≡◌, refl, sym, ◌∙◌, ap, subst, ℕ, List, [], ◌∷◌, ◌++◌, map, true, ◌==◌, inl, inr, None, Some, All}
-use Rattle.std.specs.List.{list_all}
+use Rattle.std.proofs.Common.{◌≡◌, refl, sym, ◌∙◌, ap, subst, ℕ, suc, List, [], ◌∷◌, ◌++◌, filter, length, map, true, ◌==◌, inl, inr, None, Some, All}
+use Rattle.std.specs.List.{AllZip, list_all, zip}
 use Rattle.std.proofs.lemmas.Bool.{and_from, eq-eqb}
 use Rattle.std.proofs.lemmas.List.Elements.{All-cons, All-head, All-map, All-nil, All-tail, All-weaker}
 use Rattle.olap_meaning.specs.declared.cells.Cell.{Cell}
+use Rattle.olap_meaning.specs.declared.cells.Header.{Header}
 use Rattle.olap_meaning.specs.declared.cells.Who.{Who}
 use Rattle.olap_meaning.specs.History.{Entry, Load, Start, Done, Drop, started, is_some_and}
 use Rattle.segment_load.specs.Loads.{JobOf}
 use Rattle.history_core.specs.Cache.{CacheOf}
-use Rattle.history_core.specs.Groups.{firsts, load_for, loads_for, wanting}
+use Rattle.history_core.specs.Groups.{IsHeaderFor, alike, firsts, load_count, load_with, loads_with, wanted_of}
+use Rattle.segment_header.specs.Widening.{Allowing}
 use Rattle.history_core.specs.Seats.{actor, is_of_seat, entries_of}
-use Rattle.line_session.specs.Desks.{AreEnds, is_start_or_done, is_of_load}
+use Rattle.line_session.specs.Desks.{AreEnds, AreHeadersOf, is_start_or_done, is_of_load}
 use Rattle.manager_desk.specs.Ends.{AreEndsOf, done_of}
 
 -- an entry is a part of a load of a call
@@ -33,12 +35,22 @@ parts_all who [] all = refl
 parts_all who (e ∷ es) all = and_from _ _ (All-head (IsPartOf who) e es all).part (parts_all who es (All-tail (IsPartOf who) e es all))
 
 -- the loads of a look are of its call
-for_call : (cache : CacheOf) (who : Who) (wanted cells : List Cell) → All (λ load. load.who ≡ who) (map (load_for cache who wanted) cells)
-for_call cache who wanted [] = All-nil (λ load. load.who ≡ who)
-for_call cache who wanted (cell ∷ cells) = All-cons (λ load. load.who ≡ who) (load_for cache who wanted cell) (map (load_for cache who wanted) cells) refl (for_call cache who wanted cells)
+for_call : (cache : CacheOf) (who : Who) (pairs : List (Cell × Header)) → All (λ load. load.who ≡ who) (map (λ pair. load_with cache who pair.0 pair.1) pairs)
+for_call cache who [] = All-nil (λ load. load.who ≡ who)
+for_call cache who (pair ∷ pairs) = All-cons (λ load. load.who ≡ who) (load_with cache who pair.0 pair.1) (map (λ p. load_with cache who p.0 p.1) pairs) refl (for_call cache who pairs)
 
-pub loads_own : (cache : CacheOf) (who : Who) (cells : List Cell) → All (λ load. load.who ≡ who) (loads_for cache who cells)
-loads_own cache who cells = for_call cache who (wanting cache.setting.catalog cache.entries cells) (firsts [] (wanting cache.setting.catalog cache.entries cells))
+pub loads_own : (cache : CacheOf) (who : Who) (cells : List Cell) (headers : List Header) → All (λ load. load.who ≡ who) (loads_with cache who cells headers)
+loads_own cache who cells headers = for_call cache who (zip (firsts [] (wanted_of cache cells)) headers)
+
+-- there is one for each group, where each has its header
+pub loads_counted : (allowing : Allowing) (cache : CacheOf) (who : Who) (cells : List Cell) (headers : List Header) → AreHeadersOf allowing cache cells headers → length (loads_with cache who cells headers) ≡ load_count cache cells
+loads_counted allowing cache who cells headers own = by (firsts [] (wanted_of cache cells)) headers own
+  where
+    by : (cs : List Cell) (hs : List Header) → AllZip (λ first header. IsHeaderFor allowing cache.setting.catalog first (filter (alike first) (wanted_of cache cells)) header) cs hs → length (map (λ pair. load_with cache who pair.0 pair.1) (zip cs hs)) ≡ length cs
+    by [] [] all = refl
+    by [] (h ∷ hs) all = absurd all
+    by (c ∷ cs) [] all = absurd all
+    by (c ∷ cs) (h ∷ hs) all = ap suc (by cs hs all.1)
 
 pub starts_parts : (who : Who) (loads : List Load) → All (λ load. load.who ≡ who) loads → All (IsPartOf who) (map Start loads)
 starts_parts who loads own = All-map (IsPartOf who) Start loads (All-weaker (λ load. load.who ≡ who) (λ load. IsPartOf who (Start load)) (λ load is. record { part = refl; own = ap (λ (w : Who). Some w) is }) loads own)

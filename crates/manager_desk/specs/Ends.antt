@@ -1,14 +1,17 @@
 -- How the loads of a look are ended, and what an ask adds to a manager's history.
 use Rattle.std.specs.Prelude.{ℕ, ◌≡◌, ◌⊎◌, ⊤, List, [], ◌∷◌, ◌++◌, Bool, true, false, length, map}
 use Rattle.olap_meaning.specs.declared.cells.Cell.{Cell}
+use Rattle.olap_meaning.specs.declared.cells.Header.{Header}
 use Rattle.olap_meaning.specs.declared.cells.Who.{Who}
 use Rattle.olap_meaning.specs.Covering.{among}
 use Rattle.olap_meaning.specs.History.{Entry, Done, Drop, Answer, flying}
-use Rattle.segment_load.specs.Loads.{JobOf, rows_in}
+use Rattle.fact_reader.specs.BodyRows.{rows_in}
+use Rattle.segment_load.specs.Loads.{JobOf}
 use Rattle.history_core.specs.Answers.{IsAnswer}
 use Rattle.history_core.specs.Cache.{CacheOf}
 use Rattle.history_core.specs.declared.answers.Answer.{Answer as Told}
-use Rattle.line_session.specs.Desks.{AreLoadsEnded, loads_delivered, with_more}
+use Rattle.line_session.specs.Desks.{AreHeadersOf, AreLoadsEnded, delivered_with, with_more}
+use Rattle.segment_header.specs.Widening.{Allowing}
 
 -- the entry that ends a job: its load was delivered, or given up
 abbrev pub end_of : JobOf → Bool → Entry
@@ -43,17 +46,20 @@ pub record EndsJobs (before after : List Entry) (jobs : List JobOf) : Type 0 whe
 
 -- the loads that some cells lack were delivered, and then the cells were answered, as the last entry, with the sources
 -- that the answer tells
-pub record AddsAnswer (before after : CacheOf) (who : Who) (cells : List Cell)
+pub record AddsAnswer (allowing : Allowing) (before after : CacheOf) (who : Who) (cells : List Cell)
     (answer : Told) : Type 0 where
+  pub headers : List Header
+  pub allowed : AreHeadersOf allowing before cells headers
   pub setting : after.setting ≡ before.setting
   pub entries : after.entries
-      ≡ (before.entries ++ loads_delivered before who cells)
+      ≡ (before.entries ++ delivered_with before who cells headers)
       ++ Answer who answer.sources.value ∷ []
-  pub answered : IsAnswer (with_more before (loads_delivered before who cells)) cells answer
+  pub answered : IsAnswer (with_more before (delivered_with before who cells headers)) cells answer
 
 -- nothing was added, or the loads that some cells lack were started and ended
-pub record AddsEnded (before after : CacheOf) (who : Who) (cells : List Cell) : Type 0 where
+pub record AddsEnded (allowing : Allowing) (before after : CacheOf) (who : Who)
+    (cells : List Cell) : Type 0 where
   pub more : List Entry
   pub setting : after.setting ≡ before.setting
   pub entries : after.entries ≡ before.entries ++ more
-  pub ended : AreLoadsEnded before who cells more
+  pub ended : AreLoadsEnded allowing before who cells more

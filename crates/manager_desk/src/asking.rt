@@ -3,7 +3,8 @@ ghost use Rattle.std.specs.Prelude.{◌≡◌, ◌≤◌, ◌+◌, ◌++◌, ◌
 ghost use Rattle.std.specs.List.{list_all};
 ghost use Rattle.olap_meaning.specs.History as history;
 ghost use Rattle.olap_meaning.specs.Legal.{is_next_call, is_cell};
-ghost use Rattle.segment_load.specs.Loads.{rows_in};
+ghost use Rattle.fact_reader.specs.BodyRows.{rows_in};
+ghost use Rattle.segment_header.specs.Widening.{Widened};
 ghost use Rattle.cache_manager.specs.Jobs.{IsJobOf, IsOwnBody};
 ghost use Rattle.cache_manager.specs.Runs.{apart};
 ghost use Rattle.history_core.specs.Answers.{HasSource, IsAnswer};
@@ -16,6 +17,7 @@ use cache_manager::{Look, Manager};
 use fact_versions::Steps;
 use history_core::Answer;
 use olap_meaning::{Cell, List, OutOfMemory, Who};
+use segment_header::{AllowsValues, Widener};
 use segment_load::{LoadJob, run_load};
 use std::alloc::Global;
 use std::sync::ledger::Ledger;
@@ -94,7 +96,12 @@ fn end_loads<L: Ledger>(
 }
 
 /// Answers cells that have sources.
-fn answer_ready(manager: &mut Manager, who: Who, cells: &[Cell]) -> Result<Answer, OutOfMemory>
+fn answer_ready(
+    manager: &mut Manager,
+    who: Who,
+    cells: &[Cell],
+    widener: &Widener,
+) -> Result<Answer, OutOfMemory>
     requires call { IsTrue (is_next_call manager.old.entries who) }
     requires known { IsTrue (list_all (is_cell manager.old.setting.catalog) cells.now) }
     requires idle { NoneFlies manager.old.entries }
@@ -106,7 +113,7 @@ fn answer_ready(manager: &mut Manager, who: Who, cells: &[Cell]) -> Result<Answe
     ensures answer { IfOk result (λ answer. IsAnswer manager.old cells.now answer) }
     ensures unchanged { OnErr result (manager.new ≡ manager.old) }
 {
-    match manager.look(who, cells) {
+    match manager.look(who, cells, widener) {
         Ok(Look::Ready(answer)) => Ok(answer),
         Ok(Look::Load(_)) => unreachable!(),
         Err(error) => Err(error),
@@ -120,6 +127,7 @@ pub(crate) fn ask<L: Ledger>(
     manager: &mut Manager,
     who: Who,
     cells: &[Cell],
+    widener: &Widener,
     steps: &mut Steps<L>,
     read: &mut u128,
 ) -> Result<Answer, OutOfMemory>
@@ -128,8 +136,12 @@ pub(crate) fn ask<L: Ledger>(
     requires known { IsTrue (list_all (is_cell manager.old.setting.catalog) cells.now) }
     requires idle { NoneFlies manager.old.entries }
     requires count { IsCount manager.old.entries read.old }
-    ensures answered { IfOk result (AddsAnswer manager.old manager.new who cells.now) }
-    ensures refused { OnErr result (AddsEnded manager.old manager.new who cells.now) }
+    ensures answered { IfOk result (AddsAnswer
+        (Widened (⟦<Widener as AllowsValues>⟧.answers widener.now))
+        manager.old manager.new who cells.now) }
+    ensures refused { OnErr result (AddsEnded
+        (Widened (⟦<Widener as AllowsValues>⟧.answers widener.now))
+        manager.old manager.new who cells.now) }
     ensures idle { NoneFlies manager.new.entries }
     ensures count { IsCount manager.new.entries read.new }
     ensures cost { OnOk result
@@ -139,7 +151,7 @@ pub(crate) fn ask<L: Ledger>(
         ≤ steps.old + rows_started 1 manager.old.entries manager.new.entries }
 {
     manager.steps_are_legal();
-    match manager.look(who, cells)? {
+    match manager.look(who, cells, widener)? {
         Look::Ready(answer) => Ok(answer),
         Look::Load(jobs) => {
             manager.steps_are_legal();
@@ -147,7 +159,7 @@ pub(crate) fn ask<L: Ledger>(
                 return Err(OutOfMemory);
             }
             manager.steps_are_legal();
-            let answer = answer_ready(manager, who, cells)?;
+            let answer = answer_ready(manager, who, cells, widener)?;
             Ok(answer)
         }
     }

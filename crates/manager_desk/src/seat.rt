@@ -2,7 +2,7 @@
 ghost use Rattle.std.specs.Prelude.{◌≡◌, ◌≤◌, ◌<◌, ◌+◌, [], IfErr, IfNone, IfOk, IfSome, IsTrue, None, OnErr, OnOk, length, true};
 ghost use Rattle.std.specs.List.{list_all};
 ghost use Rattle.olap_meaning.specs.Legal.{Legal, is_cell, is_flushable};
-ghost use Rattle.segment_load.specs.Loads.{is_batch};
+ghost use Rattle.fact_reader.specs.BodyRows.{is_batch};
 ghost use Rattle.history_core.specs.Seats.{NoneFlies, entries_of};
 ghost use Rattle.line_session.specs.Desks.{AddsNone, HasAppended, HasAsked, HasFlushed, HasReadFront, HasNotAppended, HasNotAsked, HasShown, IsIdle, rows_between};
 ghost use Rattle.manager_desk.specs.Delivered.{rows_delivered};
@@ -14,6 +14,7 @@ use history_core::{Answer, Appended, CacheView, NotYet};
 use line_session::Desk;
 use olap_catalog::Catalog;
 use olap_meaning::{Cell, CubeId, OutOfMemory, Region, Who};
+use segment_header::Widener;
 use std::alloc::Global;
 use std::marker::Model;
 use std::sync::Arc;
@@ -96,13 +97,22 @@ impl Desk for ManagerDesk {
         &mut self,
         alloc: Global,
         cells: &[Cell],
+        widener: &Widener,
         steps: &mut Steps<L>,
     ) -> Result<Answer, OutOfMemory> {
         let Some(who) = next_call(self.last) else {
             return Err(OutOfMemory);
         };
         self.last = who.call;
-        let answer = ask(alloc, &mut self.manager, who, cells, steps, &mut self.read)?;
+        let answer = ask(
+            alloc,
+            &mut self.manager,
+            who,
+            cells,
+            widener,
+            steps,
+            &mut self.read,
+        )?;
         Ok(answer)
     }
 

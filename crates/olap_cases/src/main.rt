@@ -4,9 +4,10 @@
 //! a case file is.
 #![tactic(auto)]
 
-ghost use Rattle.std.specs.Prelude.{◌≡◌, IfOk};
+ghost use Rattle.std.specs.Prelude.{◌≡◌, IfOk, IsTrue};
 ghost use Rattle.olap_meaning.specs.Texts.{CanBeShown, plain_text};
 ghost use Rattle.query_meaning.specs.Shown.{Shows};
+ghost use Rattle.segment_header.specs.Widening.{Serves, WidensPlainly, are_wanted};
 
 mod around;
 mod case;
@@ -17,8 +18,9 @@ mod group;
 mod outcome;
 
 use anyhow::{Context, Result};
-use olap_meaning::{CellValue, OutOfMemory, Text};
+use olap_meaning::{Allowed, CellValue, OutOfMemory, Text, ValueId};
 use olap_server::Tools;
+use segment_header::{Widening, plain_widener, widened_plainly};
 use serde_json::Value;
 use shown_values::{Showing, plain_formatter, shown_plainly};
 use std::rt::{Env, Files};
@@ -61,8 +63,17 @@ fn main(rt: HostRuntime) -> Result<()> {
             ensures shows { IfOk result (Shows value.now) }
         { shown_plainly(alloc, value) },
     )?;
+    let widen: Widening = Box::new(
+        alloc,
+        move |wanted: &[ValueId], count: u32| -> std::result::Result<Allowed, OutOfMemory>
+            requires { IsTrue (are_wanted wanted.now count) }
+            ensures plain { IfOk result (WidensPlainly wanted.now count) }
+            ensures serves { IfOk result (Serves wanted.now count) }
+        { widened_plainly(alloc, wanted, count) },
+    )?;
     let tools = Tools {
         formatter: plain_formatter(show),
+        widener: plain_widener(widen),
     };
     tell_files(&rt, &tools)
 }

@@ -1,9 +1,8 @@
 -- What a catalog's parts say of its columns.
-use Rattle.std.proofs.Common.{inl, inr, if◌then◌else◌, ◌≡◌, ◌∙◌, ◌<◌, ◌≤◌, ◌&&◌, ℕ, zero, suc, Bool, true, false, List, [], ◌∷◌, Option, Some, None, refl, sym, ap, map, option_map, option_and_then, slice_get, get_or, length, nat_lt, nat_eq, arith, position, bytes_eq}
+use Rattle.std.proofs.Common.{inl, inr, if◌then◌else◌, ◌≡◌, ◌∙◌, ◌<◌, ◌≤◌, ◌&&◌, ℕ, zero, suc, Bool, true, false, List, [], ◌∷◌, Option, Some, None, refl, sym, ap, option_map, option_and_then, slice_get, get_or, length, nat_lt, nat_eq, arith, position, bytes_eq}
 use Rattle.std.specs.List.{list_all, zip, cons_option}
 use Rattle.std.specs.Option.{option_map_or, IfSome}
 use Rattle.catalog_tables.proofs.FieldFacts.{position_within}
-use Rattle.std.proofs.lemmas.List.{length-map}
 use Rattle.std.proofs.lemmas.List.Sums.{AllPass-from_list_all}
 use Rattle.std.proofs.lemmas.Option.{slice_get-map, slice_get-get_or, slice_get_within, slice_get_cases, get_or_from_slice_get}
 use Rattle.std.proofs.lemmas.Bool.Decides.{nat_tests}
@@ -13,7 +12,6 @@ use Rattle.olap_meaning.specs.declared.tables.Hierarchy.{Hierarchy}
 use Rattle.olap_meaning.specs.declared.tables.Cube.{Cube}
 use Rattle.olap_meaning.specs.declared.tables.Catalog.{Catalog}
 use Rattle.olap_meaning.specs.declared.schema.Schema.{Schema}
-use Rattle.olap_meaning.specs.declared.schema.SchemaDimension.{SchemaDimension}
 use Rattle.olap_meaning.specs.Schema.{dimension_with}
 use Rattle.olap_meaning.specs.Catalog.{first_appearances, values, leaf_text, leaf_value, value_number, records, field_texts, find_leaf}
 use Rattle.olap_meaning.proofs.Loads.{some_and}

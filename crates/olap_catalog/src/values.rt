@@ -13,7 +13,7 @@ ghost use Rattle.olap_catalog.specs.Parts.{has_levels};
 use crate::catalog::Catalog;
 use crate::leaves::{field_of, leaf_count};
 use catalog_tables::FieldColumn;
-use olap_meaning::schema::{CUBE_LIMIT, LEVEL_LIMIT, Schema};
+use olap_meaning::schema::{CUBE_LIMIT, LEVEL_LIMIT, RECORD_LIMIT, Schema};
 use olap_meaning::tables::{Column, Cube, Hierarchy};
 use olap_meaning::{ColumnId, CubeId, HierarchyId, LeafId, LevelRef, ValueId};
 
@@ -78,7 +78,8 @@ impl Catalog {
     /// How many values a column has.
     pub fn value_count(&self, column: ColumnId) -> u32
         requires { column < length self.now.columns }
-        ensures { result ≡ length (meaning.values self.now column) }
+        ensures count { result ≡ length (meaning.values self.now column) }
+        ensures limit { result ≤ RECORD_LIMIT }
     {
         self.field_of(column).count()
     }

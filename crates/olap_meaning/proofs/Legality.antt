@@ -13,6 +13,7 @@ use Rattle.olap_meaning.specs.Laws.{SomeAnswerIsLegal}
 use Rattle.olap_meaning.proofs.Examples.{who, year, load, first_quarter, flush_q1, rows, catalog}
 use Rattle.olap_meaning.proofs.Loads.{flush_shuts_off}
 use Rattle.olap_meaning.proofs.Members.{in_first}
+use Rattle.olap_meaning.proofs.RolledSources.{sources_are_decided}
 
 abbrev setting : Setting
 setting = record { catalog = catalog; row_limit = 100; budget = 10 }
@@ -34,7 +35,7 @@ legal_append : LegalStep setting [] first_rows
 legal_append = record { call = refl; known = lit< tt; next = refl; versions = lit≤ tt; fit = refl; room = lit≤ tt }
 
 legal_start : LegalStep setting (first_rows ∷ []) start_year
-legal_start = record { known = refl; rising = refl; covers = refl; present = refl; needed = refl; unawaited = refl }
+legal_start = record { known = refl; rising = refl; covers = refl; present = refl; needed = (sources_are_decided.lacks catalog (first_rows ∷ []) year).0 refl; unawaited = refl }
 
 legal_done : LegalStep setting (first_rows ∷ start_year ∷ []) (Done (who 0) 2)
 legal_done = record { flies = refl; own = refl }
@@ -59,7 +60,7 @@ no_second_start s = let h : ◌≡◌ {A = Option ℕ} (Some 2) None = s.unawait
 
 -- a Start for a cell with a live load
 no_start_for_live : LegalStep setting (first_rows ∷ start_year ∷ Done (who 0) 2 ∷ []) start_year → ⊥
-no_start_for_live s = let h : ◌≡◌ {A = Option ℕ} (Some 2) None = s.needed in cc
+no_start_for_live s = let h : ◌≡◌ {A = Option ℕ} (Some 2) None = s.needed.exact in cc
 
 -- an answer from a load of an older version, after an append
 legal_old_answer : LegalStep setting (first_rows ∷ start_year ∷ Done (who 0) 2 ∷ Append (who 2) 0 2 [] ∷ []) (Answer (who 3) (from year 2 ∷ []))

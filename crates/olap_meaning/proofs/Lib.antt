@@ -7,6 +7,7 @@ pub mod ReachUp
 pub mod Steps
 pub mod ByPosition
 pub mod Growing
+pub mod SourceLaws
 pub mod Sources
 pub mod Examples
 pub mod Legality

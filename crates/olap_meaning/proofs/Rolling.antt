@@ -12,34 +12,34 @@ use Rattle.olap_meaning.specs.declared.cells.Allowed.TheVariants.{Any, Set}
 use Rattle.olap_meaning.specs.declared.cells.Cell.{Cell}
 use Rattle.olap_meaning.specs.declared.cells.Header.{Header}
 use Rattle.olap_meaning.specs.Covering.{allows, names_column, header_covers}
-use Rattle.olap_meaning.specs.Rolled.{Offer, columns_of, is_any, is_open_in, allows_in, some_allows, IsLacking, IsHeld, IsRolled, adds_up, is_open_but, fits, fitting_hold, can_split, can_begin, can_roll}
+use Rattle.olap_meaning.specs.Rolled.{Offer, header_columns, is_any, is_open_in, allows_in, some_allows, IsLacking, IsHeld, IsRolled, adds_up, is_open_but, fits, fitting_hold, can_split, can_begin, can_roll}
 use Rattle.olap_meaning.specs.Sources.{SomeRollExactly}
 use Rattle.olap_meaning.proofs.Members.{in_first, any_member, member_any, all_member, member_all, filter_member, any-filter, some_member, map_member, member_map, all_below_at, all_below_from}
 
 -- what an offer that fits another has
 pub record IsFitting (cell : Cell) (split : ℕ) (first other : Offer) : Type 0 where
   pub version : other.version ≡ first.version
-  pub columns : columns_of other.header ≡ columns_of first.header
+  pub columns : header_columns other.header ≡ header_columns first.header
   pub covering : header_covers other.header cell ≡ true
   pub opened : is_open_but cell split other.header ≡ true
 
 pub fits_parts : (cell : Cell) (split : ℕ) (first other : Offer) → fits cell split first other ≡ true → IsFitting cell split first other
 fits_parts cell split first other fit =
-    let outer = and_parts ((other.version == first.version) && bytes_eq (columns_of other.header) (columns_of first.header) && header_covers other.header cell) (is_open_but cell split other.header) fit in
-    let middle = and_parts ((other.version == first.version) && bytes_eq (columns_of other.header) (columns_of first.header)) (header_covers other.header cell) outer.0 in
-    let inner = and_parts (other.version == first.version) (bytes_eq (columns_of other.header) (columns_of first.header)) middle.0 in
+    let outer = and_parts ((other.version == first.version) && bytes_eq (header_columns other.header) (header_columns first.header) && header_covers other.header cell) (is_open_but cell split other.header) fit in
+    let middle = and_parts ((other.version == first.version) && bytes_eq (header_columns other.header) (header_columns first.header)) (header_covers other.header cell) outer.0 in
+    let inner = and_parts (other.version == first.version) (bytes_eq (header_columns other.header) (header_columns first.header)) middle.0 in
     record {
       version = eqb-true other.version first.version inner.0;
-      columns = (bytes_eq-Decides (columns_of other.header) (columns_of first.header)).0 inner.1;
+      columns = (bytes_eq-Decides (header_columns other.header) (header_columns first.header)).0 inner.1;
       covering = middle.1;
       opened = outer.1;
     }
 
 pub fits_from : (cell : Cell) (split : ℕ) (first other : Offer) → IsFitting cell split first other → fits cell split first other ≡ true
 fits_from cell split first other fit =
-    and_from ((other.version == first.version) && bytes_eq (columns_of other.header) (columns_of first.header) && header_covers other.header cell) (is_open_but cell split other.header)
-    (and_from ((other.version == first.version) && bytes_eq (columns_of other.header) (columns_of first.header)) (header_covers other.header cell)
-    (and_from (other.version == first.version) (bytes_eq (columns_of other.header) (columns_of first.header)) (eq-eqb _ _ fit.version) ((bytes_eq-Decides (columns_of other.header) (columns_of first.header)).1 fit.columns))
+    and_from ((other.version == first.version) && bytes_eq (header_columns other.header) (header_columns first.header) && header_covers other.header cell) (is_open_but cell split other.header)
+    (and_from ((other.version == first.version) && bytes_eq (header_columns other.header) (header_columns first.header)) (header_covers other.header cell)
+    (and_from (other.version == first.version) (bytes_eq (header_columns other.header) (header_columns first.header)) (eq-eqb _ _ fit.version) ((bytes_eq-Decides (header_columns other.header) (header_columns first.header)).1 fit.columns))
     fit.covering)
     fit.opened
 
@@ -72,7 +72,7 @@ open_told cell split column header opened lacked other = member_all (λ own. not
         ]
 
 -- a column of one list of columns, as that of an offer
-own_column : (header : Header) (columns : List ℕ) (column : ℕ) → columns_of header ≡ columns → Contains columns column → (own : ℕ × Allowed) × Contains header.columns own × (own.0 ≡ column)
+own_column : (header : Header) (columns : List ℕ) (column : ℕ) → header_columns header ≡ columns → Contains columns column → (own : ℕ × Allowed) × Contains header.columns own × (own.0 ≡ column)
 own_column header columns column same held = member_map (λ (own : ℕ × Allowed). own.0) header.columns column (subst (λ (cs : List ℕ). Contains cs column) (sym same) held)
 
 -- an opened column allows each value
@@ -93,19 +93,19 @@ module _ (size : ℕ → ℕ) (cell : Cell) (offers : List Offer) where
   fitting split first = filter (fits cell split first) offers
 
   -- where offers can be split, those that fit are rolled up
-  unfoldable pub split_rolls : (a : Aggregator) (first : Offer) (split : ℕ) → adds_up a ≡ true → Contains offers first → Contains (columns_of first.header) split → can_split size cell offers first split ≡ true
+  unfoldable pub split_rolls : (a : Aggregator) (first : Offer) (split : ℕ) → adds_up a ≡ true → Contains offers first → Contains (header_columns first.header) split → can_split size cell offers first split ≡ true
       → IsRolled a size cell (fitting split first)
   split_rolls a first split up held own can =
       let outer = and_parts (not (names_column cell split) && fits cell split first first) (fitting_hold size cell offers first split) can in
       let inner = and_parts (not (names_column cell split)) (fits cell split first first) outer.0 in
       let passes = filter_passes (fits cell split first) offers in
-      let lacked : IsLacking cell (columns_of first.header) split = record { own = own; lacked = not-true (names_column cell split) inner.0 } in
+      let lacked : IsLacking cell (header_columns first.header) split = record { own = own; lacked = not-true (names_column cell split) inner.0 } in
       record {
         some = some_member (fitting split first) first (filter_member (fits cell split first) offers first held inner.1);
         version = first.version;
         one_version = All-weaker (λ other. fits cell split first other ≡ true) (λ other. other.version ≡ first.version) (λ other fit. (fits_parts cell split first other fit).version) (fitting split first) passes;
-        columns = columns_of first.header;
-        one_list = All-weaker (λ other. fits cell split first other ≡ true) (λ other. columns_of other.header ≡ columns_of first.header) (λ other fit. (fits_parts cell split first other fit).columns) (fitting split first) passes;
+        columns = header_columns first.header;
+        one_list = All-weaker (λ other. fits cell split first other ≡ true) (λ other. header_columns other.header ≡ header_columns first.header) (λ other fit. (fits_parts cell split first other fit).columns) (fitting split first) passes;
         more = (split, lacked);
         covering = All-weaker (λ other. fits cell split first other ≡ true) (λ other. IsTrue (header_covers other.header cell)) (λ other fit. (fits_parts cell split first other fit).covering) (fitting split first) passes;
         split = Some split;
@@ -149,7 +149,7 @@ module _ (size : ℕ → ℕ) (cell : Cell) (a : Aggregator) (some : List Offer)
   fit split opened other other_held =
       fits_from cell split first other (record {
         version = All-contains (λ offer. offer.version ≡ rolled.version) some other rolled.one_version other_held ∙ sym (at_first (λ offer. offer.version ≡ rolled.version) rolled.one_version);
-        columns = All-contains (λ offer. columns_of offer.header ≡ rolled.columns) some other rolled.one_list other_held ∙ sym (at_first (λ offer. columns_of offer.header ≡ rolled.columns) rolled.one_list);
+        columns = All-contains (λ offer. header_columns offer.header ≡ rolled.columns) some other rolled.one_list other_held ∙ sym (at_first (λ offer. header_columns offer.header ≡ rolled.columns) rolled.one_list);
         covering = All-contains (λ offer. IsTrue (header_covers offer.header cell)) some other rolled.covering other_held;
         opened = member_all (λ own. (own.0 == split) || names_column cell own.0 || is_any own.1) other.header.columns at_own;
       })
@@ -162,7 +162,7 @@ module _ (size : ℕ → ℕ) (cell : Cell) (a : Aggregator) (some : List Offer)
                 elim (cases_Bool (names_column cell own.0)) [
                   | inl named ↦ rw (differs, named) refl
                   | inr lacked ↦
-                      let one = All-contains (λ offer. columns_of offer.header ≡ rolled.columns) some other rolled.one_list other_held in
+                      let one = All-contains (λ offer. header_columns offer.header ≡ rolled.columns) some other rolled.one_list other_held in
                       let among : Contains rolled.columns own.0 = subst (λ (cs : List ℕ). Contains cs own.0) one (map_member (λ (own : ℕ × Allowed). own.0) other.header.columns own own_held) in
                       let told_open = All-contains (λ offer. IsTrue (is_open_in offer.header own.0)) some other (opened own.0 (record { own = among; lacked = lacked }) (λ e. absurd (eqb-false own.0 split differs (sym e)))) other_held in
                       let told = all_member (λ mine. not (mine.0 == own.0) || is_any mine.1) other.header.columns own told_open own_held in
@@ -173,7 +173,7 @@ module _ (size : ℕ → ℕ) (cell : Cell) (a : Aggregator) (some : List Offer)
           ]
 
   own_in_first : (split : ℕ) → Contains rolled.columns split → (own : ℕ × Allowed) × Contains first.header.columns own × (own.0 ≡ split)
-  own_in_first split = own_column first.header rolled.columns split (at_first (λ offer. columns_of offer.header ≡ rolled.columns) rolled.one_list)
+  own_in_first split = own_column first.header rolled.columns split (at_first (λ offer. header_columns offer.header ≡ rolled.columns) rolled.one_list)
 
   along_by : (split : Option ℕ) → rolled.split ≡ split → (along : ℕ) × IsAlong size cell some first along
   along_by None is =

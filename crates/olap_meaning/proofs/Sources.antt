@@ -98,7 +98,7 @@ and_true : (b : Bool) → (b && true) ≡ b
 and_true true = refl
 and_true false = refl
 
-delivery_ends : (j : ℕ) (e : Entry) → delivers j e ≡ true → ends j e ≡ true
+pub delivery_ends : (j : ℕ) (e : Entry) → delivers j e ≡ true → ends j e ≡ true
 delivery_ends j (Append w c v r) h = absurd (cc)
 delivery_ends j (Agg w t v) h = absurd (cc)
 delivery_ends j (Flush w r) h = absurd (cc)
@@ -122,7 +122,7 @@ ended_within setting history legal j (suc b) e at f =
     some_load None h = absurd (cc)
     some_load (Some load) h = (load, refl)
 
-unended : (setting : Setting) (history : List Entry) → Legal setting history → list_any (ends (suc (length history))) history ≡ false
+pub unended : (setting : Setting) (history : List Entry) → Legal setting history → list_any (ends (suc (length history))) history ≡ false
 unended setting history legal = false_from_ne_true _ none
   where
     none : list_any (ends (suc (length history))) history ≡ true → ⊥
@@ -146,13 +146,13 @@ module _ (history : List Entry) (entry : Entry) (cell : Cell) where
   abbrev open_for : ℕ → Bool
   open_for k = load_just_covers history k cell && not (flushed_after history k cell) && not (list_any (evicts k) history)
 
-  load_stays : (k : ℕ) → k ≤ length history → load_at after k ≡ load_at history k
+  pub load_stays : (k : ℕ) → k ≤ length history → load_at after k ≡ load_at history k
   load_stays k l = ap (option_and_then started) (entry-append-le history (entry ∷ []) k l)
 
-  any_more : (test : Entry → Bool) → list_any test after ≡ (list_any test history || (test entry || false))
+  pub any_more : (test : Entry → Bool) → list_any test after ≡ (list_any test history || (test entry || false))
   any_more test = list_any-append test history (entry ∷ [])
 
-  flushed_more : (k : ℕ) → k ≤ length history → flushes cell entry ≡ false → flushed_after after k cell ≡ (flushed_after history k cell || (false || false))
+  pub flushed_more : (k : ℕ) → k ≤ length history → flushes cell entry ≡ false → flushed_after after k cell ≡ (flushed_after history k cell || (false || false))
   flushed_more k l misses =
       ap (list_any (flushes cell)) (drop-append-le k history (entry ∷ []) l) ∙ list_any-append (flushes cell) (drop k history) (entry ∷ [])
       ∙ ap (λ b. flushed_after history k cell || (b || false)) misses
@@ -179,7 +179,7 @@ module _ (history : List Entry) (entry : Entry) (cell : Cell) where
       ∙ ap (λ b. is_some (load_at history k) && not (list_any (ends k) history || (ends k entry || false)) && load_just_covers history k cell && not b) (flushed_more k l misses)
       ∙ awaited_parts_grow (is_some (load_at history k)) (list_any (ends k) history) (ends k entry) (load_just_covers history k cell) (flushed_after history k cell)
 
-  long : length after ≡ suc (length history)
+  pub long : length after ≡ suc (length history)
   long = let l : length after ≡ length history + 1 = length_push history entry in omega (arith, l)
 
   load_last : load_at after (suc (length history)) ≡ started entry

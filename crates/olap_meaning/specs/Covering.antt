@@ -1,5 +1,5 @@
 -- Which cells a header, a box and a region cover.
-use Rattle.std.specs.Prelude.{ℕ, List, Bool, true, ◌==◌, ◌&&◌, ◌||◌, not, Option, Some, None, ◌≡◌, Contains, filter, count_by}
+use Rattle.std.specs.Prelude.{ℕ, List, Bool, true, ◌==◌, ◌&&◌, ◌||◌, not, Option, Some, None, ◌≡◌, Contains, filter, map, count_by}
 use Rattle.std.specs.List.{list_any, list_all}
 use Rattle.olap_meaning.specs.declared.cells.Cell.{Cell}
 use Rattle.olap_meaning.specs.declared.cells.Header.{Header}
@@ -16,6 +16,10 @@ among values value = list_any (λ v. v == value) values
 abbrev pub allows : Allowed → ℕ → Bool
 allows Any value = true
 allows (Set values) value = among values value
+
+-- the columns of a cell
+abbrev pub columns_of : Cell → List ℕ
+columns_of cell = map (λ pair. pair.0) cell.at
 
 -- a cell names a column
 abbrev pub names_column : Cell → ℕ → Bool

@@ -154,13 +154,13 @@ pub record IsLegalAgg (setting : Setting) (history : List Entry) (who : Who) (ta
   pub reached : v ≤ version history cube
 
 -- a Start is legal: its load is of the present version, covers its reason with just the reason's columns, and the
--- reason is a cell of the catalog that has no exact source and that no load is awaited for
+-- reason is a cell of the catalog that has no source, exact or rolled, and that no load is awaited for
 pub record IsLegalStart (setting : Setting) (history : List Entry) (load : Load) : Type 0 where
   pub known : IsTrue (is_cell setting.catalog load.reason)
   pub rising : IsTrue (rise (map (λ column. column.0) load.header.columns))
   pub covers : IsTrue (just_covers load.header load.reason)
   pub present : load.version ≡ version history load.header.cube
-  pub needed : exact_source history load.reason ≡ None
+  pub needed : HasNoSource setting.catalog history load.reason
   pub unawaited : awaited_load history load.reason ≡ None
 
 -- the end of a load is legal: the load is flying, and who ends it has started it

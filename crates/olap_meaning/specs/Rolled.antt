@@ -20,15 +20,15 @@ pub record Offer : Type 0 where
   pub version : ℕ
 
 -- the columns of a header
-abbrev pub columns_of : Header → List ℕ
-columns_of header = map (λ own. own.0) header.columns
+abbrev pub header_columns : Header → List ℕ
+header_columns header = map (λ own. own.0) header.columns
 
 -- any value is allowed; a set is not open, though it may hold every value
 abbrev pub is_any : Allowed → Bool
 is_any Any = true
 is_any (Set values) = false
 
--- a header is open in a column
+-- a header is open in a column: any value is allowed there, or it lacks the column
 abbrev pub is_open_in : Header → ℕ → Bool
 is_open_in header column =
     list_all (λ own. not (own.0 == column) || is_any own.1) header.columns
@@ -64,7 +64,7 @@ pub record IsRolled (aggregator : Aggregator) (size : ℕ → ℕ) (cell : Cell)
   pub version : ℕ
   pub one_version : All (λ offer. offer.version ≡ version) offers
   pub columns : List ℕ
-  pub one_list : All (λ offer. columns_of offer.header ≡ columns) offers
+  pub one_list : All (λ offer. header_columns offer.header ≡ columns) offers
   pub more : (column : ℕ) × IsLacking cell columns column
   pub covering : All (λ offer. IsTrue (header_covers offer.header cell)) offers
   pub split : Option ℕ
@@ -97,7 +97,7 @@ is_open_but cell split header =
 abbrev pub fits : Cell → ℕ → Offer → Offer → Bool
 fits cell split first other =
     (other.version == first.version)
-    && bytes_eq (columns_of other.header) (columns_of first.header)
+    && bytes_eq (header_columns other.header) (header_columns first.header)
     && header_covers other.header cell && is_open_but cell split other.header
 
 -- the offers that fit one hold every value of the split together

@@ -6,6 +6,7 @@ use Rattle.olap_meaning.specs.declared.cells.Allowed.TheVariants.{Any, Set}
 use Rattle.olap_meaning.specs.declared.cells.Cell.{Cell}
 use Rattle.olap_meaning.specs.Rolled.{Offer, can_roll}
 
+-- each column has two values
 abbrev pub two : ℕ → ℕ
 two column = 2
 
@@ -17,6 +18,7 @@ whole = record { cube = 0; measure = 0; at = [] }
 abbrev pub part : Cell
 part = record { cube = 0; measure = 0; at = (2, 0) ∷ [] }
 
+-- a load by column 1, of a version
 abbrev pub by_one : Allowed → ℕ → Offer
 by_one first version =
     record {
@@ -24,6 +26,15 @@ by_one first version =
       version = version;
     }
 
+-- the offer of a load of another cube or measure
+abbrev pub by_other : ℕ → ℕ → Allowed → Offer
+by_other cube measure first =
+    record {
+      header = record { cube = cube; measure = measure; columns = (1, first) ∷ [] };
+      version = 1;
+    }
+
+-- a load by columns 1 and 2, of version 1
 abbrev pub by_both : Allowed → Allowed → Offer
 by_both first second =
     record {
@@ -71,3 +82,16 @@ pub record RolledCasesAreDecided : Type 0 where
       []) ≡ false
   pub open_beside : can_roll Sum two whole
       (by_both Any (Set (0 ∷ [])) ∷ by_both Any (Set (1 ∷ [])) ∷ []) ≡ true
+  -- two lists of columns, each with one of the two values
+  pub two_lists : can_roll Sum two whole
+      (by_one (Set (0 ∷ [])) 1 ∷ by_both (Set (1 ∷ [])) Any ∷ []) ≡ false
+  -- the first offer is of another list, and those behind it fit
+  pub behind_other : can_roll Sum two whole
+      (by_both (Set (1 ∷ [])) (Set (0 ∷ [])) ∷ by_one (Set (0 ∷ [])) 1 ∷ by_one (Set (1 ∷ [])) 1 ∷
+      []) ≡ true
+  -- loads of another measure, and of another cube
+  pub other_measure : can_roll Sum two whole (by_other 0 1 Any ∷ []) ≡ false
+  pub other_cube : can_roll Sum two whole (by_other 1 0 Any ∷ []) ≡ false
+  -- a column without values, of a load of another measure
+  pub no_values_uncovered : can_roll Sum (λ column. 0) whole
+      (by_other 0 1 (Set (0 ∷ [])) ∷ []) ≡ false

@@ -1,14 +1,19 @@
 -- The laws of sources.
-use Rattle.std.specs.Prelude.{ℕ, ◌≡◌, ◌↔◌, List, [], ◌∷◌, ◌++◌, false, All, Contains, IsTrue}
+use Rattle.std.specs.Prelude.{ℕ, suc, ◌≡◌, ◌↔◌, List, [], ◌∷◌, ◌++◌, Some, false, All, Contains, IsTrue, take}
 use Rattle.olap_meaning.specs.declared.Aggregator.{Aggregator}
+use Rattle.olap_meaning.specs.declared.Aggregator.TheVariants.{DistinctCount}
 use Rattle.olap_meaning.specs.declared.cells.Cell.{Cell}
+use Rattle.olap_meaning.specs.declared.cells.CellSource.{CellSource}
 use Rattle.olap_meaning.specs.declared.cells.Who.{Who}
 use Rattle.olap_meaning.specs.declared.regions.Region.{Region}
 use Rattle.olap_meaning.specs.declared.tables.Catalog.{Catalog}
+use Rattle.olap_meaning.specs.declared.tables.Measure.{Measure}
+use Rattle.olap_meaning.specs.declared.tables.Setting.{Setting}
 use Rattle.olap_meaning.specs.Covering.{region_covers}
-use Rattle.olap_meaning.specs.History.{Entry, Flush}
+use Rattle.olap_meaning.specs.History.{Entry, Answer, Flush, Load, Start, entry_at, exact_source}
 use Rattle.olap_meaning.specs.Rolled.{Offer, IsRolled, IsRolledSource, can_roll, has_rolled_source}
-use Rattle.olap_meaning.specs.Legal.{HasNoSource, IsSource, has_source}
+use Rattle.olap_meaning.specs.Legal.{HasNoSource, IsSource, Legal, has_source}
+use Rattle.olap_meaning.specs.Worth.{measure_of}
 
 -- among offers there are some that are rolled up to a cell exactly where `can_roll` says so
 abbrev pub SomeRollExactly : Type 0
@@ -31,6 +36,25 @@ pub record SourcesAreDecided : Type 0 where
       ↔ ((loads : List ℕ) × IsSource catalog history cell loads)
   pub lacks : (catalog : Catalog) (history : List Entry) (cell : Cell)
       → has_source catalog history cell ≡ false ↔ HasNoSource catalog history cell
+
+-- a load that is started gives no cell a source: it has to be delivered first
+abbrev pub StartsGiveNoSource : Type 0
+StartsGiveNoSource =
+    (setting : Setting) (history : List Entry) (load : Load) (cell : Cell) → Legal setting history
+    → HasNoSource setting.catalog history cell
+    → HasNoSource setting.catalog (history ++ Start load ∷ []) cell
+
+-- a distinct count is never rolled up: an answered one was taken from its exact source alone
+abbrev pub DistinctCountsAreExact : Type 0
+DistinctCountsAreExact =
+    (setting : Setting) (history : List Entry) → Legal setting history
+    → (before : ℕ) (who : Who) (cells : List CellSource)
+    → entry_at history (suc before) ≡ Some (Answer who cells)
+    → (answered : CellSource) → Contains cells answered
+    → (measure : Measure) → measure_of setting.catalog answered.cell ≡ Some measure
+    → measure.aggregator ≡ DistinctCount
+    → (j : ℕ) × (exact_source (take before history) answered.cell ≡ Some j)
+    × (answered.loads ≡ j ∷ [])
 
 -- a flush that covers a cell leaves it without a source, exact or rolled
 abbrev pub FlushesLeaveNoSource : Type 0

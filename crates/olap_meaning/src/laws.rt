@@ -4,7 +4,7 @@ ghost use Rattle.olap_meaning.specs.Equivalents.{FloorIsGreatest, LiveIsByPositi
 ghost use Rattle.olap_meaning.specs.Growth.{LegalGrows, VersionGrows, FloorGrows, ExactSourceGrows, AwaitedLoadGrows, RegionsGrow, ShuttingGrows, LoadsStartWhole};
 ghost use Rattle.olap_meaning.specs.Limits.{LimitsAreStated};
 ghost use Rattle.olap_meaning.specs.RolledCases.{RolledCasesAreDecided};
-ghost use Rattle.olap_meaning.specs.Sources.{FlushesLeaveNoSource, RolledSourcesAreDecided, SomeRollExactly, SourcesAreDecided};
+ghost use Rattle.olap_meaning.specs.Sources.{DistinctCountsAreExact, FlushesLeaveNoSource, RolledSourcesAreDecided, SomeRollExactly, SourcesAreDecided, StartsGiveNoSource};
 ghost use Rattle.olap_meaning.specs.Laws.{PrefixesAreLegal, VersionsRise, AnswersAreFresh, AnswersAreServed, FlushesShutOff, OthersServeOn, RegionsReachUp, RegionsConcern, RegionsShutOff, TouchingAreCounted, DeliveredAreKept, LoadsAreNotDoubled, LoadsEndOnce, CallsRise, SomeAnswerIsLegal};
 
 /// The limits of the code are the numbers of the definitions.
@@ -160,6 +160,16 @@ pub fn rolled_sources_are_decided()
 /// A cell has a source, exact or rolled, exactly where `has_source` says so.
 pub fn sources_are_decided()
     ensures { SourcesAreDecided }
+{}
+
+/// A load that is started gives no cell a source: it has to be delivered first.
+pub fn starts_give_no_source()
+    ensures { StartsGiveNoSource }
+{}
+
+/// A distinct count is never rolled up: an answered one was taken from its exact source alone.
+pub fn distinct_counts_are_exact()
+    ensures { DistinctCountsAreExact }
 {}
 
 /// A flush that covers a cell leaves it without a source, exact or rolled.

@@ -12,7 +12,7 @@ use Rattle.olap_meaning.specs.declared.tables.Measure.{Measure}
 use Rattle.olap_meaning.specs.Covering.{names_column}
 use Rattle.olap_meaning.specs.History.{Entry, is_some_and, live, load_version}
 use Rattle.olap_meaning.specs.Worth.{measure_of}
-use Rattle.olap_meaning.specs.Rolled.{Offer, IsRolled, IsRolledSource, adds_up, all_below, allows_in, can_split, columns_of, fits, fitting_hold, live_up_to, offered, some_allows, value_count}
+use Rattle.olap_meaning.specs.Rolled.{Offer, IsRolled, IsRolledSource, adds_up, all_below, allows_in, can_split, header_columns, fits, fitting_hold, live_up_to, offered, some_allows, value_count}
 use Rattle.olap_meaning.proofs.Fresh.{live_offer}
 use Rattle.olap_meaning.proofs.Loads.{some_and}
 use Rattle.olap_meaning.proofs.Members.{All-from_member, all_below_at, all_below_from, all_member, any_member, filter_map_member, in_first, in_rest, map_member, member_all, member_any, member_filter_map}
@@ -40,7 +40,7 @@ module _ (catalog : Catalog) (history : List Entry) (cell : Cell) (loads : List 
   load_allows column value = sym (any-filter_map (λ offer. allows_in offer.header column value) (offered history) loads)
 
   -- loads that all fit the first along a column, and hold its values, are rolled up
-  along_rolls : (measure : Measure) → adds_up measure.aggregator ≡ true → (first : Offer) → Contains offers first → (split : ℕ) → Contains (columns_of first.header) split → roll_along catalog history cell loads first split ≡ true → IsRolled measure.aggregator size cell offers
+  along_rolls : (measure : Measure) → adds_up measure.aggregator ≡ true → (first : Offer) → Contains offers first → (split : ℕ) → Contains (header_columns first.header) split → roll_along catalog history cell loads first split ≡ true → IsRolled measure.aggregator size cell offers
   along_rolls measure adds first held split own along = subst (IsRolled measure.aggregator size cell) (filter_all (fits cell split first) offers each) (split_rolls size cell offers measure.aggregator first split adds held own can)
     where
       outer : ((not (names_column cell split) && all_fit first split) ≡ true) × (all_below (size split) (some_load_allows history loads split) ≡ true)

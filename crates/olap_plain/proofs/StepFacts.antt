@@ -1,6 +1,6 @@
 -- Plain entries as entries, for legal steps.
-use Rattle.std.proofs.Common.{◌≡◌, refl, sym, ◌∙◌, ap, ℕ, List, [], ◌∷◌, Bool, true, false, cond, ◌&&◌, map, filter, Option, Some, None, is_none, nat_le, ◌==◌, ◌↔◌, IsTrue, subst, ◌+◌, ◌<◌, ◌≤◌, suc, take, length, get_or, option_map, inl, inr, arith}
-use Rattle.std.proofs.lemmas.Bool.{and_parts, and_from, leb-true, le-leb, eqb-true, eq-eqb, cases_order}
+use Rattle.std.proofs.Common.{◌≡◌, refl, sym, ◌∙◌, ap, ℕ, List, [], ◌∷◌, Bool, true, false, cond, ◌&&◌, map, filter, Option, Some, None, is_none, nat_le, not, ◌==◌, ◌↔◌, IsTrue, subst, ◌+◌, ◌<◌, ◌≤◌, suc, take, length, get_or, option_map, inl, inr, arith}
+use Rattle.std.proofs.lemmas.Bool.{and_parts, and_from, leb-true, le-leb, eqb-true, eq-eqb, cases_order, not-true}
 use Rattle.std.proofs.lemmas.List.{take-map, length-map}
 use Rattle.std.proofs.lemmas.Option.{slice_get-map, slice_get_read}
 use Rattle.olap_meaning.proofs.Positions.{entry_within}
@@ -8,12 +8,13 @@ use Rattle.olap_meaning.specs.declared.tables.Setting.{Setting}
 use Rattle.olap_meaning.specs.declared.cells.Who.{Who}
 use Rattle.olap_meaning.specs.Catalog.{table_cube}
 use Rattle.olap_meaning.proofs.Loads.{some_and}
+use Rattle.olap_meaning.proofs.RolledSources.{sources_are_decided}
 use Rattle.olap_meaning.specs.Covering.{just_covers}
 use Rattle.olap_plain.specs.StepTests.{agg_test, start_test}
 use Rattle.std.specs.List.{list_all}
 use Rattle.olap_plain.specs.declared.entries.PlainEntry.{PlainEntry}
-use Rattle.olap_meaning.specs.History.{Entry, Load, entry_at, version, exact_source, awaited_load, is_some_and}
-use Rattle.olap_meaning.specs.Legal.{IsLegalAgg, IsLegalStart, Legal, LegalStep, is_cell, is_next_call, rise}
+use Rattle.olap_meaning.specs.History.{Entry, Load, entry_at, version, awaited_load, is_some_and}
+use Rattle.olap_meaning.specs.Legal.{IsLegalAgg, IsLegalStart, Legal, LegalStep, has_source, is_cell, is_next_call, rise}
 use Rattle.olap_plain.specs.Entries.{entry_of, entries}
 
 pub all_kept : (test keep : Entry → Bool) (plain : List PlainEntry) → list_all test (filter keep (entries plain)) ≡ list_all (λ e. test (entry_of e)) (filter (λ e. keep (entry_of e)) plain)
@@ -35,10 +36,10 @@ module _ (setting : Setting) (history : List Entry) (load : Load) where
 
   started : passes ≡ true → IsLegalStart setting history load
   started h =
-      let f : ((is_cell setting.catalog load.reason && rise (map (λ column. column.0) load.header.columns) && just_covers load.header load.reason && (load.version == version history load.header.cube) && is_none (exact_source history load.reason)) ≡ true)
+      let f : ((is_cell setting.catalog load.reason && rise (map (λ column. column.0) load.header.columns) && just_covers load.header load.reason && (load.version == version history load.header.cube) && not (has_source setting.catalog history load.reason)) ≡ true)
       × (is_none (awaited_load history load.reason) ≡ true) = and_parts _ _ h in
       let e : ((is_cell setting.catalog load.reason && rise (map (λ column. column.0) load.header.columns) && just_covers load.header load.reason && (load.version == version history load.header.cube)) ≡ true)
-      × (is_none (exact_source history load.reason) ≡ true) = and_parts _ _ f.0 in
+      × (not (has_source setting.catalog history load.reason) ≡ true) = and_parts _ _ f.0 in
       let d : ((is_cell setting.catalog load.reason && rise (map (λ column. column.0) load.header.columns) && just_covers load.header load.reason) ≡ true)
       × ((load.version == version history load.header.cube) ≡ true) = and_parts _ _ e.0 in
       let b : ((is_cell setting.catalog load.reason && rise (map (λ column. column.0) load.header.columns)) ≡ true)
@@ -49,7 +50,7 @@ module _ (setting : Setting) (history : List Entry) (load : Load) where
         rising = a.1;
         covers = b.1;
         present = eqb-true load.version (version history load.header.cube) d.1;
-        needed = nothing (exact_source history load.reason) e.1;
+        needed = (sources_are_decided.lacks setting.catalog history load.reason).0 (not-true (has_source setting.catalog history load.reason) e.1);
         unawaited = nothing (awaited_load history load.reason) f.1;
       }
 
@@ -58,7 +59,7 @@ module _ (setting : Setting) (history : List Entry) (load : Load) where
       and_from _ _
       (and_from _ _
       (and_from _ _ (and_from _ _ (and_from _ _ is.known is.rising) is.covers) (eq-eqb load.version (version history load.header.cube) is.present))
-      (ap is_none is.needed))
+      (ap not ((sources_are_decided.lacks setting.catalog history load.reason).1 is.needed)))
       (ap is_none is.unawaited)
 
   pub start_decided : (b : Bool) → b ≡ passes → (b ≡ true) ↔ (IsLegalStart setting history load)

@@ -1,5 +1,5 @@
 -- The conditions of three legal steps as tests, for the plain code that decides them.
-use Rattle.std.specs.Prelude.{ℕ, ◌+◌, List, Bool, ◌==◌, ◌&&◌, length, map, nat_lt, nat_le, is_none}
+use Rattle.std.specs.Prelude.{ℕ, ◌+◌, List, Bool, ◌==◌, ◌&&◌, length, map, nat_lt, nat_le, is_none, not}
 use Rattle.std.specs.List.{list_all}
 use Rattle.olap_meaning.specs.declared.TheConstants.{VERSION_LIMIT}
 use Rattle.olap_meaning.specs.declared.tables.Setting.{Setting}
@@ -8,9 +8,9 @@ use Rattle.olap_meaning.specs.declared.cells.Cell.{Cell}
 use Rattle.olap_meaning.specs.declared.cells.Header.{Header}
 use Rattle.olap_meaning.specs.declared.tables.Row.{Row}
 use Rattle.olap_meaning.specs.Covering.{just_covers}
-use Rattle.olap_meaning.specs.History.{Entry, version, exact_source, awaited_load, is_some_and}
+use Rattle.olap_meaning.specs.History.{Entry, version, awaited_load, is_some_and}
 use Rattle.olap_meaning.specs.Catalog.{table_cube}
-use Rattle.olap_meaning.specs.Legal.{is_next_call, is_row, is_cell, rise, rows_held}
+use Rattle.olap_meaning.specs.Legal.{has_source, is_next_call, is_row, is_cell, rise, rows_held}
 
 -- the six conditions of a legal append, in their order
 abbrev pub append_test : Setting → List Entry → Who → ℕ → ℕ → List Row → Bool
@@ -31,4 +31,4 @@ abbrev pub start_test : Setting → List Entry → Header → ℕ → Cell → B
 start_test setting history header v reason =
     is_cell setting.catalog reason && rise (map (λ column. column.0) header.columns)
     && just_covers header reason && (v == version history header.cube)
-    && is_none (exact_source history reason) && is_none (awaited_load history reason)
+    && not (has_source setting.catalog history reason) && is_none (awaited_load history reason)

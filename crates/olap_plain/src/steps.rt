@@ -12,10 +12,8 @@ ghost use Rattle.olap_plain.specs.StepTests.{agg_test, append_test, start_test};
 
 use crate::PlainEntry;
 use crate::catalogs::{fact_column_count, records, table_cube, value_count};
-use crate::history::{
-    awaited_load, exact_source, flying, just_covers, starter, version, version_at,
-};
-use crate::sources::is_source;
+use crate::history::{awaited_load, flying, just_covers, starter, version, version_at};
+use crate::sources::{has_source, is_source};
 use olap_meaning::tables::{Catalog, Cube, Row, Setting};
 use olap_meaning::{
     Cell, CellSource, ColumnId, CubeId, Header, LeafId, List, Region, RegionBox, RegionDim,
@@ -402,7 +400,7 @@ fn start_passes(
         && columns_rise(header.columns.as_slice())
         && just_covers(header, reason)
         && is_present(history, header.cube, present)
-        && exact_source(history, reason).is_none()
+        && !has_source(&setting.catalog, history, reason)
         && awaited_load(history, reason).is_none()
 }
 

@@ -14,7 +14,7 @@ use Rattle.cache_opening.specs.declared.fault.OpenFault.{OpenFault}
 use Rattle.cache_opening.specs.declared.fault.OpenFault.TheVariants as fault
 use Rattle.history_core.specs.History.{HistoryOf}
 use Rattle.history_core.specs.Cache.{CacheOf}
-use Rattle.line_session.specs.Replies.{Texts}
+use Rattle.line_session.specs.Tools.{ToolsOf}
 use Rattle.olap_server.specs.Asked.{IsAsked, MayLackMemory}
 use Rattle.olap_server.specs.Run.{Around, AskedTells, EndsRun, IsCutOff, IsLastLine, IsTold, OpeningTells, SayTells, ServesDesk, Tells, cache_of}
 use Rattle.olap_server.specs.Said.{Said, no_memory, told_opening}
@@ -30,15 +30,15 @@ cache_is history after same entries =
     ap with_entries entries ∙ ap with_setting same
 
 -- a session over a cache is one over the cache of its history
-pub ends_run : (texts : Texts) (files : Option Files) (opened after : CacheOf) (history : HistoryOf) (start finish : Around) (status : Status) → history.setting ≡ after.setting → history.entries ≡ after.entries
-    → ServesDesk texts files opened after start finish status → EndsRun texts files opened history start finish status
-ends_run texts files opened after history start finish status same entries serves = subst (λ (k : CacheOf). ServesDesk texts files opened k start finish status) (sym (cache_is history after same entries)) serves
+pub ends_run : (tools : ToolsOf) (files : Option Files) (opened after : CacheOf) (history : HistoryOf) (start finish : Around) (status : Status) → history.setting ≡ after.setting → history.entries ≡ after.entries
+    → ServesDesk tools files opened after start finish status → EndsRun tools files opened history start finish status
+ends_run tools files opened after history start finish status same entries serves = subst (λ (k : CacheOf). ServesDesk tools files opened k start finish status) (sym (cache_is history after same entries)) serves
 
 -- there was no memory to begin
 pub has_not_begun :
-    (texts : Texts) (files : Option Files) (opened after : CacheOf) (start finish : Around) (status : Status) (said : Said) → after ≡ opened → said ≡ no_memory → IsLastLine said.status said.text start.talk finish.talk status → finish.answers ≡ start.answers → finish.left ≡ start.left
-    → ServesDesk texts files opened after start finish status
-has_not_begun texts files opened after start finish status said unserved is last unasked unread =
+    (tools : ToolsOf) (files : Option Files) (opened after : CacheOf) (start finish : Around) (status : Status) (said : Said) → after ≡ opened → said ≡ no_memory → IsLastLine said.status said.text start.talk finish.talk status → finish.answers ≡ start.answers → finish.left ≡ start.left
+    → ServesDesk tools files opened after start finish status
+has_not_begun tools files opened after start finish status said unserved is last unasked unread =
     inr (record {
       same = unserved;
       last = subst (λ (s : Said). IsLastLine s.status s.text start.talk finish.talk status) is last;

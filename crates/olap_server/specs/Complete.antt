@@ -5,7 +5,7 @@ use Rattle.outside.specs.Told.{Files}
 use Rattle.history_core.specs.Cache.{CacheOf}
 use Rattle.history_core.specs.History.{HistoryOf}
 use Rattle.line_session.specs.Conversations.{HasConversed, fresh}
-use Rattle.line_session.specs.Replies.{Texts}
+use Rattle.line_session.specs.Tools.{ToolsOf}
 use Rattle.line_session.specs.Sessions.{byte_limit}
 use Rattle.line_session.specs.declared.end.SessionEnd.{SessionEnd}
 use Rattle.line_session.specs.declared.end.SessionEnd.TheVariants as end
@@ -27,19 +27,19 @@ status_by_itself end.Memory = None
 
 -- a conversation has passed to its end, in which each line was handled and replied to, and then at most the line of the
 -- status; no failure has ended it
-pub record IsComplete (texts : Texts) (files : Option Files) (opened cache : CacheOf) (start finish : Around)
+pub record IsComplete (tools : ToolsOf) (files : Option Files) (opened cache : CacheOf) (start finish : Around)
     (status : Status) : Type 0 where
   pub end : SessionEnd
   pub by_itself : status_by_itself end ≡ Some status
   pub talk : List Event
-  pub conversed : HasConversed texts start.talk talk start.answers finish.answers files
+  pub conversed : HasConversed tools start.talk talk start.answers finish.answers files
       (fresh byte_limit) (desk_over opened) (desk_over cache) end
   pub last : IsLast end talk finish.talk status
 
 -- where nothing has failed on the link, and no want of memory is answered, a run over a cache is complete
-abbrev pub RunsAreComplete : Texts → Type 0
-RunsAreComplete texts =
+abbrev pub RunsAreComplete : ToolsOf → Type 0
+RunsAreComplete tools =
     (files : Option Files) (opened : CacheOf) (history : HistoryOf) (start finish : Around)
-    (status : Status) → EndsRun texts files opened history start finish status
+    (status : Status) → EndsRun tools files opened history start finish status
     → failures finish.talk ≡ failures start.talk → status ≢ Memory
-    → IsComplete texts files opened (cache_of history) start finish status
+    → IsComplete tools files opened (cache_of history) start finish status

@@ -11,7 +11,7 @@ use Rattle.line_session.specs.declared.end.SessionEnd.{SessionEnd}
 use Rattle.line_session.specs.declared.end.SessionEnd.TheVariants as end
 use Rattle.line_session.specs.Desks.{DeskOf, rows_started}
 use Rattle.line_session.specs.Conversations.{HasConversed, fresh}
-use Rattle.line_session.specs.Replies.{Texts}
+use Rattle.line_session.specs.Tools.{ToolsOf}
 use Rattle.line_session.specs.Sessions.{IsServed, byte_limit}
 use Rattle.fault_texts.specs.FaultTexts.{fact_line}
 use Rattle.olap_meaning.specs.Commands.{CellCommand, Command, Cell, Run, command_of}
@@ -213,15 +213,15 @@ desk_over cache = record { cache = cache; seat = 1; alone = true; fronts = None 
 
 -- a session was served over a cache, which was a conversation, and then the last was said; where the link tells what
 -- is left, the lines that were handled are those of it
-pub record HasServed (texts : Texts) (files : Option Files) (opened cache : CacheOf) (start finish : Around)
+pub record HasServed (tools : ToolsOf) (files : Option Files) (opened cache : CacheOf) (start finish : Around)
     (status : Status) : Type 0 where
   pub end : SessionEnd
   pub talk : List Event
   pub asked : List Fetched
-  pub conversed : HasConversed texts start.talk talk start.answers finish.answers files
+  pub conversed : HasConversed tools start.talk talk start.answers finish.answers files
       (fresh byte_limit) (desk_over opened) (desk_over cache) end
   pub answered : finish.answers ≡ start.answers ++ asked
-  pub served : IsServed texts byte_limit end
+  pub served : IsServed tools byte_limit end
       (record { before = desk_over opened; after = desk_over cache; asked = asked }) start.left
       (taken start.talk) (taken talk)
   pub last : IsLast end talk finish.talk status
@@ -239,15 +239,15 @@ abbrev pub cache_of : HistoryOf → CacheOf
 cache_of history = record { setting = history.setting; entries = history.entries }
 
 -- a session over a cache was served, or could not begin
-abbrev pub ServesDesk : Texts → Option Files → CacheOf → CacheOf → Around → Around → Status → Type 0
-ServesDesk texts files opened cache start finish status =
-    HasServed texts files opened cache start finish status
+abbrev pub ServesDesk : ToolsOf → Option Files → CacheOf → CacheOf → Around → Around → Status → Type 0
+ServesDesk tools files opened cache start finish status =
+    HasServed tools files opened cache start finish status
     ⊎ HasNotBegun opened cache start finish status
 
 -- a run ends over a cache that was opened: its session was served, or could not begin
-abbrev pub EndsRun : Texts → Option Files → CacheOf → HistoryOf → Around → Around → Status → Type 0
-EndsRun texts files opened history start finish status =
-    ServesDesk texts files opened (cache_of history) start finish status
+abbrev pub EndsRun : ToolsOf → Option Files → CacheOf → HistoryOf → Around → Around → Status → Type 0
+EndsRun tools files opened history start finish status =
+    ServesDesk tools files opened (cache_of history) start finish status
 
 -- as many steps were added at most as the loads have rows that were started in a cache
 abbrev pub IsWithin : CacheOf → HistoryOf → ℕ → ℕ → Type 0
@@ -259,12 +259,12 @@ abbrev pub with_answers : Around → List Fetched → Around
 with_answers around answers = record around { answers = answers }
 
 -- a run of the words opened a cache from their schema's file, and then served a session over it
-pub record RunsSession (texts : Texts) (words : Words) (files : Option Files) (start finish : Around)
+pub record RunsSession (tools : ToolsOf) (words : Words) (files : Option Files) (start finish : Around)
     (steps_before steps_after : ℕ) (history : HistoryOf) (status : Status) : Type 0 where
   pub file : List ℕ
   pub command : IsAsked words (Some (Run file))
   pub cache : CacheOf
   pub answers : List Fetched
   pub opened : IsOpened files start.answers answers file cache
-  pub ends : EndsRun texts files cache history (with_answers start answers) finish status
+  pub ends : EndsRun tools files cache history (with_answers start answers) finish status
   pub steps : IsWithin cache history steps_before steps_after

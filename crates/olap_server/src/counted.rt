@@ -1,8 +1,8 @@
 //! The top call with a counter of its own.
 ghost use Rattle.std.specs.Prelude.{◌≡◌, ◌≢◌, ℕ, IfSome, None};
 ghost use Rattle.olap_meaning.specs.Legal.{Legal};
-ghost use Rattle.shown_values.specs.Given.{Given};
 ghost use Rattle.olap_server.specs.Run.{IsCutOff, IsTold, RunsSession, around_of};
+ghost use Rattle.line_session.specs.Tools.{tools_of};
 
 use crate::sessions::Ended;
 use crate::status::Status;
@@ -11,6 +11,7 @@ use crate::words::Words;
 use fact_versions::Steps;
 use line_session::Tools;
 use outside::{Depot, Link};
+use segment_header::{AllowsValues, Widener};
 use shown_values::{Formatter, GivesTexts};
 use std::alloc::Global;
 use std::sync::ledger::{Blank, Ledger};
@@ -31,7 +32,8 @@ pub fn carry_out<D: Depot, K: Link, L: Ledger>(
     requires one { blank.parts ≡ 1 }
     ensures session { IfSome result.history
         (λ history. (steps : ℕ) × RunsSession
-        (Given (⟦<Formatter as GivesTexts>⟧.answers tools.now.formatter))
+        (tools_of (⟦<Formatter as GivesTexts>⟧.answers tools.now.formatter)
+        (⟦<Widener as AllowsValues>⟧.answers tools.now.widener))
         words.now (D.files depot.old)
         (around_of D.answers K.talk K.left depot.old link.old)
         (around_of D.answers K.talk K.left depot.new link.new) 0 steps history result.status) }

@@ -3,9 +3,9 @@ ghost use Rattle.std.specs.Prelude.{◌≡◌, ◌≢◌, ◌≤◌, ◌+◌, []
 ghost use Rattle.history_core.specs.Seats.{NoneFlies, entries_of};
 ghost use Rattle.line_session.specs.Desks.{rows_started};
 ghost use Rattle.olap_meaning.specs.Legal.{Legal};
-ghost use Rattle.shown_values.specs.Given.{Given};
 ghost use Rattle.olap_server.specs.Run.{EndsRun, IsLast, IsWithin, SayTells, ServesDesk, around_of};
 ghost use Rattle.olap_server.specs.Said.{budget_line, no_memory};
+ghost use Rattle.line_session.specs.Tools.{tools_of};
 
 use crate::reply::Reply;
 use crate::status::Status;
@@ -19,6 +19,7 @@ use manager_desk::ManagerDesk;
 use olap_catalog::Catalog;
 use olap_meaning::{OutOfMemory, Text, named_line};
 use outside::{Depot, Link};
+use segment_header::{AllowsValues, Widener};
 use shown_values::{Formatter, GivesTexts};
 use std::alloc::Global;
 use std::sync::Arc;
@@ -93,7 +94,8 @@ fn serve_with<D: Depot, K: Link, L: Ledger>(
     steps: &mut Steps<L>,
 ) -> Status
     requires catalog { catalog.now ≡ desk.old.setting.catalog }
-    ensures served { ServesDesk (Given (⟦<Formatter as GivesTexts>⟧.answers tools.now.formatter))
+    ensures served { ServesDesk (tools_of (⟦<Formatter as GivesTexts>⟧.answers tools.now.formatter)
+        (⟦<Widener as AllowsValues>⟧.answers tools.now.widener))
         (D.files depot.old) desk.old desk.new
         (around_of D.answers K.talk K.left depot.old link.old)
         (around_of D.answers K.talk K.left depot.new link.new) result }
@@ -116,7 +118,8 @@ fn serve_desk<D: Depot, K: Link, L: Ledger>(
     tools: &Tools,
     steps: &mut Steps<L>,
 ) -> Status
-    ensures served { ServesDesk (Given (⟦<Formatter as GivesTexts>⟧.answers tools.now.formatter))
+    ensures served { ServesDesk (tools_of (⟦<Formatter as GivesTexts>⟧.answers tools.now.formatter)
+        (⟦<Widener as AllowsValues>⟧.answers tools.now.widener))
         (D.files depot.old) desk.old desk.new
         (around_of D.answers K.talk K.left depot.old link.old)
         (around_of D.answers K.talk K.left depot.new link.new) result }
@@ -142,7 +145,8 @@ pub(crate) fn serve_opened<D: Depot, K: Link, L: Ledger>(
     requires unused { entries_of opened.entries 1 ≡ [] }
     requires idle { NoneFlies opened.entries }
     ensures served { IfSome result.history (λ history. EndsRun
-        (Given (⟦<Formatter as GivesTexts>⟧.answers tools.now.formatter))
+        (tools_of (⟦<Formatter as GivesTexts>⟧.answers tools.now.formatter)
+        (⟦<Widener as AllowsValues>⟧.answers tools.now.widener))
         (D.files depot.old) opened history
         (around_of D.answers K.talk K.left depot.old link.old)
         (around_of D.answers K.talk K.left depot.new link.new) result.status) }

@@ -8,10 +8,10 @@ ghost use Rattle.fault_texts.specs.FaultTexts.{fact_line};
 ghost use Rattle.olap_meaning.specs.Texts.{line, plain_text};
 ghost use Rattle.olap_meaning.specs.FileQuery.{answer_of};
 ghost use Rattle.olap_meaning.specs.Legal.{Legal};
-ghost use Rattle.shown_values.specs.Given.{Given};
 ghost use Rattle.olap_server.specs.Faults.{refusal_text};
 ghost use Rattle.olap_server.specs.Said.{IsSaid, Said, memory_line, no_memory};
 ghost use Rattle.olap_server.specs.Run.{AnswerTells, CellTells, EndsRun, IsCutOff, IsLastLine, IsTold, IsWithin, OpeningTells, RunsSession, around_of, with_answers};
+ghost use Rattle.line_session.specs.Tools.{tools_of};
 
 use crate::cell::cell_of_csv;
 use crate::cell_command::CellCommand;
@@ -27,6 +27,7 @@ use fault_texts::fact_line;
 use line_session::Tools;
 use olap_meaning::{CellValue, OutOfMemory, Text, named_line, plain_text};
 use outside::{Depot, DepotRefusal, Link};
+use segment_header::{AllowsValues, Widener};
 use shown_values::{Formatter, GivesTexts};
 use std::alloc::Global;
 use std::sync::ledger::Ledger;
@@ -49,7 +50,8 @@ pub fn run<D: Depot, K: Link, L: Ledger>(
 ) -> Ended
     // Where a cache was opened, a session was served over it.
     ensures session { IfSome result.history (λ history. RunsSession
-        (Given (⟦<Formatter as GivesTexts>⟧.answers tools.now.formatter))
+        (tools_of (⟦<Formatter as GivesTexts>⟧.answers tools.now.formatter)
+        (⟦<Widener as AllowsValues>⟧.answers tools.now.widener))
         words.now (D.files depot.old)
         (around_of D.answers K.talk K.left depot.old link.old)
         (around_of D.answers K.talk K.left depot.new link.new)
@@ -114,7 +116,8 @@ fn run_session<D: Depot, K: Link, L: Ledger>(
     ensures session { IfSome result.history (λ history. (opened : CacheOf)
         × (answers : List Fetched)
         × IsOpened (D.files depot.old) (D.answers depot.old) answers file.now opened
-        × EndsRun (Given (⟦<Formatter as GivesTexts>⟧.answers tools.now.formatter))
+        × EndsRun (tools_of (⟦<Formatter as GivesTexts>⟧.answers tools.now.formatter)
+        (⟦<Widener as AllowsValues>⟧.answers tools.now.widener))
         (D.files depot.old) opened history
         (with_answers (around_of D.answers K.talk K.left depot.old link.old) answers)
         (around_of D.answers K.talk K.left depot.new link.new) result.status

@@ -1,13 +1,15 @@
 //! `olapd`: answers cells over CSV files.
 #![tactic(auto)]
 
-ghost use Rattle.std.specs.Prelude.{◌≡◌, IfOk};
+ghost use Rattle.std.specs.Prelude.{◌≡◌, IfOk, IsTrue};
 ghost use Rattle.olap_meaning.specs.Texts.{CanBeShown, plain_text};
 ghost use Rattle.query_meaning.specs.Shown.{Shows};
+ghost use Rattle.segment_header.specs.Widening.{Serves, WidensPlainly, are_wanted};
 
-use olap_meaning::{CellValue, OutOfMemory, Text};
+use olap_meaning::{Allowed, CellValue, OutOfMemory, Text, ValueId};
 use olap_server::{Tools, Words, carry_out, refuse_for_memory};
 use outside::{FolderDepot, Pair, StdSink, StdSource};
+use segment_header::{Widening, plain_widener, widened_plainly};
 use shown_values::{Showing, plain_formatter, shown_plainly};
 use std::io::ErrorKind;
 use std::marker::Brand;
@@ -47,8 +49,21 @@ fn main(rt: HostRuntime) -> ExitCode {
         return ExitCode::from(refuse_for_memory(&mut link).number());
     };
     let show: Showing = show;
+    let widened = Box::new(
+        alloc,
+        move |wanted: &[ValueId], count: u32| -> Result<Allowed, OutOfMemory>
+            requires { IsTrue (are_wanted wanted.now count) }
+            ensures plain { IfOk result (WidensPlainly wanted.now count) }
+            ensures serves { IfOk result (Serves wanted.now count) }
+        { widened_plainly(alloc, wanted, count) },
+    );
+    let Ok(widen) = widened else {
+        return ExitCode::from(refuse_for_memory(&mut link).number());
+    };
+    let widen: Widening = widen;
     let tools = Tools {
         formatter: plain_formatter(show),
+        widener: plain_widener(widen),
     };
     let ended = carry_out::<_, _, Brand>(
         &rt,

@@ -15,7 +15,7 @@ use Rattle.olap_meaning.specs.declared.tables.Row.{Row}
 use Rattle.olap_meaning.specs.Covering.{allows, among, header_covers, names_column}
 use Rattle.olap_meaning.specs.History.{is_some_and}
 use Rattle.olap_meaning.specs.Legal.{rise}
-use Rattle.olap_meaning.specs.Rolled.{allows_in, columns_of, is_any, is_open_but, value_count}
+use Rattle.olap_meaning.specs.Rolled.{allows_in, header_columns, is_any, is_open_but, value_count}
 use Rattle.olap_meaning.specs.Worth.{fact, measure_of, row_in, row_value}
 use Rattle.olap_meaning.proofs.Members.{all_member, any_member, map_member, member_all, member_any}
 use Rattle.list_orders.proofs.Permutations.{IsPermutation-filter}
@@ -24,8 +24,8 @@ use Rattle.segment_header.proofs.RiseFacts.{found_at, key_told, key_here}
 use Rattle.segment_body.specs.AllFolds.{FoldOf, fold_numbers}
 use Rattle.segment_body.specs.Folds.{body_row_within, has_allowed, numbers_where}
 use Rattle.segment_body.specs.BodyOf.{body_row_in}
-use Rattle.segment_load.specs.Loads.{HoldsRows, allowed_values, body_rows, header_measure, row_number, row_values}
-use Rattle.segment_load.proofs.LawFacts.{all_stand, is_kept, missed, stands_where}
+use Rattle.fact_reader.specs.BodyRows.{HoldsRows, allowed_values, body_rows, header_measure, row_number, row_values}
+use Rattle.fact_reader.proofs.LawFacts.{all_stand, is_kept, missed, stands_where}
 use Rattle.rollup_plan.specs.Rolls.{is_valued}
 
 -- a row's value in a column is one that is allowed
@@ -44,11 +44,11 @@ any_allows (Set values) v is = absurd (cc)
 pub record Serves (catalog : Catalog) (cell : Cell) (split : ℕ) (rows : List Row) (fold : FoldOf) : Type 0 where
   pub formed : is_header fold.body.header ≡ true
   pub covering : header_covers fold.body.header cell ≡ true
-  pub having : Contains (columns_of fold.body.header) split
+  pub having : Contains (header_columns fold.body.header) split
   pub opened : is_open_but cell split fold.body.header ≡ true
   pub within : (value : ℕ) → allows fold.own value ≡ true → allows_in fold.body.header split value ≡ true
   pub holds : HoldsRows catalog fold.body.header rows fold.body
-  pub valued : list_all (λ row. list_all (is_valued catalog cell.cube row) (columns_of fold.body.header)) rows ≡ true
+  pub valued : list_all (λ row. list_all (is_valued catalog cell.cube row) (header_columns fold.body.header)) rows ≡ true
   pub along : fold.column ≡ split
 
 module _ (catalog : Catalog) (cell : Cell) (split : ℕ) (rows : List Row) (fold : FoldOf) (serves : Serves catalog cell split rows fold) where
@@ -84,9 +84,9 @@ module _ (catalog : Catalog) (cell : Cell) (split : ℕ) (rows : List Row) (fold
       sym (key_here own.0 x (test own.1) here) ∙ sym (ap (λ (mine : ℕ × Allowed). (mine.0 == x) && test mine.1) at) ∙ sym first ∙ found
 
   has_split : among (map (λ column. column.0) h.columns) split ≡ true
-  has_split = any_member (λ column. column == split) (columns_of h) split serves.having (eq-eqb split split refl)
+  has_split = any_member (λ column. column == split) (header_columns h) split serves.having (eq-eqb split split refl)
 
-  module _ (row : Row) (valued : list_all (is_valued catalog cell.cube row) (columns_of h) ≡ true) where
+  module _ (row : Row) (valued : list_all (is_valued catalog cell.cube row) (header_columns h) ≡ true) where
     abbrev value_on : ℕ → Option ℕ
     value_on = row_value catalog cell.cube row
 
@@ -113,7 +113,7 @@ module _ (catalog : Catalog) (cell : Cell) (split : ℕ) (rows : List Row) (fold
                 | inr lacked ↦
                     let told = all_member (λ own. (own.0 == split) || names_column cell own.0 || is_any own.1) h.columns mine serves.opened held in
                     let is : is_any mine.1 ≡ true = rw (other, lacked) at told in
-                    let has = some_passes (λ value. nat_lt value (value_count catalog mine.0)) (value_on mine.0) (all_member (is_valued catalog cell.cube row) (columns_of h) mine.0 valued (map_member (λ (own : ℕ × Allowed). own.0) h.columns mine held)) in
+                    let has = some_passes (λ value. nat_lt value (value_count catalog mine.0)) (value_on mine.0) (all_member (is_valued catalog cell.cube row) (header_columns h) mine.0 valued (map_member (λ (own : ℕ × Allowed). own.0) h.columns mine held)) in
                     rw has.1 (any_allows mine.1 has.0 is)
               ]
         ]
@@ -142,14 +142,14 @@ module _ (catalog : Catalog) (cell : Cell) (split : ℕ) (rows : List Row) (fold
         rw (inside, owned) refl
 
   -- the numbers of the rows that are folded are those of the rows of the cell that are the load's own
-  numbers_owned : (some : List Row) → list_all (λ row. list_all (is_valued catalog cell.cube row) (columns_of h)) some ≡ true
+  numbers_owned : (some : List Row) → list_all (λ row. list_all (is_valued catalog cell.cube row) (header_columns h)) some ≡ true
       → numbers_where (body_row_within h cell split fold.own) (body_rows catalog h some) ≡ map (row_number catalog h) (filter (λ row. row_in catalog cell row && is_owned catalog cell.cube split fold.own row) some)
   numbers_owned [] valued = refl
   numbers_owned (row ∷ some) valued =
-      let parts = and_parts (list_all (is_valued catalog cell.cube row) (columns_of h)) (list_all (λ row. list_all (is_valued catalog cell.cube row) (columns_of h)) some) valued in
+      let parts = and_parts (list_all (is_valued catalog cell.cube row) (header_columns h)) (list_all (λ row. list_all (is_valued catalog cell.cube row) (header_columns h)) some) valued in
       by (allowed_values (row_value catalog cell.cube row) h.columns) refl parts.0 (numbers_owned some parts.1)
     where
-      by : (values : Option (List ℕ)) → allowed_values (row_value catalog cell.cube row) h.columns ≡ values → list_all (is_valued catalog cell.cube row) (columns_of h) ≡ true
+      by : (values : Option (List ℕ)) → allowed_values (row_value catalog cell.cube row) h.columns ≡ values → list_all (is_valued catalog cell.cube row) (header_columns h) ≡ true
           → numbers_where (body_row_within h cell split fold.own) (body_rows catalog h some) ≡ map (row_number catalog h) (filter (λ row. row_in catalog cell row && is_owned catalog cell.cube split fold.own row) some)
           → numbers_where (body_row_within h cell split fold.own) (body_rows catalog h (row ∷ some)) ≡ map (row_number catalog h) (filter (λ row. row_in catalog cell row && is_owned catalog cell.cube split fold.own row) (row ∷ some))
       by None none valued rest =

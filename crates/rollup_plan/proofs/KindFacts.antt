@@ -9,7 +9,7 @@ use Rattle.std.proofs.lemmas.Slice.Eq.{bytes_eq-Decides}
 use Rattle.olap_meaning.specs.declared.cells.Allowed.{Allowed}
 use Rattle.olap_meaning.specs.declared.cells.Cell.{Cell}
 use Rattle.olap_meaning.specs.Covering.{allows, header_covers, names_column}
-use Rattle.olap_meaning.specs.Rolled.{Offer, all_below, allows_in, can_begin, can_split, columns_of, fits, fitting_hold}
+use Rattle.olap_meaning.specs.Rolled.{Offer, all_below, allows_in, can_begin, can_split, header_columns, fits, fitting_hold}
 use Rattle.olap_meaning.proofs.Members.{All-from_member, all_below_at, all_below_from, any_member, filter_member, in_first, map_member, member_any, member_map}
 use Rattle.olap_meaning.proofs.Rolling.{fits_from, fits_parts}
 use Rattle.cache_flush.specs.Loads.{KeptOf}
@@ -38,14 +38,14 @@ module _ {X : Type 0} (p : X → Bool) where
       elim (cases_Bool (p y)) [ inl passes ↦ rw passes (omega arith) | inr fails_too ↦ rw fails_too (omega arith) ]
 
 -- loads of one kind
-pub kin_parts : (one other : KeptOf) → are_kin one other ≡ true → (other.version ≡ one.version) × (columns_of other.body.header ≡ columns_of one.body.header)
+pub kin_parts : (one other : KeptOf) → are_kin one other ≡ true → (other.version ≡ one.version) × (header_columns other.body.header ≡ header_columns one.body.header)
 kin_parts one other kin =
-    let parts = and_parts (other.version == one.version) (bytes_eq (columns_of other.body.header) (columns_of one.body.header)) kin in
-    (eqb-true other.version one.version parts.0, (bytes_eq-Decides (columns_of other.body.header) (columns_of one.body.header)).0 parts.1)
+    let parts = and_parts (other.version == one.version) (bytes_eq (header_columns other.body.header) (header_columns one.body.header)) kin in
+    (eqb-true other.version one.version parts.0, (bytes_eq-Decides (header_columns other.body.header) (header_columns one.body.header)).0 parts.1)
 
-pub kin_from : (one other : KeptOf) → other.version ≡ one.version → columns_of other.body.header ≡ columns_of one.body.header → are_kin one other ≡ true
+pub kin_from : (one other : KeptOf) → other.version ≡ one.version → header_columns other.body.header ≡ header_columns one.body.header → are_kin one other ≡ true
 kin_from one other version columns =
-    and_from (other.version == one.version) (bytes_eq (columns_of other.body.header) (columns_of one.body.header)) (eq-eqb other.version one.version version) ((bytes_eq-Decides (columns_of other.body.header) (columns_of one.body.header)).1 columns)
+    and_from (other.version == one.version) (bytes_eq (header_columns other.body.header) (header_columns one.body.header)) (eq-eqb other.version one.version version) ((bytes_eq-Decides (header_columns other.body.header) (header_columns one.body.header)).1 columns)
 
 kin_itself : (one : KeptOf) → are_kin one one ≡ true
 kin_itself one = kin_from one one refl refl
@@ -60,9 +60,9 @@ kin_back : (one other : KeptOf) → are_kin one other ≡ true → are_kin other
 kin_back one other near = let a = kin_parts one other near in kin_from other one (sym a.0) (sym a.1)
 
 -- loads of one kind have the columns of the first
-pub kin_having : (first : KeptOf) (kin : List KeptOf) (split : ℕ) → All (λ one. IsTrue (are_kin first one)) kin → Contains (columns_of first.body.header) split → All (λ one. Contains (columns_of one.body.header) split) kin
+pub kin_having : (first : KeptOf) (kin : List KeptOf) (split : ℕ) → All (λ one. IsTrue (are_kin first one)) kin → Contains (header_columns first.body.header) split → All (λ one. Contains (header_columns one.body.header) split) kin
 kin_having first kin split alike own =
-    All-weaker (λ one. IsTrue (are_kin first one)) (λ one. Contains (columns_of one.body.header) split)
+    All-weaker (λ one. IsTrue (are_kin first one)) (λ one. Contains (header_columns one.body.header) split)
     (λ one near. subst (λ (cs : List ℕ). Contains cs split) (sym (kin_parts first one near).1) own) kin alike
 
 module _ (size : ℕ → ℕ) (cell : Cell) (loads : List KeptOf) (covering : All (λ one. IsTrue (header_covers one.body.header cell)) loads) where
@@ -130,7 +130,7 @@ module _ (size : ℕ → ℕ) (cell : Cell) (loads : List KeptOf) (covering : Al
 
           begins : can_begin size cell offers (offer_of first) ≡ true
           begins =
-              let having : Contains (columns_of first.body.header) split = subst (λ (cs : List ℕ). Contains cs split) (sym (kin_parts picked.first first (near first (own first_held))).1) picked.having in
+              let having : Contains (header_columns first.body.header) split = subst (λ (cs : List ℕ). Contains cs split) (sym (kin_parts picked.first first (near first (own first_held))).1) picked.having in
               let mine = member_map (λ (own : ℕ × Allowed). own.0) first.body.header.columns split having in
               any_member (λ own. can_split size cell offers (offer_of first) own.0) first.body.header.columns mine.0 mine.1 (subst (λ (c : ℕ). can_split size cell offers (offer_of first) c ≡ true) (sym mine.2) can)
 
@@ -153,8 +153,8 @@ module _ (size : ℕ → ℕ) (cell : Cell) (loads : List KeptOf) (covering : Al
           let own : ℕ × Allowed = begun.0 in
           let outer = and_parts (not (names_column cell own.0) && fits cell own.0 (offer_of one) (offer_of one)) (fitting_hold size cell offers (offer_of one) own.0) begun.2 in
           let inner = and_parts (not (names_column cell own.0)) (fits cell own.0 (offer_of one) (offer_of one)) outer.0 in
-          let same : columns_of one.body.header ≡ columns_of first.body.header = (kin_parts first one one_near.1).1 in
-          let among : Contains (columns_of first.body.header) own.0 = subst (λ (cs : List ℕ). Contains cs own.0) same (map_member (λ (own : ℕ × Allowed). own.0) one.body.header.columns own begun.1) in
+          let same : header_columns one.body.header ≡ header_columns first.body.header = (kin_parts first one one_near.1).1 in
+          let among : Contains (header_columns first.body.header) own.0 = subst (λ (cs : List ℕ). Contains cs own.0) same (map_member (λ (own : ℕ × Allowed). own.0) one.body.header.columns own begun.1) in
           let mine = member_map (λ (own : ℕ × Allowed). own.0) first.body.header.columns own.0 among in
           let opened : is_open cell own.0 one ≡ true = (fits_parts cell own.0 (offer_of one) (offer_of one) inner.1).opened in
           let along : splits_along size cell kin own.0 ≡ true =
@@ -203,7 +203,7 @@ module _ (size : ℕ → ℕ) (cell : Cell) (loads : List KeptOf) (covering : Al
       fewer_later = fewer (λ one. not (are_kin first one)) rest first there (rw (kin_itself first) refl)
 
       -- where it has one, that is picked
-      pub first_picked : (plan : Plan) → All (λ one. one.version ≤ first.version) rest → Contains (columns_of first.body.header) plan.split → IsPickedFrom size cell kin plan → IsPicked size cell loads plan
+      pub first_picked : (plan : Plan) → All (λ one. one.version ≤ first.version) rest → Contains (header_columns first.body.header) plan.split → IsPickedFrom size cell kin plan → IsPicked size cell loads plan
       first_picked plan newest having from = record {
         first = first;
         kin = kin;

@@ -19,9 +19,9 @@ use Rattle.olap_meaning.specs.Rolled.{value_count}
 use Rattle.olap_meaning.specs.Worth.{measure_of}
 use Rattle.olap_catalog.specs.Columns.{column_leaves}
 use Rattle.fact_versions.specs.FactRows.{FactRows}
-use Rattle.segment_load.specs.Jobs.{place_of}
-use Rattle.segment_load.specs.Loads.{is_batch}
-use Rattle.segment_load.proofs.RowFacts.{IsPlaced, placed, position_of, some_and}
+use Rattle.fact_reader.specs.Reading.{place_of}
+use Rattle.fact_reader.specs.BodyRows.{is_batch}
+use Rattle.fact_reader.proofs.RowFacts.{IsPlaced, placed, position_of, some_and}
 use Rattle.cache_flush.specs.Loads.{KeptOf}
 use Rattle.rollup_plan.specs.declared.plan.Plan.{Plan}
 use Rattle.rollup_plan.specs.Plans.{IsRolledBy, kept_at, offers_at}

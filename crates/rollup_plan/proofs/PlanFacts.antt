@@ -9,7 +9,7 @@ use Rattle.std.proofs.lemmas.Option.{slice_get-map, slice_get_read}
 use Rattle.olap_meaning.specs.declared.Aggregator.{Aggregator}
 use Rattle.olap_meaning.specs.declared.cells.Cell.{Cell}
 use Rattle.olap_meaning.specs.Covering.{allows, among, header_covers, names_column}
-use Rattle.olap_meaning.specs.Rolled.{IsRolled, Offer, adds_up, allows_in, can_begin, can_roll, columns_of, is_open_but, is_open_in}
+use Rattle.olap_meaning.specs.Rolled.{IsRolled, Offer, adds_up, allows_in, can_begin, can_roll, header_columns, is_open_but, is_open_in}
 use Rattle.olap_meaning.proofs.Members.{All-from_member, any_member, map_member, member_any, member_map}
 use Rattle.olap_meaning.proofs.Rolling.{adds_up_told, open_told}
 use Rattle.segment_header.specs.Headers.{is_header, is_set}
@@ -121,13 +121,13 @@ module _ (loads : List KeptOf) (numbers : List ℕ) (kept : List KeptOf) (there 
     kept_held : (pick : Pick) → Contains picks pick → Contains kept pick.kept
     kept_held pick held = All-contains (Contains kept) picked.kin pick.kept picked.known (kin_held pick held)
 
-    near : (pick : Pick) → Contains picks pick → (pick.kept.version ≡ picked.first.version) × (columns_of pick.kept.body.header ≡ columns_of picked.first.body.header)
+    near : (pick : Pick) → Contains picks pick → (pick.kept.version ≡ picked.first.version) × (header_columns pick.kept.body.header ≡ header_columns picked.first.body.header)
     near pick held = kin_parts picked.first pick.kept (All-contains (λ kept. IsTrue (are_kin picked.first kept)) picked.kin pick.kept picked.alike (kin_held pick held))
 
     covers : (pick : Pick) → Contains picks pick → header_covers pick.kept.body.header cell ≡ true
     covers pick held = All-contains (λ one. IsTrue (header_covers one.body.header cell)) kept pick.kept covering (kept_held pick held)
 
-    has_split : (pick : Pick) → Contains picks pick → Contains (columns_of pick.kept.body.header) split
+    has_split : (pick : Pick) → Contains picks pick → Contains (header_columns pick.kept.body.header) split
     has_split pick held = subst (λ (cs : List ℕ). Contains cs split) (sym (near pick held).1) picked.having
 
     -- what holds of each pick
@@ -148,8 +148,8 @@ module _ (loads : List KeptOf) (numbers : List ℕ) (kept : List KeptOf) (there 
         some = omega (arith, parts.some, length-map picks offer_at);
         version = picked.first.version;
         one_version = each (λ offer. offer.version ≡ picked.first.version) offer_at (λ pick held. (near pick held).0);
-        columns = columns_of picked.first.body.header;
-        one_list = each (λ offer. columns_of offer.header ≡ columns_of picked.first.body.header) offer_at (λ pick held. (near pick held).1);
+        columns = header_columns picked.first.body.header;
+        one_list = each (λ offer. header_columns offer.header ≡ header_columns picked.first.body.header) offer_at (λ pick held. (near pick held).1);
         more = (split, record { own = picked.having; lacked = picked.from.lacked });
         covering = each (λ offer. IsTrue (header_covers offer.header cell)) offer_at covers;
         split = Some split;
@@ -170,7 +170,7 @@ module _ (loads : List KeptOf) (numbers : List ℕ) (kept : List KeptOf) (there 
       lacked = picked.from.lacked;
       formed = each (λ share. IsTrue (is_header share.header)) share_of (λ pick held. All-contains (λ pick. IsTrue (is_header pick.kept.body.header)) picks pick parts.good.formed held);
       covering = each (λ share. IsTrue (header_covers share.header cell)) share_of covers;
-      having = each (λ share. Contains (columns_of share.header) split) share_of has_split;
+      having = each (λ share. Contains (header_columns share.header) split) share_of has_split;
       opened = each (λ share. IsTrue (is_open_but cell split share.header)) share_of (λ pick held. All-contains (λ pick. IsTrue (is_open cell split pick.kept)) picks pick parts.good.opened held);
       sets = each (λ share. IsTrue (is_set share.own)) share_of (λ pick held. All-contains (λ pick. IsTrue (is_set pick.own)) picks pick parts.good.sets held);
       within = each (λ share. (value : ℕ) → IsTrue (allows share.own value) → IsTrue (allows_in share.header split value)) share_of

@@ -12,9 +12,9 @@ use Rattle.olap_meaning.specs.declared.tables.Cube.{Cube}
 use Rattle.olap_meaning.specs.declared.tables.Row.{Row}
 use Rattle.olap_meaning.specs.Covering.{allows, header_covers}
 use Rattle.olap_meaning.specs.Legal.{is_column_of, is_row}
-use Rattle.olap_meaning.specs.Rolled.{Offer, columns_of}
+use Rattle.olap_meaning.specs.Rolled.{Offer, header_columns}
 use Rattle.olap_meaning.proofs.Members.{all_member, in_first, in_rest, member_all, member_map, none_in}
-use Rattle.segment_load.specs.Loads.{HoldsRows}
+use Rattle.fact_reader.specs.BodyRows.{HoldsRows}
 use Rattle.cache_flush.specs.Loads.{KeptOf}
 use Rattle.rollup_plan.specs.declared.plan.Part.{Part}
 use Rattle.rollup_plan.specs.declared.plan.Plan.{Plan}
@@ -87,9 +87,9 @@ rows_of_parts catalog valued cube own loads parts rows known are held columns = 
   held = held;
   valued = λ k d inside.
       let h : Header = (get_or (loads_at loads parts) k d).body.header in
-      member_all (λ row. list_all (is_valued catalog cube row) (columns_of h)) rows
+      member_all (λ row. list_all (is_valued catalog cube row) (header_columns h)) rows
       (λ row row_in.
-      member_all (is_valued catalog cube row) (columns_of h)
+      member_all (is_valued catalog cube row) (header_columns h)
       (λ column column_in.
       let from = member_map (λ own. own.0) h.columns column column_in in
       let of = all_member (λ own'. is_column_of catalog own.dimensions own'.0) h.columns from.0 (columns k d inside) from.1 in

@@ -21,7 +21,7 @@ use Rattle.olap_meaning.specs.declared.tables.Catalog.{Catalog}
 use Rattle.olap_meaning.specs.declared.tables.Measure.{Measure}
 use Rattle.olap_meaning.specs.declared.tables.Row.{Row}
 use Rattle.olap_meaning.specs.Covering.{allows, header_covers}
-use Rattle.olap_meaning.specs.Rolled.{allows_in, columns_of, is_open_but, value_count}
+use Rattle.olap_meaning.specs.Rolled.{allows_in, header_columns, is_open_but, value_count}
 use Rattle.olap_meaning.specs.Worth.{fact, measure_of, row_in, row_value}
 use Rattle.olap_meaning.proofs.Members.{all_member, member_all}
 use Rattle.list_orders.proofs.Aggregates.{aggregate_permutes}
@@ -30,7 +30,7 @@ use Rattle.measure_folds.specs.Tallied.{Tallied}
 use Rattle.segment_body.specs.BodyOf.{BodyOf}
 use Rattle.segment_body.specs.AllFolds.{AreFolded, FoldOf, TalliesOf, fold_numbers, fold_of, folded_numbers}
 use Rattle.segment_body.proofs.TableFacts.{zip_weaker}
-use Rattle.segment_load.specs.Loads.{HoldsRows}
+use Rattle.fact_reader.specs.BodyRows.{HoldsRows}
 use Rattle.cache_flush.specs.Loads.{KeptOf}
 use Rattle.rollup_plan.specs.declared.plan.Part.{Part}
 use Rattle.rollup_plan.specs.declared.plan.Plan.{Plan}
@@ -234,11 +234,11 @@ module _ (catalog : Catalog) (cell : Cell) (loads : List KeptOf) (plan : Plan) (
   serve k d inside = record {
     formed = unmapped (λ (share : Share). IsTrue (is_header share.header)) share_of folds made.formed k d inside;
     covering = unmapped (λ (share : Share). IsTrue (header_covers share.header cell)) share_of folds made.covering k d inside;
-    having = unmapped (λ (share : Share). Contains (columns_of share.header) plan.split) share_of folds made.having k d inside;
+    having = unmapped (λ (share : Share). Contains (header_columns share.header) plan.split) share_of folds made.having k d inside;
     opened = unmapped (λ (share : Share). IsTrue (is_open_but cell plan.split share.header)) share_of folds made.opened k d inside;
     within = unmapped (λ (share : Share). (value : ℕ) → IsTrue (allows share.own value) → IsTrue (allows_in share.header plan.split value)) share_of folds made.within k d inside;
     holds = of_bodies (λ body. HoldsRows catalog body.header rows body) behind.behind.held k d inside;
-    valued = of_bodies (λ body. IsTrue (list_all (λ row. list_all (is_valued catalog cell.cube row) (columns_of body.header)) rows)) behind.behind.valued k d inside;
+    valued = of_bodies (λ body. IsTrue (list_all (λ row. list_all (is_valued catalog cell.cube row) (header_columns body.header)) rows)) behind.behind.valued k d inside;
     along = along_split loads plan.split plan.parts k d inside;
   }
 
@@ -260,8 +260,8 @@ module _ (catalog : Catalog) (cell : Cell) (loads : List KeptOf) (plan : Plan) (
   has_value row held =
       let d : FoldOf = fold_of (record { header = record { cube = 0; measure = 0; columns = [] }; aggregator = behind.measure.aggregator; rows = [] }) 0 Any in
       let first = serve 0 d (omega (arith, count, behind.some)) in
-      let one = all_member (λ r. list_all (is_valued catalog cell.cube r) (columns_of (get_or folds 0 d).body.header)) rows row first.valued held in
-      let valued = all_member (is_valued catalog cell.cube row) (columns_of (get_or folds 0 d).body.header) plan.split one first.having in
+      let one = all_member (λ r. list_all (is_valued catalog cell.cube r) (header_columns (get_or folds 0 d).body.header)) rows row first.valued held in
+      let valued = all_member (is_valued catalog cell.cube row) (header_columns (get_or folds 0 d).body.header) plan.split one first.having in
       let v = some_passes (λ value. nat_lt value (value_count catalog plan.split)) (row_value catalog cell.cube row plan.split) valued in
       (v.0, lt_of v.0 (value_count catalog plan.split) v.2, v.1)
 

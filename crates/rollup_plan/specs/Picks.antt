@@ -6,7 +6,7 @@ use Rattle.olap_meaning.specs.declared.cells.Allowed.{Allowed}
 use Rattle.olap_meaning.specs.declared.cells.Allowed.TheVariants.{Any, Set}
 use Rattle.olap_meaning.specs.declared.cells.Cell.{Cell}
 use Rattle.olap_meaning.specs.Covering.{allows, among, names_column}
-use Rattle.olap_meaning.specs.Rolled.{all_below, allows_in, can_begin, columns_of, is_open_but, is_open_in}
+use Rattle.olap_meaning.specs.Rolled.{all_below, allows_in, can_begin, header_columns, is_open_but, is_open_in}
 use Rattle.segment_header.specs.Headers.{is_header, is_set}
 use Rattle.cache_flush.specs.Loads.{KeptOf, kept_of}
 use Rattle.cache_flush.specs.declared.kept.Kept.{Kept}
@@ -123,7 +123,7 @@ pub record AreCounted (cell : Cell) (split : ℕ) (loads : List KeptOf) (count :
 abbrev pub are_kin : KeptOf → KeptOf → Bool
 are_kin one other =
     (other.version == one.version)
-    && bytes_eq (columns_of other.body.header) (columns_of one.body.header)
+    && bytes_eq (header_columns other.body.header) (header_columns one.body.header)
 
 -- loads of one kind are rolled up to a cell along a column that the cell lacks
 abbrev pub splits_along : (ℕ → ℕ) → Cell → List KeptOf → ℕ → Bool
@@ -153,7 +153,7 @@ pub record IsPicked (size : ℕ → ℕ) (cell : Cell) (loads : List KeptOf) (pl
   pub kin : List KeptOf
   pub known : All (Contains loads) kin
   pub alike : All (λ kept. IsTrue (are_kin first kept)) kin
-  pub having : Contains (columns_of first.body.header) plan.split
+  pub having : Contains (header_columns first.body.header) plan.split
   pub from : IsPickedFrom size cell kin plan
   pub newest : All
       (λ kept. IsTrue (can_begin size cell (map offer_of loads) (offer_of kept))

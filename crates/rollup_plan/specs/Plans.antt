@@ -7,7 +7,7 @@ use Rattle.olap_meaning.specs.declared.cells.Cell.{Cell}
 use Rattle.olap_meaning.specs.declared.cells.Header.{Header}
 use Rattle.olap_meaning.specs.Covering.{allows, among, header_covers, names_column}
 use Rattle.olap_meaning.specs.History.{is_some_and}
-use Rattle.olap_meaning.specs.Rolled.{IsRolled, Offer, allows_in, can_begin, columns_of, is_open_but}
+use Rattle.olap_meaning.specs.Rolled.{IsRolled, Offer, allows_in, can_begin, header_columns, is_open_but}
 use Rattle.segment_header.specs.Headers.{is_header, is_set}
 use Rattle.cache_flush.specs.Loads.{KeptOf, are_different, is_candidate}
 use Rattle.rollup_plan.specs.declared.plan.Part.{Part}
@@ -52,7 +52,7 @@ pub record MakeCell (size : ℕ → ℕ) (cell : Cell) (split : ℕ) (shares : L
   pub lacked : names_column cell split ≡ false
   pub formed : All (λ share. IsTrue (is_header share.header)) shares
   pub covering : All (λ share. IsTrue (header_covers share.header cell)) shares
-  pub having : All (λ share. Contains (columns_of share.header) split) shares
+  pub having : All (λ share. Contains (header_columns share.header) split) shares
   pub opened : All (λ share. IsTrue (is_open_but cell split share.header)) shares
   pub sets : All (λ share. IsTrue (is_set share.own)) shares
   pub within : All

@@ -9,12 +9,12 @@ use Rattle.olap_meaning.specs.declared.tables.Catalog.{Catalog}
 use Rattle.olap_meaning.specs.declared.tables.Measure.{Measure}
 use Rattle.olap_meaning.specs.declared.tables.Row.{Row}
 use Rattle.olap_meaning.specs.History.{is_some_and}
-use Rattle.olap_meaning.specs.Rolled.{columns_of, value_count}
+use Rattle.olap_meaning.specs.Rolled.{header_columns, value_count}
 use Rattle.olap_meaning.specs.Values.{aggregate}
 use Rattle.olap_meaning.specs.Worth.{fact, measure_of, row_in, row_value, value_over}
 use Rattle.measure_folds.specs.Tallied.{Tallied}
 use Rattle.segment_body.specs.AllFolds.{FoldOf, fold_of}
-use Rattle.segment_load.specs.Loads.{HoldsRows}
+use Rattle.fact_reader.specs.BodyRows.{HoldsRows}
 use Rattle.cache_flush.specs.Loads.{KeptOf}
 use Rattle.rollup_plan.specs.Plans.{MakeCell, kept_at, shares_of}
 use Rattle.rollup_plan.specs.declared.plan.Part.{Part}
@@ -43,7 +43,7 @@ pub record AreRowsOf (catalog : Catalog) (cube : ℕ) (loads : List KeptOf) (par
   pub held : All (λ kept. HoldsRows catalog kept.body.header rows kept.body) (loads_at loads parts)
   pub valued : All
       (λ kept. IsTrue
-      (list_all (λ row. list_all (is_valued catalog cube row) (columns_of kept.body.header)) rows))
+      (list_all (λ row. list_all (is_valued catalog cube row) (header_columns kept.body.header)) rows))
       (loads_at loads parts)
 
 -- rows lie behind a plan for a cell over kept loads: there is a part, and each is that of a kept load; their shares make

@@ -5,7 +5,7 @@ ghost use Rattle.olap_meaning.specs.declared.tables.Measure.{Measure};
 ghost use Rattle.olap_meaning.specs.Covering as covering;
 ghost use Rattle.olap_meaning.specs.Legal.{is_cell};
 ghost use Rattle.olap_meaning.specs.Rolled as rolled;
-ghost use Rattle.olap_meaning.specs.Rolled.{adds_up, can_begin, can_roll, columns_of, value_count};
+ghost use Rattle.olap_meaning.specs.Rolled.{adds_up, can_begin, can_roll, header_columns, value_count};
 ghost use Rattle.olap_meaning.specs.Worth.{measure_of};
 ghost use Rattle.cache_flush.specs.Loads.{kept_of};
 ghost use Rattle.rollup_plan.specs.Picks as picks;
@@ -41,7 +41,7 @@ fn plan_along(
     kin: &[&Kept],
     split: ColumnId,
 ) -> Result<Option<Plan>, OutOfMemory>
-    requires { All (λ one. Contains (columns_of one.body.header) split) (lent kin.now) }
+    requires { All (λ one. Contains (header_columns one.body.header) split) (lent kin.now) }
     ensures found { IfOk result (λ found. is_some found
         ≡ splits_along (value_count catalog.now) cell.now (lent kin.now) split) }
     ensures plan { IfOk result (λ found. IfSome found (λ plan. (plan.split ≡ split)
@@ -68,7 +68,7 @@ fn plan_of_kin(
     ensures found { IfOk result (λ found. is_some found
         ≡ kin_splits (value_count catalog.now) cell.now (kept_of first.now) (lent kin.now)) }
     ensures plan { IfOk result (λ found. IfSome found (λ plan.
-        Contains (columns_of first.now.body.header) plan.split
+        Contains (header_columns first.now.body.header) plan.split
         × IsPickedFrom (value_count catalog.now) cell.now (lent kin.now) plan)) }
 {
     for own in first.body.header().columns.as_slice() {

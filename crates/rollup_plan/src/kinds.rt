@@ -1,6 +1,6 @@
 //! Kept loads by their kinds: those of one version with the same columns are of one kind.
 ghost use Rattle.std.specs.Prelude.{◌≡◌, ◌<◌, ◌≤◌, All, Contains, IfOk, bytes_eq, filter, length, map, not};
-ghost use Rattle.olap_meaning.specs.Rolled.{columns_of};
+ghost use Rattle.olap_meaning.specs.Rolled.{header_columns};
 ghost use Rattle.cache_flush.specs.Loads.{kept_of};
 ghost use Rattle.rollup_plan.specs.Picks as picks;
 ghost use Rattle.rollup_plan.specs.Picks.{lent};
@@ -26,7 +26,7 @@ fn are_same(columns: &[(ColumnId, Allowed)], others: &[(ColumnId, Allowed)]) -> 
 
 // Whether two headers have the same columns.
 fn has_columns(one: &Header, other: &Header) -> bool
-    ensures { result ≡ bytes_eq (columns_of one.now) (columns_of other.now) }
+    ensures { result ≡ bytes_eq (header_columns one.now) (header_columns other.now) }
 {
     if one.columns.len() != other.columns.len() {
         return false;

@@ -4,7 +4,7 @@ ghost use Rattle.std.specs.List.{find, list_all, list_any};
 ghost use Rattle.olap_meaning.specs.Covering as covering;
 ghost use Rattle.olap_meaning.specs.Covering.{among};
 ghost use Rattle.olap_meaning.specs.Rolled as rolled;
-ghost use Rattle.olap_meaning.specs.Rolled.{allows_in, columns_of, is_open_in};
+ghost use Rattle.olap_meaning.specs.Rolled.{allows_in, header_columns, is_open_in};
 ghost use Rattle.segment_header.specs.Headers as headers;
 ghost use Rattle.olap_meaning.specs.declared.cells.Cell.{Cell as CellOf};
 ghost use Rattle.cache_flush.specs.Loads.{KeptOf, kept_of};
@@ -31,7 +31,7 @@ fn is_any(allowed: &Allowed) -> bool
 // What a header allows in one of its columns.
 fn allowed_in(header: &Header, column: ColumnId) -> &Allowed
     requires formed { IsTrue (headers.is_header header.now) }
-    requires own { Contains (columns_of header.now) column }
+    requires own { Contains (header_columns header.now) column }
     ensures set { IsTrue (headers.is_set result.now) }
     ensures open_in { rolled.is_any result.now ≡ is_open_in header.now column }
     ensures allows { (value : ℕ)
@@ -55,7 +55,7 @@ fn is_open_but(header: &Header, cell: &Cell, split: ColumnId) -> bool
 
 // Whether a load is open but for the split, and has each value of it.
 fn is_whole(kept: &Kept, cell: &Cell, split: ColumnId, size: u32) -> bool
-    requires { Contains (columns_of kept.now.body.header) split }
+    requires { Contains (header_columns kept.now.body.header) split }
     ensures { result ≡ picks.is_whole size cell.now split (kept_of kept.now) }
 {
     let header = kept.body.header();
@@ -64,7 +64,7 @@ fn is_whole(kept: &Kept, cell: &Cell, split: ColumnId, size: u32) -> bool
 
 // The first of some loads that is open but for the split and has each value of it.
 fn find_whole<'a>(kept: &[&'a Kept], cell: &Cell, split: ColumnId, size: u32) -> Option<&'a Kept>
-    requires { All (λ one. Contains (columns_of one.body.header) split) (lent kept.now) }
+    requires { All (λ one. Contains (header_columns one.body.header) split) (lent kept.now) }
     ensures { option_map kept_of (option_copied result)
         ≡ find (picks.is_whole size cell.now split) (lent kept.now) }
 {
@@ -90,7 +90,7 @@ fn copy_allowed(alloc: Global, allowed: &Allowed) -> Result<Allowed, OutOfMemory
 
 // The part of a load that has each value of the split.
 fn part_of_whole(alloc: Global, kept: &Kept, split: ColumnId) -> Result<List<Part>, OutOfMemory>
-    requires { Contains (columns_of kept.now.body.header) split }
+    requires { Contains (header_columns kept.now.body.header) split }
     ensures { IfOk result
         (λ parts. (size : ℕ) (cell : CellOf) (loads : List KeptOf)
         → Contains loads (kept_of kept.now)
@@ -148,7 +148,7 @@ fn add_load(
     split: ColumnId,
 ) -> Result<(), OutOfMemory>
     requires inside { next < length kept.now }
-    requires having { All (λ one. Contains (columns_of one.body.header) split) (lent kept.now) }
+    requires having { All (λ one. Contains (header_columns one.body.header) split) (lent kept.now) }
     requires partial { All
         (λ one. picks.is_whole (length marks.old) cell.now split one ≡ false) (lent kept.now) }
     requires so_far { ArePickedOf (length marks.old) cell.now split
@@ -172,7 +172,7 @@ fn add_loads(
     cell: &Cell,
     split: ColumnId,
 ) -> Result<List<Part>, OutOfMemory>
-    requires having { All (λ one. Contains (columns_of one.body.header) split) (lent kept.now) }
+    requires having { All (λ one. Contains (header_columns one.body.header) split) (lent kept.now) }
     requires partial { All
         (λ one. picks.is_whole (length marks.old) cell.now split one ≡ false) (lent kept.now) }
     requires unset { (value : ℕ) → is_marked marks.old value ≡ false }
@@ -200,7 +200,7 @@ fn parts_by(
     cell: &Cell,
     split: ColumnId,
 ) -> Result<Option<List<Part>>, OutOfMemory>
-    requires having { All (λ one. Contains (columns_of one.body.header) split) (lent kept.now) }
+    requires having { All (λ one. Contains (header_columns one.body.header) split) (lent kept.now) }
     requires partial { All
         (λ one. picks.is_whole (length marks.old) cell.now split one ≡ false) (lent kept.now) }
     requires unset { (value : ℕ) → is_marked marks.old value ≡ false }
@@ -231,7 +231,7 @@ fn set_size(allowed: &Allowed) -> usize
 
 // How many values of the split a load has at most: none where it is not open but for the split.
 fn held_by(one: &Kept, cell: &Cell, split: ColumnId) -> usize
-    requires { Contains (columns_of one.now.body.header) split }
+    requires { Contains (header_columns one.now.body.header) split }
     ensures { (size : ℕ) → picks.is_whole size cell.now split (kept_of one.now) ≡ false
         → AreCounted cell.now split (kept_of one.now ∷ []) result }
 {
@@ -244,7 +244,7 @@ fn held_by(one: &Kept, cell: &Cell, split: ColumnId) -> usize
 
 // Whether loads may have every value of the split together, by how many they have: this needs no marks.
 fn are_enough(kept: &[&Kept], cell: &Cell, split: ColumnId, size: u32) -> bool
-    requires having { All (λ one. Contains (columns_of one.body.header) split) (lent kept.now) }
+    requires having { All (λ one. Contains (header_columns one.body.header) split) (lent kept.now) }
     requires partial { All
         (λ one. picks.is_whole size cell.now split one ≡ false) (lent kept.now) }
     ensures { result ≡ false → kind_splits size cell.now split (lent kept.now) ≡ false }
@@ -271,7 +271,7 @@ fn marked_parts(
     split: ColumnId,
     size: u32,
 ) -> Result<Option<List<Part>>, OutOfMemory>
-    requires having { All (λ one. Contains (columns_of one.body.header) split) (lent kept.now) }
+    requires having { All (λ one. Contains (header_columns one.body.header) split) (lent kept.now) }
     requires partial { All
         (λ one. picks.is_whole size cell.now split one ≡ false) (lent kept.now) }
     ensures found { IfOk result
@@ -294,7 +294,7 @@ pub(crate) fn parts_along(
     split: ColumnId,
     size: u32,
 ) -> Result<Option<List<Part>>, OutOfMemory>
-    requires { All (λ one. Contains (columns_of one.body.header) split) (lent kept.now) }
+    requires { All (λ one. Contains (header_columns one.body.header) split) (lent kept.now) }
     ensures found { IfOk result
         (λ found. is_some found ≡ kind_splits size cell.now split (lent kept.now)) }
     ensures parts { IfOk result

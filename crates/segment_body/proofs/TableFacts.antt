@@ -18,7 +18,7 @@ use Rattle.olap_meaning.specs.declared.TheConstants.{ROW_LIMIT}
 use Rattle.olap_meaning.specs.declared.cells.Allowed.{Allowed}
 use Rattle.olap_meaning.specs.declared.cells.Cell.{Cell}
 use Rattle.olap_meaning.specs.declared.cells.Header.{Header}
-use Rattle.olap_meaning.specs.Covering.{among, allows, header_covers}
+use Rattle.olap_meaning.specs.Covering.{among, allows, columns_of, header_covers}
 use Rattle.olap_meaning.specs.Legal.{rise}
 use Rattle.olap_meaning.proofs.Members.{all_member, member_any, none_in}
 use Rattle.segment_header.specs.Headers.{are_allowed, is_header, is_set}
@@ -27,7 +27,7 @@ use Rattle.measure_folds.specs.Tallied.{Tallied}
 use Rattle.list_orders.specs.Parts.{are_different}
 use Rattle.list_orders.proofs.Aggregates.{aggregate_permutes}
 use Rattle.segment_body.specs.declared.tallies.Fold.{Fold}
-use Rattle.segment_body.specs.AllFolds.{AreFolded, FoldOf, IsFolded, are_alike, columns_of, fold_numbers, fold_of, folded_numbers, values_in}
+use Rattle.segment_body.specs.AllFolds.{AreFolded, FoldOf, IsFolded, are_alike, fold_numbers, fold_of, folded_numbers, values_in}
 use Rattle.segment_body.specs.Tables.{AreKeyed, HoldsCells, AreTallied, TableOf, are_taken, chosen, folds_in, grown, has_room, places_of, taken_by}
 use Rattle.segment_body.specs.BodyOf.{BodyOf, body_row_in, different_values}
 use Rattle.segment_body.specs.Folds.{are_at, are_at_allowed, body_row_within, has_allowed, numbers_where, picked}

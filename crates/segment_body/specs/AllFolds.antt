@@ -5,14 +5,11 @@ use Rattle.std.specs.List.Sorted.{IsPermutation}
 use Rattle.olap_meaning.specs.declared.Aggregator.{Aggregator}
 use Rattle.olap_meaning.specs.declared.cells.Allowed.{Allowed}
 use Rattle.olap_meaning.specs.declared.cells.Cell.{Cell}
+use Rattle.olap_meaning.specs.Covering.{columns_of}
 use Rattle.olap_meaning.specs.Values.{aggregate}
 use Rattle.measure_folds.specs.Tallied.{Tallied}
 use Rattle.segment_body.specs.BodyOf.{BodyOf, body_row_in}
 use Rattle.segment_body.specs.Folds.{body_row_within, numbers_where}
-
--- the columns of a cell
-abbrev pub columns_of : Cell → List ℕ
-columns_of cell = map (λ pair. pair.0) cell.at
 
 -- the values of a cell, column by column
 abbrev pub values_in : Cell → List ℕ

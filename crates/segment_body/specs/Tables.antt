@@ -9,7 +9,8 @@ use Rattle.olap_meaning.specs.declared.cells.Allowed.{Allowed}
 use Rattle.olap_meaning.specs.declared.cells.Cell.{Cell}
 use Rattle.list_orders.specs.Parts.{are_different}
 use Rattle.segment_body.specs.declared.tallies.Fold.{Fold}
-use Rattle.segment_body.specs.AllFolds.{FoldOf, columns_of, fold_of, folded_numbers, values_in}
+use Rattle.olap_meaning.specs.Covering.{columns_of}
+use Rattle.segment_body.specs.AllFolds.{FoldOf, fold_of, folded_numbers, values_in}
 use Rattle.segment_body.specs.Folds.{has_allowed, picked}
 use Rattle.segment_body.specs.Groups.{Group, values_of, with_numbers}
 

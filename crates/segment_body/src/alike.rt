@@ -2,7 +2,7 @@
 ghost use Rattle.std.specs.Prelude.{◌≡◌, bytes_eq, map};
 ghost use Rattle.std.specs.List.{list_all};
 ghost use Rattle.segment_body.specs.AllFolds as all_folds;
-ghost use Rattle.segment_body.specs.AllFolds.{columns_of};
+ghost use Rattle.olap_meaning.specs.Covering.{columns_of};
 
 use olap_meaning::{Cell, ColumnId, ValueId};
 

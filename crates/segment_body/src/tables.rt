@@ -4,7 +4,7 @@ ghost use Rattle.std.specs.List.{position_or_len};
 ghost use Rattle.list_orders.specs.Parts.{are_different};
 ghost use Rattle.segment_header.specs.Headers.{is_set};
 ghost use Rattle.segment_body.specs.AllFolds as all_folds;
-ghost use Rattle.segment_body.specs.AllFolds.{columns_of};
+ghost use Rattle.olap_meaning.specs.Covering.{columns_of};
 ghost use Rattle.segment_body.specs.Groups.{values_of};
 ghost use Rattle.segment_body.specs.Tables.{AreKeyed, are_taken, chosen, grown, has_room, passes, places_of, taken_by};
 

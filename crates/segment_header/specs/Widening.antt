@@ -1,9 +1,10 @@
 -- What a load may allow in a column, by the values that are wanted there.
-use Rattle.std.specs.Prelude.{ℕ, ◌≡◌, ◌⊎◌, ◌↔◌, ◌<◌, List, Bool, true, ◌&&◌, IsTrue, length, nat_le, nat_lt}
+use Rattle.std.specs.Prelude.{ℕ, ◌≡◌, ◌⊎◌, ◌↔◌, ◌<◌, List, Bool, true, ◌&&◌, IsTrue, Result, Ok, length, nat_le, nat_lt}
 use Rattle.std.specs.List.{list_all}
 use denote.Param.Members.{Shared}
 use denote.Ref.{Bor}
 use Rattle.olap_meaning.specs.declared.schema.TheConstants.{RECORD_LIMIT}
+use Rattle.olap_meaning.specs.declared.OutOfMemory.{OutOfMemory}
 use Rattle.olap_meaning.specs.declared.cells.Allowed.{Allowed}
 use Rattle.olap_meaning.specs.declared.cells.Allowed.TheVariants.{Any, Set}
 use Rattle.olap_meaning.specs.Covering.{allows, among}
@@ -42,3 +43,11 @@ pub record AnswersAt {F R : Type 0} (g : Shared F (Bor (List ℕ) × (ℕ × Uni
   pub shown : Bor (List ℕ)
   pub shows : shown.now ≡ wanted
   pub says : g.post f (shown, (count, tt)) answer
+
+-- what a load may be allowed in a column: which values, by those that are wanted there and the number of the column's
+abbrev pub Allowing : Type 1
+Allowing = List ℕ → ℕ → Allowed → Type 0
+
+-- what is allowed where this is answered
+abbrev pub Widened : (List ℕ → ℕ → Result Allowed OutOfMemory → Type 0) → Allowing
+Widened answers wanted count allowed = answers wanted count (Ok allowed)

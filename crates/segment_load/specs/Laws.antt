@@ -9,7 +9,7 @@ use Rattle.olap_meaning.specs.History.{Entry, rows_of}
 use Rattle.olap_meaning.specs.Worth.{value, value_over}
 use Rattle.segment_header.specs.Headers.{is_header}
 use Rattle.segment_body.specs.BodyOf.{BodyOf}
-use Rattle.segment_load.specs.Loads.{HoldsRows, body_of, body_value}
+use Rattle.fact_reader.specs.BodyRows.{HoldsRows, body_of, body_value}
 
 -- what the body of a load says of a cell that its header just covers is the value of the cell over the loaded rows
 abbrev pub LoadsAreWorth : Type 0

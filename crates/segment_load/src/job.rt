@@ -1,9 +1,9 @@
 //! Jobs that load a segment.
 ghost use Rattle.std.specs.Prelude.{◌≡◌, ◌≤◌, ◌+◌, ◌++◌, IfErr, IfOk, IsTrue, OnOk, Some, length, map, option_map, unwrap_or};
 ghost use Rattle.segment_header.specs.Headers.{is_header};
-ghost use Rattle.segment_load.specs.Loads.{are_batches, body_of, body_rows, header_measure, is_loadable, rows_in};
+ghost use Rattle.fact_reader.specs.BodyRows.{are_batches, body_of, body_rows, header_measure, is_loadable, rows_in};
 
-use crate::reader::RowReader;
+use fact_reader::RowReader;
 use fact_versions::{Snapshot, Steps};
 use olap_catalog::Catalog;
 use olap_meaning::{Aggregator, Header, OutOfMemory, ROW_LIMIT, ValueId, Who};

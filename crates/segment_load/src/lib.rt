@@ -3,8 +3,6 @@
 
 mod job;
 pub mod laws;
-mod places;
-mod reader;
 mod shared;
 
 pub use job::{Delivery, LoadJob, run_load};

@@ -5,6 +5,7 @@ ghost use Rattle.query_meaning.specs.Shown.{Shows};
 ghost use Rattle.line_session.specs.Sessions.{byte_limit};
 
 use crate::links::numbered;
+use crate::wideners::program_widener;
 use cache_manager::Manager;
 use fact_versions::Steps;
 use line_session::{SessionEnd, Tools, serve};
@@ -12,6 +13,7 @@ use manager_desk::ManagerDesk;
 use olap_meaning::{CellValue, List, OutOfMemory, ROW_LIMIT, Text};
 use outside::{Calls, MemoryDepot, MemoryLink, MemorySink, MemorySource, Pair};
 use query_samples::told_grid;
+use segment_header::Widener;
 use shown_values::{Formatter, Showing, plain_formatter, shown_plainly, shown_with_commas};
 use std::alloc::Global;
 use std::marker::Brand;
@@ -54,14 +56,30 @@ fn depot(alloc: Global) -> Result<MemoryDepot, OutOfMemory> {
 }
 
 // A link over which these bytes come.
-fn link(alloc: Global, bytes: &[u8]) -> Result<MemoryLink, OutOfMemory> {
+pub(crate) fn link(alloc: Global, bytes: &[u8]) -> Result<MemoryLink, OutOfMemory> {
     let source = MemorySource::new(copy(alloc, bytes)?, numbered(alloc, None)?, None, None);
     let sink = MemorySink::new(alloc, Calls::passing(alloc), 1_000)?;
     Ok(Pair::new(source, sink))
 }
 
+// The program's formatter, and a widener.
+pub(crate) fn tools_with(alloc: Global, widener: Widener) -> Result<Tools, Fail> {
+    let show: Showing = Box::new(
+        alloc,
+        move |value: &CellValue| -> Result<Text, OutOfMemory>
+            requires { CanBeShown value.now }
+            ensures plain { IfOk result (λ text. text ≡ plain_text value.now) }
+            ensures shows { IfOk result (Shows value.now) }
+        { shown_plainly(alloc, value) },
+    )?;
+    Ok(Tools {
+        formatter: plain_formatter(show),
+        widener,
+    })
+}
+
 // How a session over a desk ends, where so many bytes may be lines.
-fn served<L: Ledger>(
+pub(crate) fn served<L: Ledger>(
     alloc: Global,
     row_limit: u32,
     most: u64,
@@ -116,17 +134,7 @@ fn all_end_so(alloc: Global, tools: &Tools) -> Result<bool, Fail> {
 #[test]
 fn a_session_has_the_limits_of_its_desk(rt: HostRuntime) -> Result<(), Fail> {
     let alloc = rt.alloc();
-    let show: Showing = Box::new(
-        alloc,
-        move |value: &CellValue| -> Result<Text, OutOfMemory>
-            requires { CanBeShown value.now }
-            ensures plain { IfOk result (λ text. text ≡ plain_text value.now) }
-            ensures shows { IfOk result (Shows value.now) }
-        { shown_plainly(alloc, value) },
-    )?;
-    let tools = Tools {
-        formatter: plain_formatter(show),
-    };
+    let tools = tools_with(alloc, program_widener(alloc)?)?;
     assert!(rt; all_end_so(alloc, &tools)?);
     Ok(())
 }
@@ -165,6 +173,7 @@ fn a_grid_with_commas_is_read_back(rt: HostRuntime) -> Result<(), Fail> {
     )?;
     let tools = Tools {
         formatter: Formatter::new(show),
+        widener: program_widener(alloc)?,
     };
     let sent = sent(alloc, &tools)?;
     let Some(grid) = sent.as_slice().strip_prefix(VERSION) else {

@@ -20,3 +20,5 @@ mod sources;
 mod standard;
 #[cfg(test)]
 mod talks;
+#[cfg(test)]
+mod wideners;

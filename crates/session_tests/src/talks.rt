@@ -1,14 +1,12 @@
 //! What passes of a run at whose link one call fails, held against the plain definition of a conversation.
-ghost use Rattle.std.specs.Prelude.{◌≡◌, IfOk};
-ghost use Rattle.olap_meaning.specs.Texts.{CanBeShown, plain_text};
-ghost use Rattle.query_meaning.specs.Shown.{Shows};
 
+use crate::desks::tools_with;
 use crate::links::numbered;
 use crate::recorded::{Passed, Recorded};
-use olap_meaning::{CellValue, List, OutOfMemory, Text};
+use crate::wideners::program_widener;
+use olap_meaning::{List, OutOfMemory, Text};
 use olap_server::{Tools, Words, carry_out};
 use outside::{Calls, MemoryDepot, MemoryLink, MemorySink, MemorySource, Pair};
-use shown_values::{Showing, plain_formatter, shown_plainly};
 use std::alloc::Global;
 use std::marker::Brand;
 use std::sync::ledger::Blank;
@@ -189,17 +187,7 @@ fn all_hold(
 fn whatever_call_fails_a_run_is_a_conversation(rt: HostRuntime) -> Result<(), Fail> {
     let alloc = rt.alloc();
     let words = words(alloc)?;
-    let show: Showing = Box::new(
-        alloc,
-        move |value: &CellValue| -> Result<Text, OutOfMemory>
-            requires { CanBeShown value.now }
-            ensures plain { IfOk result (λ text. text ≡ plain_text value.now) }
-            ensures shows { IfOk result (Shows value.now) }
-        { shown_plainly(alloc, value) },
-    )?;
-    let tools = Tools {
-        formatter: plain_formatter(show),
-    };
+    let tools = tools_with(alloc, program_widener(alloc)?)?;
     assert!(rt; all_hold(&rt, alloc, &words, &tools)?);
     Ok(())
 }

@@ -1,12 +1,15 @@
--- The small schema is whole.
-use Rattle.std.proofs.Common.{◌≡◌, ◌≢◌, ℕ, List, [], ◌∷◌, refl, true, arith}
+-- The small schema is whole, and the load of its history is legal.
+use Rattle.std.proofs.Common.{◌≡◌, ◌≢◌, ℕ, List, [], ◌∷◌, refl, take, true, arith}
 use Rattle.std.specs.Prelude.{is_some}
 use Rattle.std.proofs.lemmas.List.Elements.{All-cons, All-nil}
 use Rattle.olap_meaning.specs.declared.schema.SchemaUse.{SchemaUse}
 use Rattle.olap_meaning.specs.declared.tables.Measure.{Measure}
 use Rattle.olap_meaning.specs.Schema.{IsWithinCube, dimension_place}
 use Rattle.olap_meaning.specs.Whole.{AreUsesNamed, IsNamedCube, IsNamedDimension, IsTableOf, IsWhole}
-use Rattle.test_plays.specs.Small.{small_schema}
+use Rattle.olap_meaning.specs.declared.cells.Who.{Who}
+use Rattle.olap_meaning.specs.Legal.{IsLegalStart}
+use Rattle.olap_meaning.proofs.RolledSources.{sources_are_decided}
+use Rattle.test_plays.specs.Small.{small_catalog, small_entries, small_schema, small_setting, whole}
 
 -- a text of at least one character is no empty name
 some_name : (first : ℕ) (rest : List ℕ) → first ∷ rest ≢ []
@@ -37,3 +40,14 @@ whole_small = record {
 
     NamedMeasure : Measure → Type 0
     NamedMeasure measure = measure.name ≢ []
+
+-- behind a batch of one row the one cell has no source, so its load may start
+pub small_start : (who : Who) → IsLegalStart small_setting (take 1 small_entries) (record { who = who; header = record { cube = 0; measure = 0; columns = [] }; version = 1; reason = whole })
+small_start who = record {
+  known = refl;
+  rising = refl;
+  covers = refl;
+  present = refl;
+  needed = (sources_are_decided.lacks small_catalog (take 1 small_entries) whole).0 refl;
+  unawaited = refl;
+}

@@ -2,7 +2,7 @@
 use crate::played::Played;
 use crate::steps::cells_of;
 use crate::told::told_answer;
-use olap_meaning::{Cell, List, Who};
+use olap_meaning::{Cell, Who};
 use std::alloc::Global;
 use std::test::Fail;
 use test_samples::files::sales;
@@ -58,8 +58,12 @@ const ALL: &str = "[Sales]MEASURES";
 /// Makes so many loads of a cell, each behind a flush that shuts off those before it, and then so many flushes more. It says
 /// how many entries there are then.
 pub fn play_many(alloc: Global, loads: u32, flushes: u32) -> Result<u64, Fail> {
-    let cells = cells_of(alloc, &["0:0=0"])?;
     let mut calls = Calls::new(alloc)?;
+    make_many(alloc, &mut calls, loads, flushes)
+}
+
+fn make_many(alloc: Global, calls: &mut Calls, loads: u32, flushes: u32) -> Result<u64, Fail> {
+    let cells = cells_of(alloc, &["0:0=0"])?;
     for _ in 0..loads {
         calls.flush(ALL)?;
         calls.load(cells.as_slice())?;
@@ -70,8 +74,25 @@ pub fn play_many(alloc: Global, loads: u32, flushes: u32) -> Result<u64, Fail> {
     Ok(calls.len())
 }
 
+// Keeps the loads of some cells.
+fn load_all(alloc: Global, calls: &mut Calls, cells: &[&str]) -> Result<(), Fail> {
+    let cells = cells_of(alloc, cells)?;
+    calls.load(cells.as_slice())
+}
+
+// Asks for cells that have no source.
+fn start(alloc: Global, calls: &mut Calls, cells: &[&str]) -> Result<(), Fail> {
+    let cells = cells_of(alloc, cells)?;
+    let who = calls.next();
+    if calls.played.look(who, cells.as_slice())?.is_some() {
+        return Err(Fail::from("an answer too early"));
+    }
+    Ok(())
+}
+
 // What the cells come to: their answer, or that there are loads for them.
-fn asked(alloc: Global, calls: &mut Calls, cells: &List<Cell>) -> Result<String, Fail> {
+fn asked(alloc: Global, calls: &mut Calls, cells: &[&str]) -> Result<String, Fail> {
+    let cells = cells_of(alloc, cells)?;
     let who = calls.next();
     match calls.played.look(who, cells.as_slice())? {
         Some(answer) => Ok(told_answer(alloc, &answer)?),
@@ -83,20 +104,18 @@ fn asked(alloc: Global, calls: &mut Calls, cells: &List<Cell>) -> Result<String,
 /// It says what the flush came to, how many entries there were before and behind it, and what the cells come to. Where
 /// memory is wanting for the flush, there are as many as before, and the cells are answered.
 pub fn play_overtaken(alloc: Global) -> Result<String, Fail> {
-    let kept = cells_of(alloc, &["0:0=0", "1:0=0", "0:2=0"])?;
-    let flying = cells_of(alloc, &["1:2=0"])?;
-    let all = cells_of(alloc, &["0:0=0", "1:0=0", "0:2=0", "1:2=0"])?;
     let mut calls = Calls::new(alloc)?;
-    calls.load(kept.as_slice())?;
-    let who = calls.next();
-    if calls.played.look(who, flying.as_slice())?.is_some() {
-        return Err(Fail::from("an answer too early"));
-    }
+    overtake(alloc, &mut calls)
+}
+
+fn overtake(alloc: Global, calls: &mut Calls) -> Result<String, Fail> {
+    load_all(alloc, calls, &["0:0=0", "1:0=0", "0:2=0"])?;
+    start(alloc, calls, &["1:2=0"])?;
     let before = calls.len();
     let who = calls.next();
     let flushed = calls.played.try_flush(who, ALL)?.is_some();
     let behind = calls.len();
     calls.played.deliver()?;
-    let said = asked(alloc, &mut calls, &all)?;
+    let said = asked(alloc, calls, &["0:0=0", "1:0=0", "0:2=0", "1:2=0"])?;
     Ok(format!(in alloc; "flushed {flushed}, {before} and {behind} entries, {said}")?)
 }

@@ -1,19 +1,22 @@
 //! A manager with the jobs of its loads in flight.
-ghost use Rattle.std.specs.Prelude.{◌≡◌, ◌≤◌, IfOk, Some};
-ghost use Rattle.segment_load.specs.Loads.{body_of, rows_in};
+ghost use Rattle.std.specs.Prelude.{◌≡◌, ◌≤◌, IfOk, IsTrue, Some};
+ghost use Rattle.fact_reader.specs.BodyRows.{body_of, rows_in};
+ghost use Rattle.segment_header.specs.Widening.{Serves, are_wanted};
 
 use crate::checks::{are_known, is_next};
 use crate::regions::region_of;
 use cache_manager::{Look, Manager};
 use fact_versions::{AppendFault, Snapshot, Steps};
 use history_core::{Answer, Appended, CacheView, History};
-use olap_meaning::{Cell, CubeId, ROW_LIMIT, Who};
+use olap_meaning::{Allowed, Cell, CubeId, OutOfMemory, ROW_LIMIT, ValueId, Who};
+use segment_header::{Widener, Widening};
 use segment_load::{Delivery, LoadJob, run_load};
 use std::alloc::Global;
 use std::marker::{Brand, Model};
 use std::sync::ledger::{Blank, Ledger};
 use std::test::Fail;
 use test_samples::opened::{open, read};
+use test_samples::wideners::not_widened;
 
 /// A manager over the sample catalog, and the jobs of its loads in flight, oldest first.
 #[derive(Drop)]
@@ -99,7 +102,7 @@ impl Played {
         Ok(self.manager.append(who, CubeId(0), batch))
     }
 
-    /// The answer to cells, none where loads are to be run, whose jobs are kept.
+    /// The answer to cells, none where loads are to be run, whose jobs are kept. The loads allow just the wanted values.
     pub(crate) fn look(&mut self, who: Who, cells: &[Cell]) -> Result<Option<Answer>, Fail> {
         if !is_next(self.manager.history(), who) || !self.manager.is_idle() {
             return Err(Fail::from("no call for now"));
@@ -107,8 +110,17 @@ impl Played {
         if !are_known(self.manager.catalog(), cells) {
             return Err(Fail::from("an unknown cell"));
         }
+        let alloc = self.alloc;
+        let widen: Widening = Box::new(
+            alloc,
+            move |wanted: &[ValueId], count: u32| -> Result<Allowed, OutOfMemory>
+                requires { IsTrue (are_wanted wanted.now count) }
+                ensures { IfOk result (Serves wanted.now count) }
+            { not_widened(alloc, wanted, count) },
+        )?;
+        let widener = Widener::new(widen);
         self.manager.steps_are_legal();
-        match self.manager.look(who, cells) {
+        match self.manager.look(who, cells, &widener) {
             Ok(Look::Ready(answer)) => Ok(Some(answer)),
             Ok(Look::Load(jobs)) => {
                 self.jobs = jobs.into_vec();

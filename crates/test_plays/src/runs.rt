@@ -1,5 +1,6 @@
 //! Whole lists of calls on a manager of their own.
-ghost use Rattle.std.specs.Prelude.{◌≡◌, ◌≤◌, All, IfOk};
+ghost use Rattle.std.specs.Prelude.{◌≡◌, ◌≤◌, All, IfOk, IsTrue};
+ghost use Rattle.segment_header.specs.Widening.{Serves, are_wanted};
 ghost use Rattle.cache_manager.specs.Runs.{MayCall};
 
 use crate::checks::are_known;
@@ -9,7 +10,8 @@ use crate::told::told_reply;
 use cache_manager::{Call, Run, run_calls};
 use fact_versions::Steps;
 use olap_catalog::Catalog;
-use olap_meaning::{CubeId, List, OutOfMemory, ROW_LIMIT};
+use olap_meaning::{Allowed, CubeId, List, OutOfMemory, ROW_LIMIT, ValueId};
+use segment_header::{Widener, Widening};
 use std::alloc::Global;
 use std::marker::Brand;
 use std::sync::Arc;
@@ -17,6 +19,7 @@ use std::sync::ledger::{Blank, Ledger};
 use std::test::Fail;
 use test_samples::lines::{add_line, asked, number, words};
 use test_samples::opened::{open, read};
+use test_samples::wideners::not_widened;
 
 fn append(alloc: Global, catalog: &Catalog, seat: &str, file: &str) -> Result<Call, Fail>
     ensures { IfOk result (λ call. MayCall catalog.now call) }
@@ -90,6 +93,7 @@ fn run<L: Ledger>(
     alloc: Global,
     catalog: Arc<Catalog>,
     calls: List<Call>,
+    widener: &Widener,
     blank: Blank,
 ) -> Result<Run, OutOfMemory>
     requires name { blank.name ≡ L.name }
@@ -98,7 +102,7 @@ fn run<L: Ledger>(
     requires may { All (MayCall catalog.value) calls }
 {
     let mut steps: Steps<L> = Steps::new(blank);
-    run_calls(alloc, catalog, ROW_LIMIT, 0, calls, &mut steps)
+    run_calls(alloc, catalog, ROW_LIMIT, 0, calls, widener, &mut steps)
 }
 
 // The calls once more, each with its reply.
@@ -119,7 +123,15 @@ fn told(alloc: Global, run: &Run, table: &str) -> Result<String, Fail> {
 pub fn tell_calls(alloc: Global, table: &str) -> Result<(String, usize, u64), Fail> {
     let catalog = open(alloc)?;
     let calls = calls_of(alloc, &catalog, table)?;
-    let Ok(run) = run::<Brand>(alloc, catalog, calls, Blank::new(1)) else {
+    let widen: Widening = Box::new(
+        alloc,
+        move |wanted: &[ValueId], count: u32| -> Result<Allowed, OutOfMemory>
+            requires { IsTrue (are_wanted wanted.now count) }
+            ensures { IfOk result (Serves wanted.now count) }
+        { not_widened(alloc, wanted, count) },
+    )?;
+    let widener = Widener::new(widen);
+    let Ok(run) = run::<Brand>(alloc, catalog, calls, &widener, Blank::new(1)) else {
         return Err(Fail::from("no memory"));
     };
     let text = told(alloc, &run, table)?;

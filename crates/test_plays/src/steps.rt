@@ -153,10 +153,14 @@ pub fn tell_steps(alloc: Global, row_limit: u32, table: &str) -> Result<String, 
     requires { row_limit ≤ ROW_LIMIT }
 {
     let mut played = Played::new(alloc, row_limit)?;
+    tell_each(alloc, &mut played, table)
+}
+
+fn tell_each(alloc: Global, played: &mut Played, table: &str) -> Result<String, Fail> {
     let mut text = String::new(alloc);
     for line in table.lines() {
         let asked = asked(line);
-        let said = done(alloc, &mut played, asked)?;
+        let said = done(alloc, played, asked)?;
         add_line(&mut text, asked, said.as_str())?;
     }
     Ok(text)

@@ -182,7 +182,7 @@ pub(crate) fn told_reply(alloc: Global, reply: &Reply) -> Result<String, AllocEr
         Reply::Ready(answer) => told_answer(alloc, answer),
         Reply::Flushed(position) => format!(in alloc; "entry {position}"),
         Reply::Shown(view) => told_view(alloc, view),
-        Reply::Loading => format!(in alloc; "loading"),
+        Reply::Loading(_) => format!(in alloc; "loading"),
         Reply::Busy => format!(in alloc; "busy"),
         Reply::Ended => format!(in alloc; "ended"),
         Reply::NoJob => format!(in alloc; "no job"),

@@ -26,7 +26,7 @@ use Rattle.std.proofs.lemmas.List.Elements.{All-cons, All-from_recursion, All-ni
 use Rattle.fact_versions.specs.FactRows.{FactRows}
 use Rattle.fact_versions.specs.Facts.{FactsOf, batches_of, with_batch}
 use Rattle.fact_versions.proofs.Grown.{All-with_batch, length-cubes}
-use Rattle.segment_load.specs.Loads.{are_batches, header_measure, is_batch, is_loadable}
+use Rattle.fact_reader.specs.BodyRows.{are_batches, header_measure, is_batch, is_loadable}
 use Rattle.test_samples.specs.Samples.{IsSample, dimension_of, level_of, sample_cube, sample_columns, sample_measures, sample_schema, store, time, use_of}
 
 below_true : (a b : ℕ) → a < b → nat_lt a b ≡ true

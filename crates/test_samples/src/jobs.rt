@@ -1,7 +1,7 @@
 //! Jobs over the sample catalog.
 ghost use Rattle.std.specs.Prelude.{◌≡◌, ◌<◌, IfOk, IsTrue, nat_lt, true};
 ghost use Rattle.std.specs.List.{list_all};
-ghost use Rattle.segment_load.specs.Loads.{are_batches, is_batch};
+ghost use Rattle.fact_reader.specs.BodyRows.{are_batches, is_batch};
 ghost use Rattle.segment_header.specs.Headers as headers;
 ghost use Rattle.test_samples.specs.Samples.{IsSample};
 

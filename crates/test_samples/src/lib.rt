@@ -14,6 +14,7 @@ pub mod loads;
 pub mod members;
 pub mod opened;
 pub mod random;
+pub mod sales;
 mod samples;
 pub mod wideners;
 

@@ -1,6 +1,6 @@
 //! The catalog of the sample files, and their batches.
 ghost use Rattle.std.specs.Prelude.{◌<◌, IfOk, IsTrue, length};
-ghost use Rattle.segment_load.specs.Loads.{is_batch};
+ghost use Rattle.fact_reader.specs.BodyRows.{is_batch};
 
 use crate::files::{schema, stores, times};
 use crate::open_catalog;

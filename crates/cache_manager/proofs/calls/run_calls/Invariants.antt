@@ -1,5 +1,7 @@
 -- What holds at each turn of `run_calls`.
 use Rattle.std.proofs.Common.{◌≡◌, ◌+◌, ◌≤◌}
+use Rattle.segment_header.specs.contracts.widener.WidenerAllowsValues.TheImpl.{answers-value}
+use Rattle.segment_header.specs.Widening.{Widened}
 use Rattle.cache_manager.specs.Runs.{IsRun, MayReplyAll, first_stage, rows_delivered, rows_over, rows_tried, stage_after, stage_of}
 use Rattle.cache_manager.proofs.calls.run_calls.Given as goal
 
@@ -9,7 +11,7 @@ invariant-loop-call g l = record {
   run : IsRun l.manager l.jobs.items l.number;
   stage : stage_of l.manager l.jobs.items l.number ≡ stage_after (first_stage l.initial.manager.setting) l.yielded l.replies;
   setting : l.manager.setting ≡ l.initial.manager.setting;
-  replies : MayReplyAll (first_stage l.initial.manager.setting) l.yielded l.replies;
+  replies : MayReplyAll (Widened ((answers-value g.dyn-1).it l.widener)) (first_stage l.initial.manager.setting) l.yielded l.replies;
   at_least : l.initial.steps + rows_over rows_delivered (first_stage l.initial.manager.setting) l.yielded l.replies ≤ l.steps;
   at_most : l.steps ≤ l.initial.steps + rows_over rows_tried (first_stage l.initial.manager.setting) l.yielded l.replies;
 }

@@ -1,7 +1,8 @@
 -- A turn more goes on with the session, or ends it.
 use Rattle.std.proofs.Common.{◌∙◌, subst, arith}
-use Rattle.shown_values.specs.contracts.formatter.FormatterGivesTexts.TheImpl.{answers-value}
-use Rattle.shown_values.specs.Given.{Given}
+use Rattle.shown_values.specs.contracts.formatter.FormatterGivesTexts.TheImpl as formats
+use Rattle.segment_header.specs.contracts.widener.WidenerAllowsValues.TheImpl as widens
+use Rattle.line_session.specs.Tools.{tools_of}
 use Rattle.outside.specs.Talks.{taken}
 use Rattle.input_lines.specs.Reader.{Reading}
 use Rattle.line_session.specs.Conversations.{HasConversed}
@@ -12,7 +13,7 @@ use Rattle.line_session.proofs.session.serve.Goals as goal
 
 pub returns-in-Some-clause-conversed : goal.returns-in-Some-clause-conversed
 returns-in-Some-clause-conversed g c = λ other.
-    subst (λ (reading : Reading). HasConversed (Given ((answers-value g.dyn-1).it c.args.tools.now.formatter)) (g.K.Link.talk c.args.link.now) (g.K.Link.talk c.take_turn-turn.new.link) (g.D.Depot.answers c.args.depot.now) (g.D.Depot.answers c.take_turn-turn.new.depot) (g.D.Depot.files c.args.depot.now) reading (g.P.Desk.seen c.args.desk.now) (g.P.Desk.seen c.take_turn-turn.new.desk) c.in-Some.end) c.in-Ok.ensures
+    subst (λ (reading : Reading). HasConversed (tools_of ((formats.answers-value g.dyn-1).it c.args.tools.now.formatter) ((widens.answers-value g.dyn-2).it c.args.tools.now.widener)) (g.K.Link.talk c.args.link.now) (g.K.Link.talk c.take_turn-turn.new.link) (g.D.Depot.answers c.args.depot.now) (g.D.Depot.answers c.take_turn-turn.new.depot) (g.D.Depot.files c.args.depot.now) reading (g.P.Desk.seen c.args.desk.now) (g.P.Desk.seen c.take_turn-turn.new.desk) c.in-Some.end) c.in-Ok.ensures
     (c.loop-end.invariant.conversed c.in-Some.end (g.P.Desk.seen c.take_turn-turn.new.desk) (g.D.Depot.answers c.take_turn-turn.new.depot) (g.K.Link.talk c.take_turn-turn.new.link)
     (turn_ends _ c.loop-end.reader c.take_turn-turn.new.reader _ _ _ _ _ _ _ _ _ c.in-Some.end (rw c.loop-end.invariant.files at c.in-Some.ensures.turn)))
 

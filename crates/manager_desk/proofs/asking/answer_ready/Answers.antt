@@ -3,4 +3,4 @@ use Rattle.manager_desk.proofs.Joining.{source_or_none}
 use Rattle.manager_desk.proofs.asking.answer_ready.Goals as goal
 
 pub unreachable-requires : goal.unreachable-requires
-unreachable-requires c = source_or_none c.args.manager.now c.args.cells.now c.requires.ready (rw c.in-Ok-Load.field-0-is at c.in-Ok-Load.ensures.load)
+unreachable-requires g c = source_or_none c.args.manager.now c.args.cells.now c.requires.ready (rw c.in-Ok-Load.field-0-is at c.in-Ok-Load.ensures.load)

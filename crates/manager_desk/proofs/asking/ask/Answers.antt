@@ -5,19 +5,22 @@ use Rattle.olap_meaning.specs.declared.cells.Who.{Who}
 use Rattle.olap_meaning.specs.History.{Answer, Entry}
 use Rattle.segment_load.specs.Loads.{JobOf}
 use Rattle.history_core.specs.Cache.{CacheOf}
-use Rattle.history_core.specs.Groups.{loads_for}
+use Rattle.history_core.specs.Groups.{load_count}
+use Rattle.segment_header.specs.contracts.widener.WidenerAllowsValues.TheImpl.{answers-value}
+use Rattle.segment_header.specs.Widening.{Widened}
 use Rattle.cache_manager.specs.Runs.{apart}
 use Rattle.cache_manager.proofs.JobFacts.{apart_numbers}
 use Rattle.line_session.specs.Desks.{rows_started}
 use Rattle.manager_desk.specs.Ends.{AddsEnded}
 use Rattle.manager_desk.proofs.Calling.{on_error}
 use Rattle.manager_desk.proofs.Counting.{count_one, count_starts}
-use Rattle.manager_desk.proofs.Joining.{IsStarted, adds_answer, adds_ended, all_delivered, jobs_own, next_again, none_lacking, only_started, read_ended, read_in_all, ready_again, still_idle}
+use Rattle.manager_desk.proofs.Joining.{IsStarted, adds_answer, adds_ended, all_delivered, jobs_own, next_again, none_allowed, none_lacking, numbers_are, only_started, read_ended, read_in_all, ready_again, still_idle}
 use Rattle.manager_desk.proofs.asking.ask.Goals as goal
 
 pub end_loads-requires : goal.end_loads-requires
 end_loads-requires g c =
-    let look : IsStarted c.args.manager.now c.look.new.self c.args.who c.args.cells.now c.in-Load.jobs = record {
+    let look : IsStarted (Widened ((answers-value g.dyn-1).it c.args.widener.now)) c.args.manager.now c.look.new.self c.args.who c.args.cells.now (map (λ job. job.header) c.in-Load.jobs) c.in-Load.jobs = record {
+      allowed = rw c.in-Load.is at c.in_ok-answer.ensures.headers;
       setting = c.look.ensures.setting;
       entries = rw c.in-Load.is at c.in_ok-answer.ensures.load_entries;
       numbers = rw c.in-Load.is at c.in_ok-answer.ensures.numbers;
@@ -28,61 +31,66 @@ end_loads-requires g c =
       jobs = look.are;
       seats =
           All-weaker (λ (job : JobOf). job.who ≡ c.args.who) (λ (job : JobOf). job.who.seat ≡ 1) (λ job is. ap (λ (w : Who). w.seat) is ∙ c.requires.seat) c.in-Load.jobs
-          (jobs_own c.args.manager.now c.look.new.self c.args.who c.args.cells.now c.in-Load.jobs look);
-      different = ap apart look.numbers ∙ apart_numbers (length c.args.manager.now.entries + 1) (length (loads_for c.args.manager.now c.args.who c.args.cells.now));
-      complete = only_started c.args.manager.now.entries c.look.new.self.entries _ c.in-Load.jobs c.requires.idle look.entries look.numbers;
+          (jobs_own (Widened ((answers-value g.dyn-1).it c.args.widener.now)) c.args.manager.now c.look.new.self c.args.who c.args.cells.now (map (λ job. job.header) c.in-Load.jobs) c.in-Load.jobs look);
+      different = ap apart look.numbers ∙ apart_numbers (length c.args.manager.now.entries + 1) (load_count c.args.manager.now c.args.cells.now);
+      complete = only_started c.args.manager.now.entries c.look.new.self.entries _ c.in-Load.jobs c.requires.idle look.entries (numbers_are (Widened ((answers-value g.dyn-1).it c.args.widener.now)) c.args.manager.now c.look.new.self c.args.who c.args.cells.now (map (λ job. job.header) c.in-Load.jobs) c.in-Load.jobs look);
       count = count_starts c.args.manager.now.setting c.args.manager.now.entries c.look.new.self.entries _ c.args.read.now c.steps_are_legal.ensures look.entries c.requires.count;
     }
 
 pub returns-then-not-end_loads-clause-refused : goal.returns-then-not-end_loads-clause-refused
 returns-then-not-end_loads-clause-refused g c =
-    let look : IsStarted c.args.manager.now c.look.new.self c.args.who c.args.cells.now c.in-Load.jobs = record {
+    let look : IsStarted (Widened ((answers-value g.dyn-1).it c.args.widener.now)) c.args.manager.now c.look.new.self c.args.who c.args.cells.now (map (λ job. job.header) c.in-Load.jobs) c.in-Load.jobs = record {
+      allowed = rw c.in-Load.is at c.in_ok-answer.ensures.headers;
       setting = c.look.ensures.setting;
       entries = rw c.in-Load.is at c.in_ok-answer.ensures.load_entries;
       numbers = rw c.in-Load.is at c.in_ok-answer.ensures.numbers;
       are = rw c.in-Load.is at c.in_ok-answer.ensures.jobs;
       legal = c.steps_are_legal-in-Load.ensures;
     } in
-    adds_ended c.args.manager.now c.look.new.self c.args.who c.args.cells.now c.in-Load.jobs look c.end_loads.new.manager c.end_loads.ensures.setting c.end_loads.ensures.ended
+    adds_ended (Widened ((answers-value g.dyn-1).it c.args.widener.now)) c.args.manager.now c.look.new.self c.args.who c.args.cells.now (map (λ job. job.header) c.in-Load.jobs) c.in-Load.jobs look c.end_loads.new.manager c.end_loads.ensures.setting c.end_loads.ensures.ended
 
 pub returns-then-not-end_loads-clause-at_most : goal.returns-then-not-end_loads-clause-at_most
 returns-then-not-end_loads-clause-at_most g c =
-    let look : IsStarted c.args.manager.now c.look.new.self c.args.who c.args.cells.now c.in-Load.jobs = record {
+    let look : IsStarted (Widened ((answers-value g.dyn-1).it c.args.widener.now)) c.args.manager.now c.look.new.self c.args.who c.args.cells.now (map (λ job. job.header) c.in-Load.jobs) c.in-Load.jobs = record {
+      allowed = rw c.in-Load.is at c.in_ok-answer.ensures.headers;
       setting = c.look.ensures.setting;
       entries = rw c.in-Load.is at c.in_ok-answer.ensures.load_entries;
       numbers = rw c.in-Load.is at c.in_ok-answer.ensures.numbers;
       are = rw c.in-Load.is at c.in_ok-answer.ensures.jobs;
       legal = c.steps_are_legal-in-Load.ensures;
     } in
-    let read = read_ended c.args.manager.now c.look.new.self c.args.who c.args.cells.now c.in-Load.jobs look c.end_loads.new.manager.entries c.end_loads.ensures.ended c.requires.seat in
+    let read = read_ended (Widened ((answers-value g.dyn-1).it c.args.widener.now)) c.args.manager.now c.look.new.self c.args.who c.args.cells.now (map (λ job. job.header) c.in-Load.jobs) c.in-Load.jobs look c.end_loads.new.manager.entries c.end_loads.ensures.ended c.requires.seat in
     omega (arith, read, c.end_loads.ensures.at_most)
 
 pub answer_ready-requires-clause-call : goal.answer_ready-requires-clause-call
 answer_ready-requires-clause-call g c =
-    let look : IsStarted c.args.manager.now c.look.new.self c.args.who c.args.cells.now c.in-Load.jobs = record {
+    let look : IsStarted (Widened ((answers-value g.dyn-1).it c.args.widener.now)) c.args.manager.now c.look.new.self c.args.who c.args.cells.now (map (λ job. job.header) c.in-Load.jobs) c.in-Load.jobs = record {
+      allowed = rw c.in-Load.is at c.in_ok-answer.ensures.headers;
       setting = c.look.ensures.setting;
       entries = rw c.in-Load.is at c.in_ok-answer.ensures.load_entries;
       numbers = rw c.in-Load.is at c.in_ok-answer.ensures.numbers;
       are = rw c.in-Load.is at c.in_ok-answer.ensures.jobs;
       legal = c.steps_are_legal-in-Load.ensures;
     } in
-    next_again c.args.manager.now c.look.new.self c.args.who c.args.cells.now c.in-Load.jobs look c.end_loads.new.manager.entries c.end_loads.ensures.ended c.requires.call
+    next_again (Widened ((answers-value g.dyn-1).it c.args.widener.now)) c.args.manager.now c.look.new.self c.args.who c.args.cells.now (map (λ job. job.header) c.in-Load.jobs) c.in-Load.jobs look c.end_loads.new.manager.entries c.end_loads.ensures.ended c.requires.call
 
 pub answer_ready-requires-clause-ready : goal.answer_ready-requires-clause-ready
 answer_ready-requires-clause-ready g c =
-    let look : IsStarted c.args.manager.now c.look.new.self c.args.who c.args.cells.now c.in-Load.jobs = record {
+    let look : IsStarted (Widened ((answers-value g.dyn-1).it c.args.widener.now)) c.args.manager.now c.look.new.self c.args.who c.args.cells.now (map (λ job. job.header) c.in-Load.jobs) c.in-Load.jobs = record {
+      allowed = rw c.in-Load.is at c.in_ok-answer.ensures.headers;
       setting = c.look.ensures.setting;
       entries = rw c.in-Load.is at c.in_ok-answer.ensures.load_entries;
       numbers = rw c.in-Load.is at c.in_ok-answer.ensures.numbers;
       are = rw c.in-Load.is at c.in_ok-answer.ensures.jobs;
       legal = c.steps_are_legal-in-Load.ensures;
     } in
-    ready_again c.args.manager.now c.end_loads.new.manager c.args.who c.args.cells.now c.steps_are_legal-in-Load-2.ensures c.requires.known (c.end_loads.ensures.setting ∙ c.look.ensures.setting)
-    (all_delivered c.args.manager.now c.look.new.self c.args.who c.args.cells.now c.in-Load.jobs look c.end_loads.new.manager.entries (c.end_loads.ensures.delivered c.if-not-end_loads.false))
+    ready_again (Widened ((answers-value g.dyn-1).it c.args.widener.now)) c.args.manager.now c.end_loads.new.manager c.args.who c.args.cells.now (map (λ job. job.header) c.in-Load.jobs) look.allowed c.steps_are_legal-in-Load-2.ensures c.requires.known (c.end_loads.ensures.setting ∙ c.look.ensures.setting)
+    (all_delivered (Widened ((answers-value g.dyn-1).it c.args.widener.now)) c.args.manager.now c.look.new.self c.args.who c.args.cells.now (map (λ job. job.header) c.in-Load.jobs) c.in-Load.jobs look c.end_loads.new.manager.entries (c.end_loads.ensures.delivered c.if-not-end_loads.false))
 
 pub returns-in_err-answer-in-Load-clause-refused : goal.returns-in_err-answer-in-Load-clause-refused
 returns-in_err-answer-in-Load-clause-refused g c =
-    let look : IsStarted c.args.manager.now c.look.new.self c.args.who c.args.cells.now c.in-Load.jobs = record {
+    let look : IsStarted (Widened ((answers-value g.dyn-1).it c.args.widener.now)) c.args.manager.now c.look.new.self c.args.who c.args.cells.now (map (λ job. job.header) c.in-Load.jobs) c.in-Load.jobs = record {
+      allowed = rw c.in-Load.is at c.in_ok-answer.ensures.headers;
       setting = c.look.ensures.setting;
       entries = rw c.in-Load.is at c.in_ok-answer.ensures.load_entries;
       numbers = rw c.in-Load.is at c.in_ok-answer.ensures.numbers;
@@ -90,12 +98,13 @@ returns-in_err-answer-in-Load-clause-refused g c =
       legal = c.steps_are_legal-in-Load.ensures;
     } in
     on_error c.from_residual-in_err-answer-in-Load.result
-    (subst (λ (m : CacheOf). AddsEnded c.args.manager.now m c.args.who c.args.cells.now) (sym c.in_err-answer-in-Load.ensures.unchanged)
-    (adds_ended c.args.manager.now c.look.new.self c.args.who c.args.cells.now c.in-Load.jobs look c.end_loads.new.manager c.end_loads.ensures.setting c.end_loads.ensures.ended))
+    (subst (λ (m : CacheOf). AddsEnded (Widened ((answers-value g.dyn-1).it c.args.widener.now)) c.args.manager.now m c.args.who c.args.cells.now) (sym c.in_err-answer-in-Load.ensures.unchanged)
+    (adds_ended (Widened ((answers-value g.dyn-1).it c.args.widener.now)) c.args.manager.now c.look.new.self c.args.who c.args.cells.now (map (λ job. job.header) c.in-Load.jobs) c.in-Load.jobs look c.end_loads.new.manager c.end_loads.ensures.setting c.end_loads.ensures.ended))
 
 pub returns-in_err-answer-in-Load-clause-at_most : goal.returns-in_err-answer-in-Load-clause-at_most
 returns-in_err-answer-in-Load-clause-at_most g c =
-    let look : IsStarted c.args.manager.now c.look.new.self c.args.who c.args.cells.now c.in-Load.jobs = record {
+    let look : IsStarted (Widened ((answers-value g.dyn-1).it c.args.widener.now)) c.args.manager.now c.look.new.self c.args.who c.args.cells.now (map (λ job. job.header) c.in-Load.jobs) c.in-Load.jobs = record {
+      allowed = rw c.in-Load.is at c.in_ok-answer.ensures.headers;
       setting = c.look.ensures.setting;
       entries = rw c.in-Load.is at c.in_ok-answer.ensures.load_entries;
       numbers = rw c.in-Load.is at c.in_ok-answer.ensures.numbers;
@@ -103,12 +112,12 @@ returns-in_err-answer-in-Load-clause-at_most g c =
       legal = c.steps_are_legal-in-Load.ensures;
     } in
     let same = ap (λ (m : CacheOf). rows_started 1 c.args.manager.now.entries m.entries) c.in_err-answer-in-Load.ensures.unchanged in
-    let read = read_ended c.args.manager.now c.look.new.self c.args.who c.args.cells.now c.in-Load.jobs look c.end_loads.new.manager.entries c.end_loads.ensures.ended c.requires.seat in
+    let read = read_ended (Widened ((answers-value g.dyn-1).it c.args.widener.now)) c.args.manager.now c.look.new.self c.args.who c.args.cells.now (map (λ job. job.header) c.in-Load.jobs) c.in-Load.jobs look c.end_loads.new.manager.entries c.end_loads.ensures.ended c.requires.seat in
     omega (arith, same, read, c.end_loads.ensures.at_most)
 
 pub returns-in-Ready-clause-answered : goal.returns-in-Ready-clause-answered
 returns-in-Ready-clause-answered g c =
-    adds_answer c.args.manager.now c.args.manager.now c.look.new.self c.args.who c.args.cells.now c.in-Ready.answer refl
+    adds_answer (Widened ((answers-value g.dyn-1).it c.args.widener.now)) c.args.manager.now c.args.manager.now c.look.new.self c.args.who c.args.cells.now [] c.in-Ready.answer (none_allowed (Widened ((answers-value g.dyn-1).it c.args.widener.now)) c.args.manager.now c.args.cells.now (rw c.in-Ready.is at c.in_ok-answer.ensures.ready)) refl
     (none_lacking c.args.manager.now c.args.who c.args.cells.now (rw c.in-Ready.is at c.in_ok-answer.ensures.ready)) c.look.ensures.setting (rw c.in-Ready.is at c.in_ok-answer.ensures.answer_entry)
     (rw c.in-Ready.is at c.in_ok-answer.ensures.answer)
 
@@ -123,15 +132,16 @@ returns-in-Ready-clause-count g c =
 
 pub returns-in_ok-answer-in-Load-clause-answered : goal.returns-in_ok-answer-in-Load-clause-answered
 returns-in_ok-answer-in-Load-clause-answered g c =
-    let look : IsStarted c.args.manager.now c.look.new.self c.args.who c.args.cells.now c.in-Load.jobs = record {
+    let look : IsStarted (Widened ((answers-value g.dyn-1).it c.args.widener.now)) c.args.manager.now c.look.new.self c.args.who c.args.cells.now (map (λ job. job.header) c.in-Load.jobs) c.in-Load.jobs = record {
+      allowed = rw c.in-Load.is at c.in_ok-answer.ensures.headers;
       setting = c.look.ensures.setting;
       entries = rw c.in-Load.is at c.in_ok-answer.ensures.load_entries;
       numbers = rw c.in-Load.is at c.in_ok-answer.ensures.numbers;
       are = rw c.in-Load.is at c.in_ok-answer.ensures.jobs;
       legal = c.steps_are_legal-in-Load.ensures;
     } in
-    adds_answer c.args.manager.now c.end_loads.new.manager c.answer_ready.new.manager c.args.who c.args.cells.now c.in_ok-answer-in-Load.answer (c.end_loads.ensures.setting ∙ c.look.ensures.setting)
-    (all_delivered c.args.manager.now c.look.new.self c.args.who c.args.cells.now c.in-Load.jobs look c.end_loads.new.manager.entries (c.end_loads.ensures.delivered c.if-not-end_loads.false)) c.answer_ready.ensures.setting
+    adds_answer (Widened ((answers-value g.dyn-1).it c.args.widener.now)) c.args.manager.now c.end_loads.new.manager c.answer_ready.new.manager c.args.who c.args.cells.now (map (λ job. job.header) c.in-Load.jobs) c.in_ok-answer-in-Load.answer look.allowed (c.end_loads.ensures.setting ∙ c.look.ensures.setting)
+    (all_delivered (Widened ((answers-value g.dyn-1).it c.args.widener.now)) c.args.manager.now c.look.new.self c.args.who c.args.cells.now (map (λ job. job.header) c.in-Load.jobs) c.in-Load.jobs look c.end_loads.new.manager.entries (c.end_loads.ensures.delivered c.if-not-end_loads.false)) c.answer_ready.ensures.setting
     c.in_ok-answer-in-Load.ensures.entry c.in_ok-answer-in-Load.ensures.answer
 
 pub returns-in_ok-answer-in-Load-clause-idle : goal.returns-in_ok-answer-in-Load-clause-idle
@@ -145,7 +155,8 @@ returns-in_ok-answer-in-Load-clause-count g c =
 
 pub returns-in_ok-answer-in-Load-clause-cost : goal.returns-in_ok-answer-in-Load-clause-cost
 returns-in_ok-answer-in-Load-clause-cost g c =
-    let look : IsStarted c.args.manager.now c.look.new.self c.args.who c.args.cells.now c.in-Load.jobs = record {
+    let look : IsStarted (Widened ((answers-value g.dyn-1).it c.args.widener.now)) c.args.manager.now c.look.new.self c.args.who c.args.cells.now (map (λ job. job.header) c.in-Load.jobs) c.in-Load.jobs = record {
+      allowed = rw c.in-Load.is at c.in_ok-answer.ensures.headers;
       setting = c.look.ensures.setting;
       entries = rw c.in-Load.is at c.in_ok-answer.ensures.load_entries;
       numbers = rw c.in-Load.is at c.in_ok-answer.ensures.numbers;
@@ -153,14 +164,15 @@ returns-in_ok-answer-in-Load-clause-cost g c =
       legal = c.steps_are_legal-in-Load.ensures;
     } in
     let read =
-    read_in_all c.args.manager.now c.look.new.self c.args.who c.args.cells.now c.in-Load.jobs look c.answer_ready.new.manager.entries (Answer c.args.who c.in_ok-answer-in-Load.answer.sources.value) c.requires.seat refl (λ es. refl)
+    read_in_all (Widened ((answers-value g.dyn-1).it c.args.widener.now)) c.args.manager.now c.look.new.self c.args.who c.args.cells.now (map (λ job. job.header) c.in-Load.jobs) c.in-Load.jobs look c.answer_ready.new.manager.entries (Answer c.args.who c.in_ok-answer-in-Load.answer.sources.value) c.requires.seat refl (λ es. refl)
     (c.in_ok-answer-in-Load.ensures.entry ∙ ap (λ (es : List Entry). es ++ Answer c.args.who c.in_ok-answer-in-Load.answer.sources.value ∷ []) (c.end_loads.ensures.delivered c.if-not-end_loads.false)) in
     let cost = c.end_loads.ensures.cost c.if-not-end_loads.false in
     omega (arith, read, cost)
 
 pub returns-in_ok-answer-in-Load-clause-at_most : goal.returns-in_ok-answer-in-Load-clause-at_most
 returns-in_ok-answer-in-Load-clause-at_most g c =
-    let look : IsStarted c.args.manager.now c.look.new.self c.args.who c.args.cells.now c.in-Load.jobs = record {
+    let look : IsStarted (Widened ((answers-value g.dyn-1).it c.args.widener.now)) c.args.manager.now c.look.new.self c.args.who c.args.cells.now (map (λ job. job.header) c.in-Load.jobs) c.in-Load.jobs = record {
+      allowed = rw c.in-Load.is at c.in_ok-answer.ensures.headers;
       setting = c.look.ensures.setting;
       entries = rw c.in-Load.is at c.in_ok-answer.ensures.load_entries;
       numbers = rw c.in-Load.is at c.in_ok-answer.ensures.numbers;
@@ -168,6 +180,6 @@ returns-in_ok-answer-in-Load-clause-at_most g c =
       legal = c.steps_are_legal-in-Load.ensures;
     } in
     let read =
-    read_in_all c.args.manager.now c.look.new.self c.args.who c.args.cells.now c.in-Load.jobs look c.answer_ready.new.manager.entries (Answer c.args.who c.in_ok-answer-in-Load.answer.sources.value) c.requires.seat refl (λ es. refl)
+    read_in_all (Widened ((answers-value g.dyn-1).it c.args.widener.now)) c.args.manager.now c.look.new.self c.args.who c.args.cells.now (map (λ job. job.header) c.in-Load.jobs) c.in-Load.jobs look c.answer_ready.new.manager.entries (Answer c.args.who c.in_ok-answer-in-Load.answer.sources.value) c.requires.seat refl (λ es. refl)
     (c.in_ok-answer-in-Load.ensures.entry ∙ ap (λ (es : List Entry). es ++ Answer c.args.who c.in_ok-answer-in-Load.answer.sources.value ∷ []) (c.end_loads.ensures.delivered c.if-not-end_loads.false)) in
     omega (arith, read, c.end_loads.ensures.at_most)

@@ -19,4 +19,9 @@ returns c = record {
   full_split = refl;
   full_beside = refl;
   open_beside = refl;
+  two_lists = refl;
+  behind_other = refl;
+  other_measure = refl;
+  other_cube = refl;
+  no_values_uncovered = refl;
 }

@@ -2,8 +2,9 @@
 use Rattle.std.proofs.Common.{◌≤◌, ◌+◌, List, ap, ◌∙◌, subst}
 use Rattle.olap_meaning.specs.History.{Entry}
 use Rattle.line_session.specs.Desks.{rows_started}
-use Rattle.shown_values.specs.contracts.formatter.FormatterGivesTexts.TheImpl.{answers-value}
-use Rattle.shown_values.specs.Given.{Given}
+use Rattle.shown_values.specs.contracts.formatter.FormatterGivesTexts.TheImpl as formats
+use Rattle.segment_header.specs.contracts.widener.WidenerAllowsValues.TheImpl as widens
+use Rattle.line_session.specs.Tools.{tools_of}
 use Rattle.history_core.specs.Cache.{CacheOf}
 use Rattle.olap_server.specs.Run.{ServesDesk, around_of}
 use Rattle.olap_server.proofs.RunFacts.{ends_run}
@@ -14,9 +15,9 @@ returns-clause-served g c =
     let start = around_of g.D.Depot.answers g.K.Link.talk g.K.Link.left c.args.depot.now c.args.link.now in
     let finish = around_of g.D.Depot.answers g.K.Link.talk g.K.Link.left c.serve_desk-status.new.depot c.serve_desk-status.new.link in
     let same = c.into_manager-manager.ensures.same in
-    ends_run (Given ((answers-value g.dyn-1).it c.args.tools.now.formatter)) (g.D.Depot.files c.args.depot.now) c.args.opened c.serve_desk-status.new.desk c.into_history.result start finish c.serve_desk-status.result
+    ends_run (tools_of ((formats.answers-value g.dyn-1).it c.args.tools.now.formatter) ((widens.answers-value g.dyn-2).it c.args.tools.now.widener)) (g.D.Depot.files c.args.depot.now) c.args.opened c.serve_desk-status.new.desk c.into_history.result start finish c.serve_desk-status.result
     (c.into_history.ensures.setting ∙ ap (λ (k : CacheOf). k.setting) same) (c.into_history.ensures.entries ∙ ap (λ (k : CacheOf). k.entries) same)
-    (subst (λ (k : CacheOf). ServesDesk (Given ((answers-value g.dyn-1).it c.args.tools.now.formatter)) (g.D.Depot.files c.args.depot.now) k c.serve_desk-status.new.desk start finish c.serve_desk-status.result) c.new-desk.ensures c.serve_desk-status.ensures.served)
+    (subst (λ (k : CacheOf). ServesDesk (tools_of ((formats.answers-value g.dyn-1).it c.args.tools.now.formatter) ((widens.answers-value g.dyn-2).it c.args.tools.now.widener)) (g.D.Depot.files c.args.depot.now) k c.serve_desk-status.new.desk start finish c.serve_desk-status.result) c.new-desk.ensures c.serve_desk-status.ensures.served)
 
 pub returns-clause-cost : goal.returns-clause-cost
 returns-clause-cost g c =

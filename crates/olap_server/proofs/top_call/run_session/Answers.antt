@@ -1,8 +1,9 @@
 -- That `run_session` serves a session over what was opened, or tells a fault of the opening.
 use Rattle.std.proofs.Common.{Option, subst}
 use Rattle.outside.specs.Told.{Files}
-use Rattle.shown_values.specs.contracts.formatter.FormatterGivesTexts.TheImpl.{answers-value}
-use Rattle.shown_values.specs.Given.{Given}
+use Rattle.shown_values.specs.contracts.formatter.FormatterGivesTexts.TheImpl as formats
+use Rattle.segment_header.specs.contracts.widener.WidenerAllowsValues.TheImpl as widens
+use Rattle.line_session.specs.Tools.{tools_of}
 use Rattle.olap_server.specs.Run.{EndsRun, around_of, with_answers}
 use Rattle.olap_server.proofs.RunFacts.{of_history, opening_tells}
 use Rattle.olap_server.proofs.top_call.run_session.Goals as goal
@@ -14,7 +15,7 @@ returns-in-Err-clause-told g c =
 
 pub returns-in-Ok-clause-session : goal.returns-in-Ok-clause-session
 returns-in-Ok-clause-session g c =
-    let texts = Given ((answers-value g.dyn-1).it c.args.tools.now.formatter) in
+    let tools = tools_of ((formats.answers-value g.dyn-1).it c.args.tools.now.formatter) ((widens.answers-value g.dyn-2).it c.args.tools.now.widener) in
     let start = around_of g.D.Depot.answers g.K.Link.talk g.K.Link.left c.args.depot.now c.args.link.now in
     let answers = g.D.Depot.answers c.open_cache.new.depot in
     let finish = around_of g.D.Depot.answers g.K.Link.talk g.K.Link.left c.serve_opened.new.depot c.serve_opened.new.link in
@@ -23,7 +24,7 @@ returns-in-Ok-clause-session g c =
       c.in-Ok.manager,
       answers,
       c.in-Ok.ensures.opened,
-      subst (λ (files : Option Files). EndsRun texts files c.in-Ok.manager history (with_answers start answers) finish c.serve_opened.result.status) c.in-Ok.ensures.same_files ends,
+      subst (λ (files : Option Files). EndsRun tools files c.in-Ok.manager history (with_answers start answers) finish c.serve_opened.result.status) c.in-Ok.ensures.same_files ends,
       within,
     ))
     c.serve_opened.ensures.served c.serve_opened.ensures.cost

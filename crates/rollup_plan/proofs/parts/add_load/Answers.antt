@@ -1,7 +1,7 @@
 use Rattle.std.proofs.Common.{◌≡◌, ◌∙◌, true, false, length, take, sym}
 use Rattle.std.specs.Prelude.{Contains}
 use Rattle.cache_flush.specs.Loads.{kept_of}
-use Rattle.olap_meaning.specs.Rolled.{columns_of, is_any}
+use Rattle.olap_meaning.specs.Rolled.{header_columns, is_any}
 use Rattle.rollup_plan.specs.Picks.{is_open, is_whole, lent}
 use Rattle.rollup_plan.proofs.ListFacts.{lent_at, lent_member, lent_next}
 use Rattle.rollup_plan.proofs.PickFacts.{closed_step, open_step, not_any}
@@ -9,7 +9,7 @@ use Rattle.rollup_plan.proofs.parts.add_load.Goals as goal
 
 pub allowed_in-requires-clause-own : goal.allowed_in-requires-clause-own
 allowed_in-requires-clause-own c =
-    rw c.header-header.ensures.value (lent_at (λ one. Contains (columns_of one.body.header) c.args.split) c.args.kept.now c.args.next c.index-kept-next.result c.requires.having c.requires.inside c.index-kept-next.is)
+    rw c.header-header.ensures.value (lent_at (λ one. Contains (header_columns one.body.header) c.args.split) c.args.kept.now c.args.next c.index-kept-next.result c.requires.having c.requires.inside c.index-kept-next.is)
 
 pub returns-in_ok-add_values : goal.returns-in_ok-add_values
 returns-in_ok-add_values c =

@@ -2,14 +2,14 @@ use Rattle.std.proofs.Common.{◌≡◌, ◌-◌, arith, take, false}
 use Rattle.std.specs.Prelude.{Contains}
 use Rattle.std.proofs.lemmas.List.{length-map, take_all}
 use Rattle.cache_flush.specs.Loads.{kept_of}
-use Rattle.olap_meaning.specs.Rolled.{columns_of}
+use Rattle.olap_meaning.specs.Rolled.{header_columns}
 use Rattle.rollup_plan.specs.Picks.{is_whole, lent}
 use Rattle.rollup_plan.proofs.CountFacts.{more_counted, too_few}
 use Rattle.rollup_plan.proofs.ListFacts.{lent_at, lent_next}
 use Rattle.rollup_plan.proofs.parts.are_enough.Goals as goal
 
 pub held_by-held-requires : goal.held_by-held-requires
-held_by-held-requires c = lent_at (λ one. Contains (columns_of one.body.header) c.args.split) c.args.kept.now c.loop-one.one-index c.one-item.result c.requires.having c.loop-one-test.true c.one-item.is
+held_by-held-requires c = lent_at (λ one. Contains (header_columns one.body.header) c.args.split) c.args.kept.now c.loop-one.one-index c.one-item.result c.requires.having c.loop-one-test.true c.one-item.is
 
 pub loop-one-preserved : goal.loop-one-preserved
 loop-one-preserved c =

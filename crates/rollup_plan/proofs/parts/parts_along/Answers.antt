@@ -2,7 +2,7 @@ use Rattle.std.proofs.Common.{sym}
 use Rattle.std.specs.Prelude.{Contains}
 use Rattle.std.proofs.lemmas.List.Elements.{All-contains}
 use Rattle.cache_flush.specs.Loads.{kept_of}
-use Rattle.olap_meaning.specs.Rolled.{columns_of}
+use Rattle.olap_meaning.specs.Rolled.{header_columns}
 use Rattle.rollup_plan.specs.Picks.{is_whole, lent}
 use Rattle.rollup_plan.proofs.PickFacts.{picked_splits}
 use Rattle.rollup_plan.proofs.ListFacts.{found_passes, none_found}
@@ -11,7 +11,7 @@ use Rattle.rollup_plan.proofs.parts.parts_along.Goals as goal
 pub part_of_whole-requires : goal.part_of_whole-requires
 part_of_whole-requires c =
     let found = found_passes (is_whole c.args.size c.args.cell.now c.args.split) (lent c.args.kept.now) (kept_of c.in-Some.whole.now) (sym c.in-Some.ensures) in
-    All-contains (λ one. Contains (columns_of one.body.header) c.args.split) (lent c.args.kept.now) (kept_of c.in-Some.whole.now) c.requires found.0
+    All-contains (λ one. Contains (header_columns one.body.header) c.args.split) (lent c.args.kept.now) (kept_of c.in-Some.whole.now) c.requires found.0
 
 pub marked_parts-requires-clause-partial : goal.marked_parts-requires-clause-partial
 marked_parts-requires-clause-partial c = none_found (is_whole c.args.size c.args.cell.now c.args.split) (lent c.args.kept.now) (sym c.in-None.ensures)

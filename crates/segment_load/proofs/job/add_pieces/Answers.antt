@@ -2,8 +2,8 @@
 use Rattle.std.proofs.Common.{◌∙◌, ℕ, ℤ, List, Option, ◌++◌, append_assoc, length, length-append, take, ap, sym, arith}
 use Rattle.olap_meaning.specs.declared.tables.Row.{Row}
 use Rattle.segment_body.specs.BodyOf.{BodyOf}
-use Rattle.segment_load.specs.Loads.{body_rows, rows_in}
-use Rattle.segment_load.proofs.BatchFacts.{batch_fits, body_rows-append, body_rows-fit, rows_in_more, rows_in_next, rows_in_within}
+use Rattle.fact_reader.specs.BodyRows.{body_rows, rows_in}
+use Rattle.fact_reader.proofs.BatchFacts.{batch_fits, body_rows-append, body_rows-fit, rows_in_more, rows_in_next, rows_in_within}
 use Rattle.segment_load.proofs.job.add_pieces.Goals as goal
 
 pub add_rows-requires-clause-fit : goal.add_rows-requires-clause-fit

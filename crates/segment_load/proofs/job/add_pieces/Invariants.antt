@@ -1,6 +1,6 @@
 -- What holds at each turn of `add_pieces`.
 use Rattle.std.proofs.Common.{◌≡◌, ◌+◌, ◌++◌, length, take}
-use Rattle.segment_load.specs.Loads.{body_rows, rows_in}
+use Rattle.fact_reader.specs.BodyRows.{body_rows, rows_in}
 use Rattle.segment_load.proofs.job.add_pieces.Given as goal
 
 -- the pieces so far are added and counted

@@ -1,5 +1,5 @@
 -- That `held_rows_are_worth` ensures what it says.
-use Rattle.segment_load.proofs.LawFacts.{held_rows_are_worth}
+use Rattle.fact_reader.proofs.LawFacts.{held_rows_are_worth}
 use Rattle.segment_load.proofs.laws.held_rows_are_worth.Goals as goal
 
 pub returns : goal.returns

@@ -1,5 +1,5 @@
 -- That `loads_are_worth` ensures what it says.
-use Rattle.segment_load.proofs.LawFacts.{body_value-body_of}
+use Rattle.fact_reader.proofs.LawFacts.{body_value-body_of}
 use Rattle.segment_load.proofs.laws.loads_are_worth.Goals as goal
 
 pub returns : goal.returns

@@ -1,5 +1,5 @@
 -- That `loads_are_worth_in_versions` ensures what it says.
-use Rattle.segment_load.proofs.LawFacts.{body_value-version}
+use Rattle.fact_reader.proofs.LawFacts.{body_value-version}
 use Rattle.segment_load.proofs.laws.loads_are_worth_in_versions.Goals as goal
 
 pub returns : goal.returns

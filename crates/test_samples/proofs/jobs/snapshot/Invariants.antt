@@ -1,7 +1,7 @@
 -- The batches so far are batches of the sample cube.
 use Rattle.std.proofs.Common.{◌≡◌, true, All, length}
 use Rattle.fact_versions.specs.Facts.{batches_of}
-use Rattle.segment_load.specs.Loads.{is_batch}
+use Rattle.fact_reader.specs.BodyRows.{is_batch}
 use Rattle.test_samples.proofs.jobs.snapshot.Given as goal
 
 -- the batches so far are batches of the cube

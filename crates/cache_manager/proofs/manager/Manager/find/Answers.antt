@@ -5,7 +5,7 @@ use Rattle.std.proofs.lemmas.Bool.{eqb-false, eqb-true}
 use Rattle.history_core.specs.Cache.{CacheOf}
 use Rattle.history_core.specs.Groups.{wanting}
 use Rattle.cache_manager.specs.Found.{AreServed, IsPlaced, cells_of, wants}
-use Rattle.cache_manager.specs.Lent.{lent}
+use Rattle.cell_groups.specs.Lent.{lent}
 use Rattle.cache_manager.specs.Rollups.{AreKept}
 use Rattle.cache_manager.specs.declared.findings.Hit.{Hit}
 use Rattle.cache_manager.specs.declared.rollups.Rollup.{Rollup}

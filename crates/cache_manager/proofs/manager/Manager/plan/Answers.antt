@@ -1,35 +1,46 @@
 -- The header of a group is well formed, and can be loaded; what is prepared is the load of the group.
-use Rattle.std.proofs.Common.{◌≡◌, refl, ◌∙◌, ap, filter}
-use Rattle.segment_load.specs.Loads.{JobOf, rows_in}
-use Rattle.history_core.specs.Groups.{alike, header_for}
-use Rattle.cache_manager.specs.Lent.{lent}
-use Rattle.cache_manager.proofs.Grouping.{group_loadable, header_formed}
+use Rattle.std.proofs.Common.{◌≡◌, refl, ◌∙◌, ap, subst}
+use Rattle.olap_meaning.specs.declared.tables.Catalog.{Catalog}
+use Rattle.segment_header.specs.contracts.widener.WidenerAllowsValues.TheImpl.{answers-value}
+use Rattle.segment_header.specs.Widening.{Widened}
+use Rattle.fact_reader.specs.BodyRows.{rows_in}
+use Rattle.segment_load.specs.Loads.{JobOf}
+use Rattle.history_core.specs.Groups.{IsHeaderFor}
+use Rattle.cell_groups.specs.Lent.{lent}
+use Rattle.cache_manager.proofs.Grouping.{cube_known, group_loadable, header_formed, known_of}
 use Rattle.cache_manager.proofs.manager.Manager.plan.Goals as goal
 
+pub snapshot-requires : goal.snapshot-requires
+snapshot-requires g c =
+    cube_known c.args.self.now.setting.catalog c.args.group.now.first.now
+    (known_of c.args.self.now.setting.catalog (lent c.args.group.now.cells.items) c.args.group.now.first.now c.requires.known c.requires.among)
+
 pub new-requires-clause-header : goal.new-requires-clause-header
-new-requires-clause-header c =
-    rw (c.in_ok-header.ensures c.args.self.now.setting.catalog c.requires.all_known) (header_formed c.args.self.now.setting.catalog c.args.first.now (lent c.args.wanted.now) c.requires.known c.requires.among)
+new-requires-clause-header g c =
+    let own : IsHeaderFor (Widened ((answers-value g.dyn-1).it c.args.widener.now)) c.args.self.now.setting.catalog c.args.group.now.first.now (lent c.args.group.now.cells.items) c.in_ok-header.header =
+    subst (λ (k : Catalog). IsHeaderFor (Widened ((answers-value g.dyn-1).it c.args.widener.now)) k c.args.group.now.first.now (lent c.args.group.now.cells.items) c.in_ok-header.header) (c.deref.ensures ∙ c.catalog.ensures) c.in_ok-header.ensures in
+    header_formed (Widened ((answers-value g.dyn-1).it c.args.widener.now)) c.args.self.now.setting.catalog c.args.group.now.first.now (lent c.args.group.now.cells.items) c.in_ok-header.header own
+    (known_of c.args.self.now.setting.catalog (lent c.args.group.now.cells.items) c.args.group.now.first.now c.requires.known c.requires.among)
 
 pub new-requires-clause-loadable : goal.new-requires-clause-loadable
-new-requires-clause-loadable c =
-    rw (c.in_ok-header.ensures c.args.self.now.setting.catalog c.requires.all_known, c.in_ok-catalog.ensures, c.catalog.ensures)
-    (group_loadable c.args.self.now.setting.catalog c.args.first.now (filter (alike c.args.first.now) (lent c.args.wanted.now)) c.requires.known)
-
-pub new-requires-clause-fit : goal.new-requires-clause-fit
-new-requires-clause-fit c =
-    rw (c.in_ok-header.ensures c.args.self.now.setting.catalog c.requires.all_known, c.in_ok-catalog.ensures, c.catalog.ensures)
-    c.in_ok-snapshot.ensures.fit
+new-requires-clause-loadable g c =
+    let own : IsHeaderFor (Widened ((answers-value g.dyn-1).it c.args.widener.now)) c.args.self.now.setting.catalog c.args.group.now.first.now (lent c.args.group.now.cells.items) c.in_ok-header.header =
+    subst (λ (k : Catalog). IsHeaderFor (Widened ((answers-value g.dyn-1).it c.args.widener.now)) k c.args.group.now.first.now (lent c.args.group.now.cells.items) c.in_ok-header.header) (c.deref.ensures ∙ c.catalog.ensures) c.in_ok-header.ensures in
+    rw (c.in_ok-catalog.ensures, c.catalog-2.ensures)
+    (group_loadable (Widened ((answers-value g.dyn-1).it c.args.widener.now)) c.args.self.now.setting.catalog c.args.group.now.first.now (lent c.args.group.now.cells.items) c.in_ok-header.header own
+    (known_of c.args.self.now.setting.catalog (lent c.args.group.now.cells.items) c.args.group.now.first.now c.requires.known c.requires.among))
 
 pub returns : goal.returns
-returns c =
-    let made : c.in_ok-header.header ≡ header_for c.args.self.now.setting.catalog c.args.first.now (filter (alike c.args.first.now) (lent c.args.wanted.now)) =
-    c.in_ok-header.ensures c.args.self.now.setting.catalog c.requires.all_known in
+returns g c =
+    let own : IsHeaderFor (Widened ((answers-value g.dyn-1).it c.args.widener.now)) c.args.self.now.setting.catalog c.args.group.now.first.now (lent c.args.group.now.cells.items) c.in_ok-header.header =
+    subst (λ (k : Catalog). IsHeaderFor (Widened ((answers-value g.dyn-1).it c.args.widener.now)) k c.args.group.now.first.now (lent c.args.group.now.cells.items) c.in_ok-header.header) (c.deref.ensures ∙ c.catalog.ensures) c.in_ok-header.ensures in
+    let header : c.new.result.header ≡ c.in_ok-header.header = ap (λ (j : JobOf). j.header) c.new.ensures in
     record {
-      start = rw (c.in_ok-copy.ensures ∙ made, c.version-version.ensures ∙ c.in_ok-snapshot.ensures.version, c.in_ok-copy_cell.ensures) refl;
-      flight = rw (c.in_ok-other.ensures ∙ made, c.version-version.ensures ∙ c.in_ok-snapshot.ensures.version) refl;
+      allowed = rw header own;
+      start = rw (header, c.in_ok-copy.ensures, c.version-version.ensures ∙ c.in_ok-snapshot.ensures.version, c.in_ok-copy_cell.ensures) refl;
+      flight = rw (header, c.in_ok-other.ensures, c.version-version.ensures ∙ c.in_ok-snapshot.ensures.version) refl;
       load = ap (λ (j : JobOf). j.load) c.new.ensures;
       who_is = ap (λ (j : JobOf). j.who) c.new.ensures;
-      header = ap (λ (j : JobOf). j.header) c.new.ensures ∙ made;
-      catalog = ap (λ (j : JobOf). j.catalog) c.new.ensures ∙ c.in_ok-catalog.ensures ∙ c.catalog.ensures;
+      catalog = ap (λ (j : JobOf). j.catalog) c.new.ensures ∙ c.in_ok-catalog.ensures ∙ c.catalog-2.ensures;
       rows = ap (λ (j : JobOf). rows_in j.snapshot) c.new.ensures ∙ c.in_ok-snapshot.ensures.rows;
     }

@@ -1,40 +1,54 @@
--- Each first cell is one of the cells, and its load is numbered behind the last one.
-use Rattle.std.proofs.Common.{◌≡◌, ◌∙◌, ◌+◌, ◌<◌, ◌≤◌, List, [], ap, subst, arith, length, take, get_or}
-use Rattle.std.proofs.lemmas.List.{length-take-le}
+-- Each group has its cells, of which its first one is, and its load is numbered behind the last one.
+use Rattle.std.proofs.Common.{◌≡◌, ◌∙◌, ◌+◌, ◌<◌, List, subst, arith, filter, get_or, length, map, take}
+use Rattle.std.proofs.lemmas.List.{length-map, length-take-le, map_push}
 use Rattle.olap_meaning.specs.declared.cells.Cell.{Cell}
-use Rattle.olap_meaning.specs.Legal.{is_cell}
-use Rattle.history_core.specs.Groups.{firsts}
-use Rattle.cache_manager.specs.Lent.{lent}
-use Rattle.cache_manager.proofs.Grouping.{first_contained, first_passes}
+use Rattle.segment_header.specs.contracts.widener.WidenerAllowsValues.TheImpl.{answers-value}
+use Rattle.segment_header.specs.Widening.{Widened}
+use Rattle.history_core.specs.Groups.{alike}
+use Rattle.cell_groups.specs.Lent.{lent}
+use Rattle.cell_groups.specs.declared.groups.Group.{Group}
+use Rattle.cache_manager.specs.Plans.{IsPrepared}
 use Rattle.cache_manager.proofs.Fronts.{front_more}
-use Rattle.cache_manager.proofs.Lending.{length-lent, lent_at, lent_within}
-use Rattle.cache_manager.proofs.Starting.{planned_more}
+use Rattle.cache_manager.proofs.Grouping.{contains_at, first_wanted, group_at, group_known, group_place}
+use Rattle.cache_manager.proofs.Looking.{kept_pass}
+use Rattle.cache_manager.proofs.Starting.{prepared_more}
 use Rattle.cache_manager.proofs.manager.Manager.plans.Goals as goal
 
 pub plan-requires-clause-known : goal.plan-requires-clause-known
-plan-requires-clause-known c =
-    let are : lent c.as_slice-first-items.result.now ≡ firsts [] (lent c.args.wanted.now) = ap lent c.as_slice-first-items.ensures.value ∙ c.in_ok-firsts.ensures in
-    first_passes (is_cell c.args.self.now.setting.catalog) (lent c.args.wanted.now) c.loop-first.first-index c.first-item.result.now c.requires.known
-    (subst (λ (xs : List Cell). c.loop-first.first-index < length xs) are (lent_within c.as_slice-first-items.result.now c.loop-first.first-index c.loop-first-test.true))
-    (subst (λ (xs : List Cell). c.first-item.result.now ≡ get_or xs c.loop-first.first-index c.first-item.result.now) are (lent_at c.as_slice-first-items.result.now c.loop-first.first-index c.first-item.result c.loop-first-test.true c.first-item.is))
+plan-requires-clause-known g c =
+    let items = c.as_slice-group-items.ensures.value in
+    let own = group_at (lent c.args.wanted.now) c.in_ok-groups.groups.items c.loop-group.group-index c.group-item.result c.in_ok-groups.ensures.cells (subst (λ (gs : List Group). c.loop-group.group-index < length gs) items c.loop-group-test.true) (subst (λ (gs : List Group). c.group-item.result ≡ get_or gs c.loop-group.group-index c.group-item.result) items c.group-item.is) in
+    rw own (group_known c.args.self.now.setting.catalog (alike c.group-item.result.first.now) (lent c.args.wanted.now) c.requires.known)
+
+pub plan-requires-clause-alike : goal.plan-requires-clause-alike
+plan-requires-clause-alike g c =
+    let items = c.as_slice-group-items.ensures.value in
+    let own = group_at (lent c.args.wanted.now) c.in_ok-groups.groups.items c.loop-group.group-index c.group-item.result c.in_ok-groups.ensures.cells (subst (λ (gs : List Group). c.loop-group.group-index < length gs) items c.loop-group-test.true) (subst (λ (gs : List Group). c.group-item.result ≡ get_or gs c.loop-group.group-index c.group-item.result) items c.group-item.is) in
+    rw own (kept_pass (alike c.group-item.result.first.now) (lent c.args.wanted.now))
 
 pub plan-requires-clause-among : goal.plan-requires-clause-among
-plan-requires-clause-among c =
-    let are : lent c.as_slice-first-items.result.now ≡ firsts [] (lent c.args.wanted.now) = ap lent c.as_slice-first-items.ensures.value ∙ c.in_ok-firsts.ensures in
-    first_contained (lent c.args.wanted.now) c.loop-first.first-index c.first-item.result.now
-    (subst (λ (xs : List Cell). c.loop-first.first-index < length xs) are (lent_within c.as_slice-first-items.result.now c.loop-first.first-index c.loop-first-test.true))
-    (subst (λ (xs : List Cell). c.first-item.result.now ≡ get_or xs c.loop-first.first-index c.first-item.result.now) are (lent_at c.as_slice-first-items.result.now c.loop-first.first-index c.first-item.result c.loop-first-test.true c.first-item.is))
+plan-requires-clause-among g c =
+    let items = c.as_slice-group-items.ensures.value in
+    let within = subst (λ (gs : List Group). c.loop-group.group-index < length gs) items c.loop-group-test.true in
+    let is = subst (λ (gs : List Group). c.group-item.result ≡ get_or gs c.loop-group.group-index c.group-item.result) items c.group-item.is in
+    let own = group_at (lent c.args.wanted.now) c.in_ok-groups.groups.items c.loop-group.group-index c.group-item.result c.in_ok-groups.ensures.cells within is in
+    let place = group_place c.group-item.result.first.now (lent c.args.wanted.now) (first_wanted (lent c.args.wanted.now) c.in_ok-groups.groups.items c.loop-group.group-index c.group-item.result c.in_ok-groups.ensures.firsts within is) in
+    rw own (contains_at (filter (alike c.group-item.result.first.now) (lent c.args.wanted.now)) place.0 c.group-item.result.first.now place.1)
 
-pub loop-first-preserved : goal.loop-first-preserved
-loop-first-preserved c =
-    let items : List Cell = lent c.as_slice-first-items.result.now in
-    let many : length items ≡ length c.as_slice-first-items.result.now = length-lent c.as_slice-first-items.result.now in
-    let within : c.loop-first.first-index ≤ length items = omega (arith, many, c.loop-first.auto.first-index-end) in
-    let front : length (take c.loop-first.first-index items) ≡ c.loop-first.first-index = length-take-le c.loop-first.first-index items within in
+pub loop-group-preserved : goal.loop-group-preserved
+loop-group-preserved g c =
+    let items = c.as_slice-group-items.ensures.value in
+    let within = subst (λ (gs : List Group). c.loop-group.group-index < length gs) items c.loop-group-test.true in
+    let is = subst (λ (gs : List Group). c.group-item.result ≡ get_or gs c.loop-group.group-index c.group-item.result) items c.group-item.is in
+    let own = group_at (lent c.args.wanted.now) c.in_ok-groups.groups.items c.loop-group.group-index c.group-item.result c.in_ok-groups.ensures.cells within is in
+    let first : Group → Cell = λ group. group.first.now in
+    let many : length (map first (take c.loop-group.group-index c.as_slice-group-items.result.now)) ≡ c.loop-group.group-index =
+    length-map (take c.loop-group.group-index c.as_slice-group-items.result.now) first ∙ length-take-le c.loop-group.group-index c.as_slice-group-items.result.now c.loop-group.auto.group-index-end in
     record {
       planned =
-          rw (front_more items c.loop-first.first-index c.first-item.result.now (lent_within c.as_slice-first-items.result.now c.loop-first.first-index c.loop-first-test.true) (lent_at c.as_slice-first-items.result.now c.loop-first.first-index c.first-item.result c.loop-first-test.true c.first-item.is), c.in_ok-push.ensures.items)
-          (planned_more c.args.self.now c.args.who (lent c.args.wanted.now) (length c.args.self.now.entries + 1) _ c.loop-first.plans.items c.loop-first.load c.first-item.result.now _ c.loop-first.invariant.planned
-          (omega (arith, c.loop-first.invariant.number, front)) c.in_ok-plan.ensures);
-      number = omega (arith, c.in_ok-load-2.ensures, c.loop-first.invariant.number);
+          rw (front_more c.as_slice-group-items.result.now c.loop-group.group-index c.group-item.result c.loop-group-test.true c.group-item.is, map_push first (take c.loop-group.group-index c.as_slice-group-items.result.now) c.group-item.result, c.in_ok-push.ensures.items)
+          (prepared_more (Widened ((answers-value g.dyn-1).it c.args.widener.now)) c.args.self.now c.args.who (lent c.args.wanted.now) (length c.args.self.now.entries + 1) _ c.loop-group.plans.items c.loop-group.load c.group-item.result.first.now _ c.loop-group.invariant.planned
+          (omega (arith, c.loop-group.invariant.number, many))
+          (subst (λ (cs : List Cell). IsPrepared (Widened ((answers-value g.dyn-1).it c.args.widener.now)) c.args.self.now c.args.who cs c.loop-group.load c.group-item.result.first.now c.in_ok-plan.field-0) own c.in_ok-plan.ensures));
+      number = omega (arith, c.in_ok-load-2.ensures, c.loop-group.invariant.number);
     }

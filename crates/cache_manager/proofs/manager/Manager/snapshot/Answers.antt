@@ -1,7 +1,7 @@
 -- The snapshot of the present version has its rows, and batches of the cube.
 use Rattle.std.proofs.Common.{◌≡◌, subst, length}
 use Rattle.olap_meaning.specs.History.{rows_of, version}
-use Rattle.segment_load.specs.Loads.{rows_in}
+use Rattle.fact_reader.specs.BodyRows.{rows_in}
 use Rattle.history_core.specs.Cache.{CacheOf}
 use Rattle.cache_manager.proofs.Facts.{present}
 use Rattle.cache_manager.proofs.manager.Manager.snapshot.Goals as goal

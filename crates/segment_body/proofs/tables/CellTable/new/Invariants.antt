@@ -1,7 +1,7 @@
 -- What holds at each turn of `new`.
 use Rattle.std.proofs.Common.{◌≡◌, take}
 use Rattle.std.specs.Prelude.{All}
-use Rattle.segment_body.specs.AllFolds.{columns_of}
+use Rattle.olap_meaning.specs.Covering.{columns_of}
 use Rattle.segment_body.specs.Tables.{AreKeyed}
 use Rattle.segment_body.proofs.tables.CellTable.new.Given as goal
 

@@ -1,6 +1,6 @@
 -- That `new` leaves a value that is whole.
 use Rattle.std.proofs.Common.{◌∙◌, sym, arith}
-use Rattle.segment_load.proofs.BatchFacts.{length-rows_in}
+use Rattle.fact_reader.proofs.BatchFacts.{length-rows_in}
 use Rattle.segment_load.proofs.job.LoadJob.new.Goals as goal
 
 pub invariant_of-result : goal.invariant_of-result

@@ -1,7 +1,7 @@
 -- After a look the jobs are those of the loads in flight.
 use Rattle.std.proofs.Common.{◌≡◌, ◌+◌, ◌++◌, ◌∷◌, [], All, map, length, refl}
 use Rattle.olap_meaning.specs.History.{Answer}
-use Rattle.history_core.specs.Groups.{loads_for}
+use Rattle.history_core.specs.Groups.{load_count}
 use Rattle.cache_manager.specs.Jobs.{IsJobOf}
 use Rattle.history_core.specs.Groups.{numbers_from}
 use Rattle.test_plays.proofs.JobFacts.{jobs_are, jobs_on}
@@ -17,7 +17,7 @@ invariant_of-self c =
 pub invariant_of-self-in-Ok-Load : goal.invariant_of-self-in-Ok-Load
 invariant_of-self-in-Ok-Load c =
     let cache = c.self.inside.manager in
-    let count = length (loads_for cache c.args.who c.args.cells.now) in
+    let count = load_count cache c.args.cells.now in
     let jobs = c.in-Ok-Load.jobs in
     let each : All (IsJobOf c.look.new.self) jobs = rw c.in-Ok-Load.field-0-is at c.in-Ok-Load.ensures.jobs in
     let numbers : map (λ job. job.load) jobs ≡ numbers_from (length cache.entries + 1) count = rw c.in-Ok-Load.field-0-is at c.in-Ok-Load.ensures.numbers in

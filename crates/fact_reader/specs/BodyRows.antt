@@ -1,0 +1,105 @@
+-- What a body takes of fact rows.
+use Rattle.std.specs.Prelude.{ℕ, ℤ, List, [], ◌∷◌, Bool, true, ◌==◌, ◌≡◌, ◌&&◌, Option, Some, None, length, map, filter, filter_map, flat_map, option_and_then, option_map, slice_get, if◌then◌else◌}
+use Rattle.std.specs.List.{list_all}
+use Rattle.std.specs.List.Sorted.{IsPermutation}
+use Rattle.olap_meaning.specs.declared.CellValue.{CellValue}
+use Rattle.olap_meaning.specs.declared.cells.Allowed.{Allowed}
+use Rattle.olap_meaning.specs.declared.cells.Cell.{Cell}
+use Rattle.olap_meaning.specs.declared.cells.Header.{Header}
+use Rattle.olap_meaning.specs.declared.tables.Catalog.{Catalog}
+use Rattle.olap_meaning.specs.declared.tables.Measure.{Measure}
+use Rattle.olap_meaning.specs.declared.tables.Row.{Row}
+use Rattle.olap_meaning.specs.Catalog.{fact_columns}
+use Rattle.olap_meaning.specs.Covering.{allows}
+use Rattle.olap_meaning.specs.History.{is_some_and}
+use Rattle.olap_meaning.specs.Legal.{is_column_of, is_row}
+use Rattle.olap_meaning.specs.Values.{aggregate}
+use Rattle.olap_meaning.specs.Worth.{fact, row_value}
+use Rattle.fact_versions.specs.FactRows.{FactRows}
+use Rattle.segment_body.specs.BodyOf.{BodyOf, body_row_in}
+
+-- a value, where a column allows it
+abbrev pub if_allowed : Allowed → ℕ → Option ℕ
+if_allowed allowed value = if allows allowed value then Some value else None
+
+-- values on some columns, in order: none where one is missing or is not allowed
+abbrev pub allowed_values : (ℕ → Option ℕ) → List (ℕ × Allowed) → Option (List ℕ)
+allowed_values value_on [] = Some []
+allowed_values value_on (column ∷ columns) =
+    option_and_then
+    (λ value. option_map (λ values. value ∷ values) (allowed_values value_on columns))
+    (option_and_then (if_allowed column.1) (value_on column.0))
+
+-- a row's values on a header's columns, in order: none where one is missing or is not allowed
+abbrev pub row_values : Catalog → Header → Row → Option (List ℕ)
+row_values catalog header row = allowed_values (row_value catalog header.cube row) header.columns
+
+-- the measure of a header, in its cube
+abbrev pub header_measure : Catalog → Header → Option Measure
+header_measure catalog header =
+    option_and_then
+    (λ cube. slice_get cube.measures header.measure) (slice_get catalog.cubes header.cube)
+
+-- the number of a row, or NULL, in the fact column of a header's measure
+abbrev pub row_number : Catalog → Header → Row → Option ℤ
+row_number catalog header row =
+    option_and_then
+    (λ measure. fact catalog header.cube measure.column row) (header_measure catalog header)
+
+-- a row as the body of a header has it: its values and its number, none where the header does not allow its values
+abbrev pub body_row : Catalog → Header → Row → Option (List ℕ × Option ℤ)
+body_row catalog header row =
+    option_map (λ values. (values, row_number catalog header row)) (row_values catalog header row)
+
+-- the rows that a load of a header holds
+abbrev pub body_rows : Catalog → Header → List Row → List (List ℕ × Option ℤ)
+body_rows catalog header rows = filter_map (body_row catalog header) rows
+
+-- the body of a load of a header over rows
+abbrev pub body_of : Catalog → Header → List Row → Option BodyOf
+body_of catalog header rows =
+    option_map
+    (λ measure. record {
+      header = header;
+      aggregator = measure.aggregator;
+      rows = body_rows catalog header rows;
+    }) (header_measure catalog header)
+
+-- a body holds rows: header and aggregator are those, and its rows are the rows that the header allows, in some order
+pub record HoldsRows (catalog : Catalog) (header : Header) (rows : List Row) (body : BodyOf)
+    : Type 0 where
+  pub own_header : body.header ≡ header
+  pub own_aggregator :
+      option_map (λ measure. measure.aggregator) (header_measure catalog header)
+      ≡ Some body.aggregator
+  pub own_rows : IsPermutation (body_rows catalog header rows) body.rows
+
+-- the rows of some batches, in order
+abbrev pub rows_in : List FactRows → List Row
+rows_in batches = flat_map (λ batch. batch.rows) batches
+
+-- a header can be loaded: cube and measure are the catalog's, and each column is one of the cube's dimensions
+abbrev pub is_loadable : Catalog → Header → Bool
+is_loadable catalog header =
+    is_some_and (λ measure. true) (header_measure catalog header)
+    && is_some_and
+    (λ cube. list_all (λ column. is_column_of catalog cube.dimensions column.0) header.columns)
+    (slice_get catalog.cubes header.cube)
+
+-- a batch is one of a cube: it has as many leaves and numbers to a row as the cube asks, and each row is one of the
+-- cube
+abbrev pub is_batch : Catalog → ℕ → FactRows → Bool
+is_batch catalog cube batch =
+    is_some_and
+    (λ c. (batch.dimensions == length c.dimensions)
+    && (batch.columns == length (fact_columns c))) (slice_get catalog.cubes cube)
+    && list_all (is_row catalog cube) batch.rows
+
+-- batches are a cube's: each is
+abbrev pub are_batches : Catalog → ℕ → List FactRows → Bool
+are_batches catalog cube batches = list_all (is_batch catalog cube) batches
+
+-- what a body says of a cell
+abbrev pub body_value : BodyOf → Cell → CellValue
+body_value body cell =
+    aggregate body.aggregator (map (λ row. row.1) (filter (body_row_in body.header cell) body.rows))

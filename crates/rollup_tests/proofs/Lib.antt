@@ -1,0 +1,3 @@
+pub mod HeldFacts
+pub mod BehindFacts
+pub mod PlaceFacts

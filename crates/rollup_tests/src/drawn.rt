@@ -1,0 +1,318 @@
+//! Loads, flushes, cells and rows that are drawn from a seed: whether there is a plan, beside a search through all sets of
+//! loads, and what is rolled up by it, beside a fold over the rows.
+ghost use Rattle.std.specs.Prelude.{All};
+ghost use Rattle.rollup_tests.specs.Held.{IsFrom};
+
+use crate::files::{schema, stores, times};
+use crate::loading::no_memory;
+use crate::rolling::{plan_for, rolled};
+use crate::slow::{SIZES, can_roll};
+use crate::steps::{OnColumn, Step, cell_of, take_steps};
+use cache_flush::CacheShelf;
+use history_core::is_cell;
+use olap_meaning::{Aggregator, Cell, CellValue, ValueId};
+use rollup_plan::Plan;
+use segment_index::SegmentIndex;
+use std::alloc::Global;
+use std::test::Fail;
+use test_samples::bodies::{SampleRow, cell_at, worths_of};
+use test_samples::random::Random;
+use test_samples::sales::Sales;
+
+/// The columns of loads.
+const COLUMNS: [&[u16]; 6] = [&[0, 1], &[0, 2], &[1, 2], &[0, 1, 2], &[1], &[2]];
+
+/// How the measures are summed up.
+const AGGREGATORS: [Aggregator; 6] = [
+    Aggregator::Sum,
+    Aggregator::Count,
+    Aggregator::Min,
+    Aggregator::Max,
+    Aggregator::Avg,
+    Aggregator::DistinctCount,
+];
+
+/// Sales with two batches, and the rows of each version.
+#[derive(Drop)]
+struct World {
+    sales: Sales,
+    first: Vec<SampleRow>,
+    all: Vec<SampleRow>,
+}
+
+/// How many cells had a plan, how many of these one of several loads, how many had none, and how many of these were of a
+/// distinct count.
+#[derive(Clone, Copy, Debug)]
+pub struct Counts {
+    pub plans: u32,
+    pub several: u32,
+    pub none: u32,
+    pub distinct: u32,
+}
+
+// Draws rows, and writes each to a file and to some lists of rows.
+fn draw_rows(
+    alloc: Global,
+    random: &mut Random,
+    count: u32,
+    file: &mut String,
+) -> Result<Vec<SampleRow>, Fail> {
+    let mut rows = Vec::new(alloc);
+    file.push_str("time_id,store_id,units\n")?;
+    for _ in 0..count {
+        let (time, store, drawn) = (random.below(3), random.below(3), random.below(40));
+        let number = i64::from(drawn) - 10;
+        let known = drawn < 30;
+        let units = if known {
+            format!(in alloc; "{number}")?
+        } else {
+            String::new(alloc)
+        };
+        file.push_str(format!(in alloc; "{},{},{units}\n", time + 1, store + 1)?.as_str())?;
+        let values = [ValueId(time / 2), ValueId(time % 2), ValueId(store)];
+        rows.push(SampleRow {
+            values: Vec::from_slice(alloc, &values)?,
+            number: known.then_some(number),
+        })?;
+    }
+    Ok(rows)
+}
+
+fn copy_row(alloc: Global, row: &SampleRow) -> Result<SampleRow, Fail> {
+    Ok(SampleRow {
+        values: Vec::from_slice(alloc, &row.values)?,
+        number: row.number,
+    })
+}
+
+// Draws two batches.
+fn draw_world(alloc: Global, random: &mut Random) -> Result<World, Fail> {
+    let mut file = String::new(alloc);
+    let mut later = String::new(alloc);
+    let first = draw_rows(alloc, random, 8, &mut file)?;
+    let mut all = draw_rows(alloc, random, 4, &mut later)?;
+    for row in &first {
+        all.push(copy_row(alloc, row)?)?;
+    }
+    let batches = [file.as_bytes(), later.as_bytes()];
+    let sales = Sales::open(alloc, schema(), &[times(), stores()], &batches)?;
+    Ok(World { sales, first, all })
+}
+
+// Draws some values of a column.
+fn draw_set(alloc: Global, random: &mut Random, size: u32) -> Result<Vec<u32>, Fail> {
+    let mut values = Vec::new(alloc);
+    let mut bits = random.below(8);
+    for value in 0..size {
+        if bits % 2 == 1 {
+            values.push(value)?;
+        }
+        bits /= 2;
+    }
+    if values.is_empty() {
+        values.push(0)?;
+    }
+    Ok(values)
+}
+
+// Draws a load by some columns: in the split mostly some values, and elsewhere mostly any.
+fn draw_load(alloc: Global, random: &mut Random, on: &[u16], split: u16) -> Result<Step, Fail> {
+    let mut columns = Vec::new(alloc);
+    for column in on {
+        let size = SIZES.get(usize::from(*column)).copied().unwrap_or(0);
+        let drawn = random.below(16);
+        let any = if *column == split {
+            drawn == 0
+        } else {
+            drawn > 1
+        };
+        let values = if any {
+            None
+        } else {
+            Some(draw_set(alloc, random, size)?)
+        };
+        columns.push(OnColumn {
+            column: *column,
+            values,
+        })?;
+    }
+    Ok(Step::Load {
+        version: random.below(4).clamp(1, 2),
+        columns,
+    })
+}
+
+// Draws values of some columns: of each with one chance of so many.
+fn draw_at(alloc: Global, random: &mut Random, chance: u32) -> Result<Vec<(u16, u32)>, Fail> {
+    let mut at = Vec::new(alloc);
+    for column in 0..3u16 {
+        let drawn = random.below(chance.max(1));
+        let size = SIZES.get(usize::from(column)).copied().unwrap_or(0);
+        let value = random.below(size.max(1));
+        if drawn == 0 {
+            at.push((column, value))?;
+        }
+    }
+    Ok(at)
+}
+
+// Draws steps: loads by one of two lists of columns, and now and then a flush.
+fn draw_steps(alloc: Global, random: &mut Random) -> Result<Vec<Step>, Fail> {
+    let lists = [
+        COLUMNS[random.below(6) as usize],
+        COLUMNS[random.below(6) as usize],
+    ];
+    let split = lists[0].get(random.below(3) as usize).copied().unwrap_or(1);
+    let mut steps = Vec::new(alloc);
+    for _ in 0..random.below(6) + 5 {
+        if random.below(12) == 0 {
+            let at = draw_at(alloc, random, 2)?;
+            steps.push(Step::Flush { at })?;
+        } else {
+            let list = lists[(random.below(4) / 3) as usize];
+            steps.push(draw_load(alloc, random, list, split)?)?;
+        }
+    }
+    Ok(steps)
+}
+
+// The version of the first load of a plan.
+fn version_of(steps: &[Step], plan: &Plan) -> Result<u32, Fail> {
+    let Some(part) = plan.parts.as_slice().first() else {
+        return Err(Fail::from("no part"));
+    };
+    let Some(place) = part.load.checked_sub(1) else {
+        return Err(Fail::from("no load"));
+    };
+    match steps.get(place as usize) {
+        Some(Step::Load { version, .. }) => Ok(*version),
+        _ => Err(Fail::from("no load")),
+    }
+}
+
+// What a cell is worth over the rows of a version.
+fn worth_in(
+    alloc: Global,
+    world: &World,
+    version: u32,
+    aggregator: Aggregator,
+    at: &[(u16, u32)],
+) -> Result<CellValue, Fail> {
+    let rows = if version == 1 {
+        &world.first
+    } else {
+        &world.all
+    };
+    let cells = [cell_at(alloc, at).map_err(no_memory)?];
+    let worths = worths_of(alloc, aggregator, 3, rows, &cells)?;
+    match worths.first() {
+        Some(worth) => Ok(*worth),
+        None => Err(Fail::from("no worth")),
+    }
+}
+
+// Adds to the counts that a cell has a plan, which there has to be, of the newest version that can be rolled up.
+fn count_plan(
+    alloc: Global,
+    steps: &[Step],
+    at: &[(u16, u32)],
+    plan: &Plan,
+    counts: &mut Counts,
+) -> Result<u32, Fail> {
+    let version = version_of(steps, plan)?;
+    if !can_roll(alloc, steps, at, Some(version))? {
+        return Err(Fail::from("a plan of what can not be rolled up"));
+    }
+    if version == 1 && can_roll(alloc, steps, at, Some(2))? {
+        return Err(Fail::from("an older plan"));
+    }
+    counts.plans = counts.plans.saturating_add(1);
+    if plan.parts.len() > 1 {
+        counts.several = counts.several.saturating_add(1);
+    }
+    Ok(version)
+}
+
+// Adds to the counts that a cell has no plan, where there has to be none.
+fn count_none(
+    alloc: Global,
+    steps: &[Step],
+    at: &[(u16, u32)],
+    aggregator: Aggregator,
+    counts: &mut Counts,
+) -> Result<(), Fail> {
+    counts.none = counts.none.saturating_add(1);
+    if aggregator == Aggregator::DistinctCount {
+        counts.distinct = counts.distinct.saturating_add(1);
+        return Ok(());
+    }
+    if can_roll(alloc, steps, at, None)? {
+        return Err(Fail::from("no plan of what can be rolled up"));
+    }
+    Ok(())
+}
+
+// Looks for the plan of a cell, and rolls the cell up by it.
+fn compare<S: CacheShelf>(
+    alloc: Global,
+    world: &World,
+    shelf: &S,
+    steps: &[Step],
+    of: (u16, Aggregator),
+    at: &[(u16, u32)],
+    counts: &mut Counts,
+) -> Result<(), Fail>
+    requires { All (IsFrom world.now.sales) (S.loads shelf.now) }
+{
+    let cell = cell_of(alloc, of.0, at).map_err(no_memory)?;
+    if !is_cell(world.sales.catalog(), &cell) {
+        return Err(Fail::from("no cell"));
+    }
+    let plan = match plan_for(alloc, &world.sales, shelf, &cell) {
+        Ok(Some(plan)) => plan,
+        Ok(None) => return count_none(alloc, steps, at, of.1, counts),
+        Err(fault) => return Err(no_memory(fault)),
+    };
+    let version = count_plan(alloc, steps, at, &plan, counts)?;
+    let worth = rolled(alloc, &world.sales, shelf, &plan, &cell).finish();
+    if worth != worth_in(alloc, world, version, of.1, at)? {
+        return Err(Fail::from("another worth"));
+    }
+    Ok(())
+}
+
+// Draws a shelf, and cells on it.
+fn play_shelf(
+    alloc: Global,
+    world: &World,
+    random: &mut Random,
+    counts: &mut Counts,
+) -> Result<(), Fail> {
+    let measure = random.below(6);
+    let of = (measure as u16, AGGREGATORS[measure as usize]);
+    let steps = draw_steps(alloc, random)?;
+    let mut shelf = SegmentIndex::new(alloc);
+    take_steps(alloc, &world.sales, &mut shelf, of.0, &steps)?;
+    for _ in 0..4 {
+        let at = draw_at(alloc, random, 4)?;
+        compare(alloc, world, &shelf, &steps, of, &at, counts)?;
+    }
+    Ok(())
+}
+
+/// Draws so many shelves over drawn rows, and four cells on each. It counts the cells with a plan and without, where all are
+/// as they have to be.
+pub fn play(alloc: Global, seed: u64, shelves: u32) -> Result<Counts, Fail> {
+    let mut random = Random { state: seed };
+    let world = draw_world(alloc, &mut random)?;
+    let mut counts = Counts {
+        plans: 0,
+        several: 0,
+        none: 0,
+        distinct: 0,
+    };
+    for _ in 0..shelves {
+        play_shelf(alloc, &world, &mut random, &mut counts)?;
+    }
+    Ok(counts)
+}

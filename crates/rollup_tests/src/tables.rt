@@ -1,0 +1,173 @@
+//! Tables of cells and of the steps before a plan is asked for, each with the plan and with what is rolled up by it.
+ghost use Rattle.std.specs.Prelude.{All, OnOk};
+ghost use Rattle.rollup_tests.specs.Held.{IsFrom, IsPlanFor};
+
+use crate::loading::no_memory;
+use crate::named::{measure_in, pairs_in, plan_text, steps_in};
+use crate::rolling::{all_rolled, may_join, plan_for, rolled};
+use crate::steps::{cell_of, take_steps};
+use cache_flush::{CacheShelf, PlainShelf, Shelf};
+use history_core::is_cell;
+use measure_folds::Tally;
+use olap_meaning::{Cell, CellValue};
+use rollup_plan::Plan;
+use segment_header::copy_cell;
+use segment_index::SegmentIndex;
+use std::alloc::Global;
+use std::test::Fail;
+use test_samples::lines::{add_line, asked, words};
+use test_samples::sales::Sales;
+
+// The cells of a word, by the first one's measure: `sum:0=0/0=1`.
+fn cells_in(alloc: Global, measure: u16, text: &str) -> Result<Vec<Cell>, Fail> {
+    let mut cells = Vec::new(alloc);
+    for at in text.split('/') {
+        let pairs = pairs_in(alloc, at)?;
+        cells.push(cell_of(alloc, measure, &pairs).map_err(no_memory)?)?;
+    }
+    Ok(cells)
+}
+
+// That cells, rolled up in one call, are worth what each was by itself.
+fn agree(tallies: &[Tally], worths: &[CellValue]) -> Result<(), Fail> {
+    if tallies.len() != worths.len() {
+        return Err(Fail::from("other tallies"));
+    }
+    for i in 0..worths.len() {
+        if tallies[i].finish() != worths[i] {
+            return Err(Fail::from("another tally"));
+        }
+    }
+    Ok(())
+}
+
+// Cells that are rolled up by one plan, what each is worth, and what is told of all cells.
+#[derive(Drop)]
+struct Told {
+    cells: Vec<Cell>,
+    worths: Vec<CellValue>,
+    text: String,
+}
+
+// Tells what a cell is worth by the plan for another one, and adds it where it is rolled up by it.
+fn tell_cell<S: Shelf>(
+    alloc: Global,
+    sales: &Sales,
+    shelf: &S,
+    plan: &Plan,
+    first: &Cell,
+    cell: &Cell,
+    told: &mut Told,
+) -> Result<(), Fail>
+    requires from { All (IsFrom sales.now) (S.loads shelf.now) }
+    requires plan { IsPlanFor sales.now (S.loads shelf.now) plan.now first.now }
+    requires cells { All (IsPlanFor sales.now (S.loads shelf.now) plan.now) told.old.cells.items }
+    ensures { OnOk result
+        (All (IsPlanFor sales.now (S.loads shelf.now) plan.now) told.new.cells.items) }
+{
+    if !may_join(shelf, plan, first, cell) {
+        told.text.push_str("; not served")?;
+        return Ok(());
+    }
+    let worth = rolled(alloc, sales, shelf, plan, cell).finish();
+    let text = format!(in alloc; "; {worth:?}")?;
+    told.text.push_str(text.as_str())?;
+    told.worths.push(worth)?;
+    let Ok(copy) = copy_cell(alloc, cell) else {
+        return Err(Fail::from("no memory"));
+    };
+    told.cells.push(copy)?;
+    Ok(())
+}
+
+// A plan for the first of some cells, and what each is worth by it, one by one and all at once.
+fn tell_plan<S: Shelf>(
+    alloc: Global,
+    sales: &Sales,
+    shelf: &S,
+    plan: &Plan,
+    first: &Cell,
+    cells: &[Cell],
+) -> Result<String, Fail>
+    requires from { All (IsFrom sales.now) (S.loads shelf.now) }
+    requires plan { IsPlanFor sales.now (S.loads shelf.now) plan.now first.now }
+{
+    let mut told = Told {
+        cells: Vec::new(alloc),
+        worths: Vec::new(alloc),
+        text: plan_text(alloc, plan)?,
+    };
+    for cell in cells {
+        tell_cell(alloc, sales, shelf, plan, first, cell, &mut told)?;
+    }
+    let tallies = all_rolled(alloc, sales, shelf, plan, &told.cells)?;
+    agree(tallies.as_slice(), &told.worths)?;
+    Ok(told.text)
+}
+
+// What is told of cells over the loads of a shelf.
+fn tell_cells<S: CacheShelf>(
+    alloc: Global,
+    sales: &Sales,
+    shelf: &S,
+    cells: &[Cell],
+) -> Result<String, Fail>
+    requires { All (IsFrom sales.now) (S.loads shelf.now) }
+{
+    let Some(first) = cells.first() else {
+        return Err(Fail::from("no cell"));
+    };
+    if !is_cell(sales.catalog(), first) {
+        return Err(Fail::from("no such cell"));
+    }
+    match plan_for(alloc, sales, shelf, first) {
+        Ok(Some(plan)) => tell_plan(alloc, sales, shelf, &plan, first, cells),
+        Ok(None) => Ok(String::from_str(alloc, "none")?),
+        Err(fault) => Err(no_memory(fault)),
+    }
+}
+
+// What is told of cells after steps on a shelf.
+fn said_on<S: CacheShelf>(
+    alloc: Global,
+    sales: &Sales,
+    shelf: &mut S,
+    asked: &str,
+) -> Result<String, Fail>
+    requires { All (IsFrom sales.now) (S.loads shelf.old) }
+{
+    let words = words(alloc, asked)?;
+    let [of, steps @ ..] = words.as_slice() else {
+        return Err(Fail::from("no cell"));
+    };
+    let Some((name, cells)) = of.split_once(':') else {
+        return Err(Fail::from("no measure"));
+    };
+    let measure = measure_in(name)?;
+    let cells = cells_in(alloc, measure, cells)?;
+    let steps = steps_in(alloc, steps)?;
+    take_steps(alloc, sales, shelf, measure, &steps)?;
+    tell_cells(alloc, sales, shelf, &cells)
+}
+
+// What is told on the plain shelf, where an index tells the same.
+fn said_of(alloc: Global, sales: &Sales, asked: &str) -> Result<String, Fail> {
+    let mut plain = PlainShelf::new(alloc);
+    let mut index = SegmentIndex::new(alloc);
+    let said = said_on(alloc, sales, &mut plain, asked)?;
+    if said_on(alloc, sales, &mut index, asked)? != said {
+        return Err(Fail::from("the shelves differ"));
+    }
+    Ok(said)
+}
+
+/// A table of cells with the steps before them, and what is told of each: the plan for the first cell, and what each cell is
+/// worth by it.
+pub fn tell_plans(alloc: Global, sales: &Sales, table: &str) -> Result<String, Fail> {
+    let mut text = String::new(alloc);
+    for line in table.lines() {
+        let asked = asked(line);
+        add_line(&mut text, asked, said_of(alloc, sales, asked)?.as_str())?;
+    }
+    Ok(text)
+}
