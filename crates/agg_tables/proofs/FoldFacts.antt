@@ -1,0 +1,96 @@
+-- What a table sums up, and its bodies over more rows.
+use Rattle.std.proofs.Common.{◌≡◌, ◌∙◌, ◌<◌, ◌≤◌, ◌+◌, ℕ, zero, suc, true, List, [], ◌∷◌, ◌++◌, Some, length, map, take, drop, get_or, refl, sym, arith, All}
+use Rattle.std.specs.Prelude.{IsTrue, nat_lt, slice_set}
+use Rattle.std.specs.List.{list_all}
+use Rattle.std.proofs.lemmas.Bool.{and_from, and_parts}
+use Rattle.std.proofs.lemmas.Bool.Decides.{nat_tests}
+use Rattle.olap_meaning.specs.declared.tables.Catalog.{Catalog}
+use Rattle.olap_meaning.specs.declared.tables.Row.{Row}
+use Rattle.segment_body.specs.BodyOf.{BodyOf}
+use Rattle.fact_reader.specs.BodyRows.{is_loadable}
+use Rattle.fact_reader.proofs.BatchFacts.{body_rows-append, body_rows-fit}
+use Rattle.agg_tables.specs.declared.declared.Declared.{Declared}
+use Rattle.agg_tables.specs.declared.declared.Fold.{Fold}
+use Rattle.agg_tables.specs.declared.declared.TableMeasure.{TableMeasure}
+use Rattle.agg_tables.specs.Bound.{AreFolds, IsPlaced, with_rows}
+use Rattle.agg_tables.specs.Tables.{fold_over, folds_of, table_header}
+use Rattle.agg_tables.proofs.ColumnFacts.{can_be_loaded}
+
+lt_of : (a b : ℕ) → nat_lt a b ≡ true → a < b
+lt_of a b h = grind (arith, nat_tests)
+
+lt_true : (a b : ℕ) → a < b → nat_lt a b ≡ true
+lt_true a b h = grind (arith, nat_tests)
+
+-- the folds of a table are of measures that it has, or of the first one
+pub folds_measured : (n : ℕ) (measures : List TableMeasure) → 0 < n → list_all (λ (own : TableMeasure). nat_lt own.measure n) measures ≡ true
+    → list_all (λ (fold : Fold). nat_lt fold.measure n) (folds_of measures) ≡ true
+folds_measured n measures some all = by measures all
+  where
+    each : (ms : List TableMeasure) → list_all (λ (own : TableMeasure). nat_lt own.measure n) ms ≡ true
+        → list_all (λ (fold : Fold). nat_lt fold.measure n) (map (λ (own : TableMeasure). record { measure = own.measure; aggregator = own.aggregator }) ms) ≡ true
+    each [] all = refl
+    each (m ∷ ms) all =
+        let parts = and_parts (nat_lt m.measure n) (list_all (λ (own : TableMeasure). nat_lt own.measure n) ms) all in
+        and_from _ _ parts.0 (each ms parts.1)
+
+    by : (ms : List TableMeasure) → list_all (λ (own : TableMeasure). nat_lt own.measure n) ms ≡ true → list_all (λ (fold : Fold). nat_lt fold.measure n) (folds_of ms) ≡ true
+    by [] all = and_from _ _ (lt_true 0 n some) refl
+    by (m ∷ ms) all = each (m ∷ ms) all
+
+-- so they are of measures of its cube
+pub folds_known : (catalog : Catalog) (declared : Declared) → IsPlaced catalog declared → AreFolds catalog declared (folds_of declared.measures)
+folds_known catalog declared placed = record { cube = placed.cube; known = placed.known; measured = folds_measured (length placed.cube.measures) declared.measures placed.some placed.measured }
+
+-- a body over some rows, with more of them
+pub over_more : (catalog : Catalog) (declared : Declared) (xs ys : List Row) (folds : List Fold) → map (with_rows catalog ys) (map (fold_over catalog declared xs) folds) ≡ map (fold_over catalog declared (xs ++ ys)) folds
+over_more catalog declared xs ys [] = refl
+over_more catalog declared xs ys (fold ∷ folds) =
+    let rows = body_rows-append catalog (table_header catalog declared fold.measure) xs ys in
+    rw (rows, over_more catalog declared xs ys folds) refl
+
+-- what holds of each fold's body holds of all
+pub each_fold : (P : BodyOf → Type 0) (f : Fold → BodyOf) (folds : List Fold) → ((k : ℕ) (d : Fold) → k < length folds → P (f (get_or folds k d))) → All P (map f folds)
+each_fold P f [] each k d within = absurd (omega arith)
+each_fold P f (fold ∷ folds) each zero d within = each zero fold (omega arith)
+each_fold P f (fold ∷ folds) each (suc k) d within = each_fold P f folds (λ i e lt. each (suc i) e (omega arith)) k d (omega arith)
+
+measured_at : (n : ℕ) (folds : List Fold) (k : ℕ) (d : Fold) → list_all (λ (fold : Fold). nat_lt fold.measure n) folds ≡ true → k < length folds → (get_or folds k d).measure < n
+measured_at n [] k d all within = absurd (omega arith)
+measured_at n (fold ∷ folds) zero d all within = lt_of fold.measure n (and_parts (nat_lt fold.measure n) (list_all (λ (fold : Fold). nat_lt fold.measure n) folds) all).0
+measured_at n (fold ∷ folds) (suc k) d all within = measured_at n folds k d (and_parts (nat_lt fold.measure n) (list_all (λ (fold : Fold). nat_lt fold.measure n) folds) all).1 (omega arith)
+
+-- the bodies of folds can be loaded
+pub bodies_loadable : (catalog : Catalog) (declared : Declared) (rows : List Row) (folds : List Fold) → IsPlaced catalog declared → AreFolds catalog declared folds
+    → All (λ (body : BodyOf). IsTrue (is_loadable catalog body.header)) (map (fold_over catalog declared rows) folds)
+bodies_loadable catalog declared rows folds placed known =
+    each_fold (λ (body : BodyOf). IsTrue (is_loadable catalog body.header)) (fold_over catalog declared rows) folds
+    (λ k d within. can_be_loaded catalog declared placed.cube (get_or folds k d).measure placed.known placed.own (measured_at (length placed.cube.measures) folds k d (same_cube known) within))
+  where
+    same_cube : AreFolds catalog declared folds → list_all (λ (fold : Fold). nat_lt fold.measure (length placed.cube.measures)) folds ≡ true
+    same_cube k =
+        let both : Some k.cube ≡ Some placed.cube = sym k.known ∙ placed.known in
+        let same : k.cube ≡ placed.cube = cc in
+        rw (← same) k.measured
+
+-- they have no more rows than there are
+pub bodies_fit : (catalog : Catalog) (declared : Declared) (rows : List Row) (folds : List Fold) (more limit : ℕ) → length rows + more ≤ limit
+    → All (λ (body : BodyOf). length body.rows + more ≤ limit) (map (fold_over catalog declared rows) folds)
+bodies_fit catalog declared rows folds more limit room =
+    each_fold (λ (body : BodyOf). length body.rows + more ≤ limit) (fold_over catalog declared rows) folds
+    (λ k d within. omega (arith, room, body_rows-fit catalog (table_header catalog declared (get_or folds k d).measure) rows))
+
+-- one element more of a list is changed, as those before it
+pub changed_next : {A : Type 0} (g : A → A) (xs ys : List A) (k : ℕ) (d new : A) → xs ≡ map g (take k ys) ++ drop k ys → k < length xs → new ≡ g (get_or xs k d) → slice_set xs k new ≡ map g (take (suc k) ys) ++ drop (suc k) ys
+changed_next g [] ys k d new so_far below changed = absurd (omega arith)
+changed_next g (x ∷ xs) [] zero d new so_far below changed = absurd (cc)
+changed_next g (x ∷ xs) [] (suc k) d new so_far below changed = absurd (cc)
+changed_next g (x ∷ xs) (y ∷ ys) zero d new so_far below changed =
+    let first : x ≡ y = cc in
+    let rest : xs ≡ ys = cc in
+    let e : new ≡ g x = changed in
+    rw (e, first, rest) refl
+changed_next g (x ∷ xs) (y ∷ ys) (suc k) d new so_far below changed =
+    let first : x ≡ g y = cc in
+    let rest : xs ≡ map g (take k ys) ++ drop k ys = cc in
+    rw (first, changed_next g xs ys k d new rest (omega arith) changed) refl
