@@ -1,6 +1,7 @@
 //! Cases that were worked by hand.
 use crate::cases::{tell_file, tell_tables};
 use crate::files::{last_sales, later_sales, odd_header, odd_record, sales, schema, stores, times};
+use std::alloc::Global;
 use std::test::Fail;
 use test_samples::sales::Sales;
 
@@ -139,16 +140,34 @@ const NO_ROWS: &str = "0 => 0 groups of table 0 in version 0
 6 rows => 0 groups of table 6 in version 0
 ";
 
-#[test]
-fn files_are_checked_as_worked_by_hand(rt: HostRuntime) -> Result<(), Fail> {
-    let alloc = rt.alloc();
-    let tables = [times(), stores()];
+/// What is told of a table of files over a version of the three batches.
+fn told_over(alloc: Global, version: u32, table: &str) -> Result<String, Fail> {
     let batches = [sales(), later_sales(), last_sales()];
-    let sales = Sales::open(alloc, schema(), &tables, &batches)?;
-    assert_eq!(rt; tell_tables(alloc, &sales, 1, BY_YEAR)?.as_str(), BY_YEAR);
-    assert_eq!(rt; tell_tables(alloc, &sales, 1, OTHERS)?.as_str(), OTHERS);
-    assert_eq!(rt; tell_tables(alloc, &sales, 2, LATER)?.as_str(), LATER);
-    assert_eq!(rt; tell_tables(alloc, &sales, 3, LAST)?.as_str(), LAST);
+    let sales = Sales::open(alloc, schema(), &[times(), stores()], &batches)?;
+    tell_tables(alloc, &sales, version, table)
+}
+
+#[test]
+fn a_table_of_one_measure_is_checked(rt: HostRuntime) -> Result<(), Fail> {
+    assert_eq!(rt; told_over(rt.alloc(), 1, BY_YEAR)?.as_str(), BY_YEAR);
+    Ok(())
+}
+
+#[test]
+fn each_kind_of_table_is_checked(rt: HostRuntime) -> Result<(), Fail> {
+    assert_eq!(rt; told_over(rt.alloc(), 1, OTHERS)?.as_str(), OTHERS);
+    Ok(())
+}
+
+#[test]
+fn a_table_is_of_its_version(rt: HostRuntime) -> Result<(), Fail> {
+    assert_eq!(rt; told_over(rt.alloc(), 2, LATER)?.as_str(), LATER);
+    Ok(())
+}
+
+#[test]
+fn a_sum_of_0_is_not_empty(rt: HostRuntime) -> Result<(), Fail> {
+    assert_eq!(rt; told_over(rt.alloc(), 3, LAST)?.as_str(), LAST);
     Ok(())
 }
 
