@@ -97,19 +97,28 @@ fn is_added(
     Ok(unchanged)
 }
 
-#[test]
-fn cells_are_read_back_as_they_were_added(rt: HostRuntime) -> Result<(), Fail> {
-    let alloc = rt.alloc();
+/// Whether the cells of all rows are read back behind each, beside a plain list.
+fn rows_are_same(alloc: Global) -> Result<bool, OutOfMemory> {
     let mut cells = CellSources::new(alloc);
     let mut plain = List::new(alloc);
-    assert!(rt; cells.is_empty());
-    for row in &ROWS {
-        assert!(rt; are_same(alloc, &cells, plain.as_slice())?);
-        let one = source(alloc, row)?;
-        assert!(rt; is_added(alloc, &mut cells, &mut plain, one)?);
-        assert!(rt; !cells.is_empty());
+    if !cells.is_empty() {
+        return Ok(false);
     }
-    assert!(rt; are_same(alloc, &cells, plain.as_slice())?);
+    for row in &ROWS {
+        if !are_same(alloc, &cells, plain.as_slice())? {
+            return Ok(false);
+        }
+        let one = source(alloc, row)?;
+        if !is_added(alloc, &mut cells, &mut plain, one)? || cells.is_empty() {
+            return Ok(false);
+        }
+    }
+    are_same(alloc, &cells, plain.as_slice())
+}
+
+#[test]
+fn cells_are_read_back_as_they_were_added(rt: HostRuntime) -> Result<(), Fail> {
+    assert!(rt; rows_are_same(rt.alloc())?);
     Ok(())
 }
 

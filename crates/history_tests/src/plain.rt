@@ -100,17 +100,27 @@ const CELLS: &str = "5 floor year => 0
 14 12 year => awaited false, live false
 ";
 
+// What is told of the steps, and how many entries there are behind them.
+fn told_steps(alloc: Global) -> Result<(String, usize), Fail> {
+    let setting = small_setting(alloc)?;
+    let (told, history) = tell_steps(alloc, &setting, STEPS)?;
+    Ok((told, history.len()))
+}
+
+// What is told of the cells behind the steps.
+fn told_cells(alloc: Global) -> Result<String, Fail> {
+    let setting = small_setting(alloc)?;
+    let (_, history) = tell_steps(alloc, &setting, STEPS)?;
+    Ok(tell_cells(alloc, history.as_slice(), CELLS)?)
+}
+
 #[test]
 fn a_small_history_is_legal_step_by_step(rt: HostRuntime) -> Result<(), Fail> {
     let alloc = rt.alloc();
-    let setting = small_setting(alloc)?;
-    let (told, history) = tell_steps(alloc, &setting, STEPS)?;
+    let (told, entries) = told_steps(alloc)?;
     assert_eq!(rt; told.as_str(), STEPS);
-    assert_eq!(rt; history.len(), 19);
-    assert_eq!(rt;
-        tell_cells(alloc, history.as_slice(), CELLS)?.as_str(),
-        CELLS
-    );
+    assert_eq!(rt; entries, 19);
+    assert_eq!(rt; told_cells(alloc)?.as_str(), CELLS);
     Ok(())
 }
 
