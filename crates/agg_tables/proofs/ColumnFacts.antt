@@ -86,7 +86,7 @@ level_passes q (level ∷ levels) column all there =
     ]
 
 -- so do all columns
-columns_pass : (q : ℕ → Bool) (levels : List TableLevel) (n : ℕ) → list_all (λ level. q level.column) levels ≡ true → list_all q (columns_below levels n) ≡ true
+pub columns_pass : (q : ℕ → Bool) (levels : List TableLevel) (n : ℕ) → list_all (λ level. q level.column) levels ≡ true → list_all q (columns_below levels n) ≡ true
 columns_pass q levels zero all = refl
 columns_pass q levels (suc n) all =
     list_all-append q (columns_below levels n) (if has_column levels n then n ∷ [] else [])

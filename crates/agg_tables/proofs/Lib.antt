@@ -8,3 +8,4 @@ pub mod ReadFacts
 pub mod GroupFacts
 pub mod CheckFacts
 mod RightFacts
+pub mod LoadFacts

@@ -1,7 +1,8 @@
 -- The bodies of a table are those of one list of rows, and its groups are theirs.
-use Rattle.std.proofs.Common.{◌≡◌, ◌∙◌, ◌<◌, ℕ, ℤ, not, List, [], ◌∷◌, Option, None, Some, filter, filter_map, length, map, get_or, bytes_eq, refl, sym, ap, arith}
+use Rattle.std.proofs.Common.{◌≡◌, ◌∙◌, ◌<◌, ◌≤◌, ℕ, ℤ, not, List, [], ◌∷◌, Option, None, Some, filter, filter_map, length, map, get_or, bytes_eq, refl, sym, ap, arith}
 use Rattle.std.specs.Prelude.{option_map}
 use Rattle.std.specs.List.{cons_option}
+use Rattle.std.proofs.lemmas.List.Filters.{length-filter_both}
 use Rattle.olap_meaning.specs.declared.cells.Header.{Header}
 use Rattle.olap_meaning.specs.declared.tables.Catalog.{Catalog}
 use Rattle.olap_meaning.specs.declared.tables.Row.{Row}
@@ -18,6 +19,11 @@ use Rattle.agg_tables.proofs.FoldFacts.{each_fold}
 pub different_texts : (rows : List (List ℕ × Option ℤ)) → different_values rows ≡ first_appearances (map (λ (row : List ℕ × Option ℤ). row.0) rows)
 different_texts [] = refl
 different_texts (row ∷ rows) = ap (λ (vs : List (List ℕ)). row.0 ∷ filter (λ later. not (bytes_eq row.0 later)) vs) (different_texts rows)
+
+-- they are no more than the rows
+pub different_few : (rows : List (List ℕ × Option ℤ)) → length (different_values rows) ≤ length rows
+different_few [] = omega arith
+different_few (row ∷ rows) = omega (arith, different_few rows, length-filter_both (λ later. not (bytes_eq row.0 later)) (λ later. not (not (bytes_eq row.0 later))) (λ later. refl) (different_values rows))
 
 -- the values of the rows that a body takes
 pub values_taken : (catalog : Catalog) (header : Header) (rows : List Row) → map (λ (row : List ℕ × Option ℤ). row.0) (body_rows catalog header rows) ≡ filter_map (row_values catalog header) rows

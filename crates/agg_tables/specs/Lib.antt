@@ -5,3 +5,4 @@ pub mod Bound
 pub mod Places
 pub mod Checks
 pub mod RightFiles
+pub mod Costs

@@ -1,5 +1,5 @@
 -- What a right file of an aggregate table says, in whatever order its records stand. (Aggregate Tables)
-use Rattle.std.specs.Prelude.{ℕ, ◌≡◌, pos, List, All, IsTrue, Option, None, is_some, length, map}
+use Rattle.std.specs.Prelude.{ℕ, ◌≡◌, pos, List, All, IsTrue, None, is_some, length, map}
 use Rattle.std.specs.List.Sorted.{IsPermutation}
 use Rattle.csv_records.specs.Files.{file_records}
 use Rattle.olap_meaning.specs.declared.CellValue.TheVariants.{Whole}

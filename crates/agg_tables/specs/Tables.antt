@@ -1,5 +1,5 @@
 -- What an aggregate table stands for. (Aggregate Tables)
-use Rattle.std.specs.Prelude.{ℕ, ◌≡◌, ◌<◌, List, [], ◌∷◌, All, Option, length, map, filter_map, option_map, slice_index_or}
+use Rattle.std.specs.Prelude.{ℕ, ◌≡◌, ◌<◌, Bool, List, [], ◌∷◌, All, Option, length, map, filter_map, nat_lt, option_map, slice_index_or}
 use Rattle.olap_meaning.specs.declared.Aggregator.TheVariants.{Count}
 use Rattle.olap_meaning.specs.declared.cells.Allowed.{Allowed}
 use Rattle.olap_meaning.specs.declared.cells.Allowed.TheVariants.{Any}
@@ -48,11 +48,13 @@ fold_over catalog declared rows fold =
       rows = body_rows catalog (table_header catalog declared fold.measure) rows;
     }
 
--- an aggregate table: which of the schema's, the version of its rows, and these by each of its measures, over the
--- table's columns; without a measure by one, for the groups alone
+-- an aggregate table: which of the schema's, the version of its rows, how many they are, whether it has measures, and the
+-- rows by each of its measures, over the table's columns; without a measure by one, for the groups alone
 pub record TableOf : Type 0 where
   pub table : ℕ
   pub version : ℕ
+  pub rows : ℕ
+  pub measured : Bool
   pub bodies : List BodyOf
 
 -- the values of the rows of a body
@@ -85,14 +87,20 @@ groups_in [] = []
 groups_in (body ∷ bodies) = first_appearances (values_in body)
 
 -- the table at a place of the schema over the rows of a version
-abbrev pub table_over : Catalog → ℕ → List FactRows → Declared → TableOf
-table_over catalog table snapshot declared =
+abbrev pub table_over : Catalog → ℕ → ℕ → List Row → Declared → TableOf
+table_over catalog table version rows declared =
     record {
       table = table;
-      version = length snapshot;
-      bodies = map (fold_over catalog declared (rows_in snapshot)) (folds_of declared.measures);
+      version = version;
+      rows = length rows;
+      measured = nat_lt 0 (length declared.measures);
+      bodies = map (fold_over catalog declared rows) (folds_of declared.measures);
     }
+
+abbrev pub built_over : Catalog → ℕ → ℕ → List Row → Option TableOf
+built_over catalog table version rows =
+    option_map (table_over catalog table version rows) (declared_table catalog table)
 
 abbrev pub built : Catalog → ℕ → List FactRows → Option TableOf
 built catalog table snapshot =
-    option_map (table_over catalog table snapshot) (declared_table catalog table)
+    built_over catalog table (length snapshot) (rows_in snapshot)

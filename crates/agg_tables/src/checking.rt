@@ -45,7 +45,7 @@ pub fn check<L: Ledger>(
 {
     let declared = find_table(alloc, catalog, table)?;
     let bodies = checked(alloc, catalog, &declared, bytes, snapshot, steps)?;
-    Ok(AggTable::new(table, snapshot.version(), bodies))
+    Ok(AggTable::new(table, &declared, snapshot, bodies))
 }
 
 // What a table sums up, where a file holds it.

@@ -12,6 +12,7 @@ mod file;
 mod find;
 mod folds;
 pub mod laws;
+mod loads;
 mod shared;
 mod table;
 

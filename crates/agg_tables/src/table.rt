@@ -1,14 +1,15 @@
 //! Aggregate tables.
-ghost use Rattle.std.specs.Prelude.{◌≡◌, ◌<◌, ◌+◌, ◌≤◌, IfOk, IfSome, IsTrue, OnOk, Some, length};
+ghost use Rattle.std.specs.Prelude.{◌≡◌, ◌<◌, ◌+◌, ◌≤◌, IfOk, IfSome, IsTrue, OnOk, Some, length, nat_lt};
 ghost use Rattle.olap_meaning.specs.Catalog.{table_cube};
 ghost use Rattle.fact_reader.specs.BodyRows.{are_batches, rows_in};
 ghost use Rattle.agg_tables.specs.Tables.{IsTable, built, groups_in};
 
+use crate::declared::Declared;
 use crate::find::find_table;
 use crate::folds::{folds_of, sum_up};
 use fact_versions::{Snapshot, Steps};
 use olap_catalog::Catalog;
-use olap_meaning::{OutOfMemory, Version};
+use olap_meaning::{OutOfMemory, ROW_LIMIT, Version};
 use segment_body::Body;
 use std::alloc::Global;
 use std::marker::Model;
@@ -20,6 +21,8 @@ use std::sync::ledger::Ledger;
 pub struct AggTable {
     table: u32,
     version: Version,
+    rows: u32,
+    measured: bool,
     bodies: Vec<Body>,
 }
 
@@ -28,19 +31,34 @@ impl Model for AggTable {
 
     ghost Value = { TableOf };
 
-    ghost view = { λ a. record { table = a.table; version = a.version; bodies = a.bodies.items } };
+    ghost view = { λ a. record { table = a.table; version = a.version; rows = a.rows; measured = a.measured; bodies = a.bodies.items } };
 
     ghost invariant = { λ a. IsTable a.bodies.items };
 }
 
 impl AggTable {
-    pub(crate) fn new(table: u32, version: Version, bodies: Vec<Body>) -> AggTable
+    // A declared table over the rows of a version.
+    pub(crate) fn new(
+        table: u32,
+        declared: &Declared,
+        snapshot: &Snapshot,
+        bodies: Vec<Body>,
+    ) -> AggTable
         requires { IsTable bodies.items }
-        ensures { result ≡ record { table = table; version = version; bodies = bodies.items } }
+        ensures { result
+            ≡ record {
+              table = table;
+              version = length snapshot.now;
+              rows = length (rows_in snapshot.now);
+              measured = nat_lt 0 (length declared.now.measures);
+              bodies = bodies.items;
+            } }
     {
         AggTable {
             table,
-            version,
+            version: snapshot.version(),
+            rows: snapshot.rows(),
+            measured: !declared.measures.is_empty(),
             bodies,
         }
     }
@@ -59,6 +77,27 @@ impl AggTable {
         self.version
     }
 
+    // The first piece of a snapshot that is later.
+    pub(crate) fn first_later(&self) -> u32
+        ensures { result ≡ self.now.version }
+    {
+        self.version.0
+    }
+
+    /// How many fact rows its version has.
+    pub fn rows(&self) -> u32
+        ensures { result ≡ self.now.rows }
+    {
+        self.rows
+    }
+
+    /// Whether it has measures. Without one it has groups alone, and no load may read it.
+    pub fn measured(&self) -> bool
+        ensures { result ≡ self.now.measured }
+    {
+        self.measured
+    }
+
     /// The rows by each of its measures, in the order of the schema, and without a measure by one, for the groups alone: the groups
     /// with their tallies. All have the same groups.
     pub fn bodies(&self) -> &[Body]
@@ -70,7 +109,8 @@ impl AggTable {
 
     /// How many groups it has: the different lists of values of its rows.
     pub fn groups(&self) -> u64
-        ensures { result ≡ length (groups_in self.now.bodies) }
+        ensures count { result ≡ length (groups_in self.now.bodies) }
+        ensures limit { result ≤ ROW_LIMIT }
     {
         self.bodies[0].groups()
     }
@@ -95,5 +135,5 @@ pub fn build<L: Ledger>(
     let declared = find_table(alloc, catalog, table)?;
     let folds = folds_of(alloc, declared.measures.as_slice())?;
     let bodies = sum_up(alloc, catalog, &declared, folds.as_slice(), snapshot, steps)?;
-    Ok(AggTable::new(table, snapshot.version(), bodies))
+    Ok(AggTable::new(table, &declared, snapshot, bodies))
 }

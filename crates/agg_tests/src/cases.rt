@@ -1,7 +1,8 @@
 //! Tables of files, each checked against an aggregate table, and of tables that are built.
-ghost use Rattle.std.specs.Prelude.{◌≡◌, ◌<◌, IfSome, IsTrue, Some, length};
+ghost use Rattle.std.specs.Prelude.{◌≡◌, ◌<◌, IfOk, IfSome, IsTrue, Some, length};
 ghost use Rattle.olap_meaning.specs.Catalog.{table_cube};
 ghost use Rattle.fact_reader.specs.BodyRows.{are_batches};
+ghost use Rattle.agg_tables.specs.Tables.{built};
 
 use agg_tables::{AggFault, AggTable, build, check};
 use fact_versions::{Snapshot, Steps};
@@ -33,7 +34,8 @@ fn run_check<L: Ledger>(
     check(alloc, catalog, table, bytes, snapshot, &mut steps)
 }
 
-fn run_build<L: Ledger>(
+/// Builds a table, and counts the steps anew.
+pub(crate) fn run_build<L: Ledger>(
     alloc: Global,
     catalog: &Catalog,
     table: u32,
@@ -46,6 +48,7 @@ fn run_build<L: Ledger>(
     requires known { table < length catalog.now.schema.aggregates }
     requires fit { IfSome (table_cube catalog.now table)
         (λ cube. IsTrue (are_batches catalog.now cube snapshot.now)) }
+    ensures { IfOk result (λ made. built catalog.now table snapshot.now ≡ Some made) }
 {
     let mut steps: Steps<L> = Steps::new(blank);
     build(alloc, catalog, table, snapshot, &mut steps)
@@ -63,8 +66,8 @@ fn is_of_first(catalog: &Catalog, table: u32) -> bool
     own.cube.as_str() == catalog.cube(CubeId(0)).name.as_str()
 }
 
-// Whether the schema has a table at a place, one of the first cube.
-fn is_table(catalog: &Catalog, table: u32) -> bool
+/// Whether the schema has a table at a place, one of the first cube.
+pub(crate) fn is_table(catalog: &Catalog, table: u32) -> bool
     ensures known { IsTrue result → (table < length catalog.now.schema.aggregates) }
     ensures first { IsTrue result → (table_cube catalog.now table ≡ Some 0) }
 {

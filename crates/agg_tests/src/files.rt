@@ -41,3 +41,18 @@ pub fn odd_header() -> &'static [u8] {
 pub fn odd_record() -> &'static [u8] {
     b"year,fact_count,units_sum,more\n1997,3,15,\n1998,1,,\xff\n"
 }
+
+/// And one more: a row above and a row below what was there in their cities.
+pub fn wider_sales() -> &'static [u8] {
+    b"time_id,store_id,units\n1,1,9\n2,2,-6\n"
+}
+
+/// Three rows of different quarters and of different cities.
+pub fn apart_sales() -> &'static [u8] {
+    b"time_id,store_id,units\n1,1,5\n2,2,7\n3,3,3\n"
+}
+
+/// A later batch: one row more of a quarter that is there, in a city that had none of its year.
+pub fn apart_later() -> &'static [u8] {
+    b"time_id,store_id,units\n3,1,2\n"
+}

@@ -23,8 +23,9 @@ use Rattle.segment_body.specs.AllFolds as folds
 use Rattle.fact_reader.specs.BodyRows.{HoldsRows}
 use Rattle.cache_flush.specs.Loads.{KeptOf}
 use Rattle.rollup_plan.specs.Plans.{kept_at, offer_of, offers_at}
-use Rattle.rollup_plan.specs.Laws.{RowsAreValued}
-use Rattle.rollup_plan.specs.Rolls.{IsRolledUp, LieBehind, is_valued, loads_at}
+use Rattle.fact_reader.specs.Laws.{RowsAreValued}
+use Rattle.rollup_plan.specs.Rolls.{IsRolledUp, LieBehind, loads_at}
+use Rattle.fact_reader.specs.BodyRows.{is_valued}
 use Rattle.rollup_plan.proofs.LawFacts.{plans_roll}
 use Rattle.rollup_plan.specs.declared.plan.Part.{Part}
 use Rattle.rollup_plan.specs.declared.plan.Plan.{Plan}

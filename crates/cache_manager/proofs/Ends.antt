@@ -21,7 +21,6 @@ use Rattle.cache_manager.specs.Kept.{IsFlight, IsKept, IsManager}
 use Rattle.segment_body.specs.BodyOf.{BodyOf}
 use Rattle.segment_header.specs.Headers.{is_header}
 use Rattle.fact_reader.specs.BodyRows.{HoldsRows}
-use Rattle.fact_reader.proofs.LawFacts.{loads_hold_rows}
 use Rattle.cache_manager.proofs.Pushes.{kept_landed, kept_new, load_on, recorded, rows_on, shutting_on}
 use Rattle.cache_manager.proofs.Managing.{flight_found, length-others, numbers_kept}
 use Rattle.cache_manager.proofs.Own.{own_ends, own_flies}
@@ -81,7 +80,7 @@ keeps cache history who j v body shut is legal own at formed told = record {
     here = subst (λ (k : CacheOf). IsOwnBody k who j body) (sym is) own
 
     holds_here : HoldsRows history.setting.catalog here.load.header (rows_of history.entries here.load.header.cube here.load.version) body
-    holds_here = loads_hold_rows history.setting.catalog here.load.header (rows_of history.entries here.load.header.cube here.load.version) body here.whole
+    holds_here = here.holds
 
 -- the load in flight that an own body ends has the body's header
 pub headers_own :
@@ -93,7 +92,7 @@ headers_own cache history who j body is own flights all = recursion_from_All (λ
     here = subst (λ (k : CacheOf). IsOwnBody k who j body) (sym is) own
 
     holds_here : HoldsRows history.setting.catalog here.load.header (rows_of history.entries here.load.header.cube here.load.version) body
-    holds_here = loads_hold_rows history.setting.catalog here.load.header (rows_of history.entries here.load.header.cube here.load.version) body here.whole
+    holds_here = here.holds
 
     same : (f : FlightOf) → IsFlight history.entries f → (f.load == j) ≡ true → f.header ≡ body.header
     same f flies at =

@@ -1,5 +1,5 @@
 -- Jobs that are out, while an entry is added to the history; and the numbers of loads.
-use Rattle.std.proofs.Common.{◌≡◌, refl, sym, ◌∙◌, ap, ℕ, zero, suc, ◌<◌, List, [], ◌∷◌, ◌++◌, length, map, Bool, true, false, ◌==◌, inl, inr, Option, Some, arith, All}
+use Rattle.std.proofs.Common.{◌≡◌, refl, sym, ◌∙◌, ap, subst, ℕ, zero, suc, ◌<◌, List, [], ◌∷◌, ◌++◌, length, map, Bool, true, false, ◌==◌, inl, inr, Option, Some, arith, All}
 use Rattle.std.specs.List.{list_any}
 use Rattle.std.proofs.lemmas.Bool.{and_from, both_ways, eqb-true, eq-eqb, false_from_ne_true, not_from_false, or_cases, or_left, or_right}
 use Rattle.std.proofs.lemmas.List.{append-nil}
@@ -9,20 +9,30 @@ use Rattle.olap_meaning.specs.declared.tables.Setting.{Setting}
 use Rattle.olap_meaning.specs.Covering.{among}
 use Rattle.olap_meaning.specs.History.{Entry, Load, ends, load_at, rows_of}
 use Rattle.olap_meaning.specs.Legal.{Legal}
-use Rattle.olap_meaning.specs.Worth.{cost, load_rows}
+use Rattle.olap_meaning.specs.declared.cells.Header.{Header}
+use Rattle.olap_meaning.specs.declared.tables.Row.{Row}
+use Rattle.segment_body.specs.BodyOf.{BodyOf}
+use Rattle.fact_reader.specs.BodyRows.{HoldsRows, rows_in}
+use Rattle.load_costs.specs.Costs.{cost}
+use Rattle.load_costs.proofs.CostFacts.{cost_on}
 use Rattle.olap_meaning.specs.declared.tables.Catalog.{Catalog}
-use Rattle.std.specs.Option.{option_map_or}
 use Rattle.segment_load.specs.Loads.{JobOf}
 use Rattle.history_core.specs.Cache.{CacheOf}
-use Rattle.cache_manager.specs.Jobs.{IsJobOf}
+use Rattle.cache_manager.specs.Jobs.{IsJobOf, IsOwnBody}
 use Rattle.history_core.specs.Seats.{entries_of, is_of_seat}
 use Rattle.history_core.specs.Groups.{numbers_from}
 use Rattle.cache_manager.specs.Runs.{apart}
 use Rattle.cache_manager.proofs.Pushes.{any_none, load_on, recorded, rows_on}
 
--- the cost of a load that was started
-pub cost_is : (catalog : Catalog) (history : List Entry) (j : ℕ) (load : Load) → load_at history j ≡ Some load → cost catalog history j ≡ length (rows_of history load.header.cube load.version)
-cost_is catalog history j load at = ap (λ (o : Option Load). option_map_or (load_rows history) o 0) at
+-- what a job has come to, which holds the rows of its snapshot, is the body of an own load
+pub own_body : (cache : CacheOf) (job : JobOf) (body : BodyOf) → IsJobOf cache job → HoldsRows job.catalog job.header (rows_in job.snapshot) body → IsOwnBody cache job.who job.load body
+own_body cache job body is holds = record {
+  load = is.load;
+  flies = is.flies;
+  holds = subst (λ (rows : List Row). HoldsRows cache.setting.catalog is.load.header rows body) is.rows
+      (subst (λ (h : Header). HoldsRows cache.setting.catalog h (rows_in job.snapshot) body) is.header
+      (subst (λ (c : Catalog). HoldsRows c job.header (rows_in job.snapshot) body) is.catalog holds));
+}
 
 module _ (before after : CacheOf) (entry : Entry) (same : after.setting ≡ before.setting) (grown : after.entries ≡ before.entries ++ entry ∷ []) (legal : Legal before.setting before.entries) where
   unended_on : (who : Who) (j : ℕ) → ends j entry ≡ false → list_any (ends j) (entries_of before.entries who.seat) ≡ false → list_any (ends j) (entries_of after.entries who.seat) ≡ false
@@ -52,8 +62,9 @@ module _ (before after : CacheOf) (entry : Entry) (same : after.setting ≡ befo
         header = is.header;
         rows = is.rows ∙ sym rows;
         costs =
-            is.costs ∙ cost_is before.setting.catalog before.entries job.load is.load is.flies.started ∙ sym (ap length rows)
-            ∙ sym (cost_is after.setting.catalog after.entries job.load is.load (ap (λ (es : List Entry). load_at es job.load) grown ∙ load_on before.entries entry job.load is.load is.flies.started));
+            is.costs ∙ sym (cost_on before.setting.catalog before.entries (entry ∷ []) job.load is.load is.flies.started)
+            ∙ ap (λ (es : List Entry). cost before.setting.catalog es job.load) (sym grown)
+            ∙ ap (λ (s : Setting). cost s.catalog after.entries job.load) (sym same);
       }
 
   -- and so do jobs, where it ends none of their loads

@@ -17,12 +17,13 @@ use Rattle.fact_versions.specs.Facts.{FactsOf, with_batch}
 use Rattle.fact_reader.specs.BodyRows.{is_batch}
 use Rattle.cache_flush.specs.Loads as of_loads
 use Rattle.cache_flush.specs.Loads.{KeptOf}
+use Rattle.load_costs.specs.Costs.{builds}
 use Rattle.cache_flush.specs.Flights as of_flights
 use Rattle.cache_flush.specs.Flights.{FlightOf}
 use Rattle.cache_manager.specs.Kept.{IsFlight, IsKept, IsManager, headers_of}
 use Rattle.cache_manager.proofs.Facts.{facts_more, facts_on}
 use Rattle.cache_manager.proofs.Managing.{all_flights_on, all_flights_shut, all_kept_on, all_kept_shut, among_last, among_left, flight_headers_shut, flight_numbers_shut, flights_all_but, flights_all_on, flights_but, kept_all_on, kept_numbers_shut, length-others, others}
-use Rattle.cache_manager.proofs.Pushes.{flying_back, kept_back, load_last, starts_flying}
+use Rattle.cache_manager.proofs.Pushes.{any_none, flying_back, kept_back, load_last, starts_flying}
 
 module _ (setting : Setting) (entries : List Entry) (facts : FactsOf) (held : List KeptOf) (places : List Header → Type 0) (flights : List FlightOf) (legal : Legal setting entries) where
   -- a load is given up
@@ -37,6 +38,7 @@ module _ (setting : Setting) (entries : List Entry) (facts : FactsOf) (held : Li
         kept_all = kept_all_on entries (Drop who j) (map (λ k. k.load) held) (λ i. refl) is.kept_all;
         flights_are = flights_but j entries (Drop who j) flights (λ i. refl) refl is.flights_are;
         flights_all = flights_all_but j entries (Drop who j) flights (λ i. refl) refl is.flights_all;
+        unbuilt = any_none builds entries (Drop who j) is.unbuilt refl;
         ends_fit = omega (arith, gone, is.ends_fit, room);
         places_fit = fit;
       }
@@ -57,6 +59,7 @@ module _ (setting : Setting) (entries : List Entry) (facts : FactsOf) (held : Li
             ];
         flights_are = flights_but j entries (Done who j) flights (λ i. refl) refl is.flights_are;
         flights_all = flights_all_but j entries (Done who j) flights (λ i. refl) refl is.flights_all;
+        unbuilt = any_none builds entries (Done who j) is.unbuilt refl;
         ends_fit = omega (arith, gone, is.ends_fit, room);
         places_fit = fit;
       }
@@ -69,6 +72,7 @@ module _ (setting : Setting) (entries : List Entry) (facts : FactsOf) (held : Li
     kept_all = kept_all_on entries (Answer who cells) (map (λ k. k.load) held) (λ i. refl) is.kept_all;
     flights_are = all_flights_on entries (Answer who cells) flights (λ i. refl) refl is.flights_are;
     flights_all = flights_all_on entries (Answer who cells) (map (λ f. f.load) flights) refl is.flights_all;
+    unbuilt = any_none builds entries (Answer who cells) is.unbuilt refl;
     ends_fit = room;
     places_fit = is.places_fit;
   }
@@ -81,6 +85,7 @@ module _ (setting : Setting) (entries : List Entry) (facts : FactsOf) (held : Li
     kept_all = kept_all_on entries (Saw who) (map (λ k. k.load) held) (λ i. refl) is.kept_all;
     flights_are = all_flights_on entries (Saw who) flights (λ i. refl) refl is.flights_are;
     flights_all = flights_all_on entries (Saw who) (map (λ f. f.load) flights) refl is.flights_all;
+    unbuilt = any_none builds entries (Saw who) is.unbuilt refl;
     ends_fit = room;
     places_fit = is.places_fit;
   }
@@ -97,6 +102,7 @@ module _ (setting : Setting) (entries : List Entry) (facts : FactsOf) (held : Li
     flights_are = all_flights_shut entries who region flights is.flights_are;
     flights_all = subst (λ (loads : List ℕ). (j : ℕ) → flying (entries ++ Flush who region ∷ []) j ≡ true → among loads j ≡ true) (sym (flight_numbers_shut region flights))
         (flights_all_on entries (Flush who region) (map (λ f. f.load) flights) refl is.flights_all);
+    unbuilt = any_none builds entries (Flush who region) is.unbuilt refl;
     ends_fit = omega (arith, length-map flights (of_flights.shut_off region), room);
     places_fit = subst now (sym (flight_headers_shut region flights)) (on (headers_of flights) is.places_fit);
   }
@@ -111,6 +117,7 @@ module _ (setting : Setting) (entries : List Entry) (facts : FactsOf) (held : Li
     kept_all = kept_all_on entries (Append who cube v batch.rows) (map (λ k. k.load) held) (λ i. refl) is.kept_all;
     flights_are = all_flights_on entries (Append who cube v batch.rows) flights (λ i. refl) refl is.flights_are;
     flights_all = flights_all_on entries (Append who cube v batch.rows) (map (λ f. f.load) flights) refl is.flights_all;
+    unbuilt = any_none builds entries (Append who cube v batch.rows) is.unbuilt refl;
     ends_fit = room;
     places_fit = is.places_fit;
   }
@@ -142,6 +149,7 @@ module _ (setting : Setting) (entries : List Entry) (facts : FactsOf) (held : Li
               | inl old ↦ among_left (map (λ f. f.load) flights) flight.load i (is.flights_all i old)
               | inr new ↦ among_last (map (λ f. f.load) flights) flight.load i (number ∙ sym new.0)
             ];
+        unbuilt = any_none builds entries (Start load) is.unbuilt refl;
         ends_fit = omega (arith, length-append flights (flight ∷ []), room);
         places_fit = fit;
       }

@@ -14,7 +14,9 @@ use Rattle.olap_meaning.proofs.Growing.{legal_grows, version_grows}
 use Rattle.fact_versions.specs.Facts.{FactsOf}
 use Rattle.history_core.specs.Entries.{entry_of}
 use Rattle.fact_reader.specs.BodyRows.{rows_in}
-use Rattle.segment_load.specs.Loads.{JobOf}
+use Rattle.load_costs.specs.Costs.{builds, cost}
+use Rattle.load_costs.proofs.CostFacts.{cost_at, cost_on, reads_rows}
+use Rattle.segment_load.specs.Loads.{JobOf, job_cost}
 use Rattle.cache_flush.specs.Loads.{KeptOf}
 use Rattle.cache_flush.specs.Flights.{FlightOf}
 use Rattle.cache_manager.specs.declared.starts.Flying.{Flying}
@@ -27,7 +29,6 @@ use Rattle.history_core.specs.Seats.{entries_of, is_of_seat}
 use Rattle.history_core.specs.Groups.{numbers_from}
 use Rattle.cache_manager.specs.Kept.{IsManager}
 use Rattle.cache_manager.specs.Plans.{AreLegalSteps, AreNew, ArePrepared, IsPrepared, flight_for}
-use Rattle.cache_manager.proofs.JobFacts.{cost_is}
 use Rattle.cache_manager.proofs.Managing.{among_back}
 use Rattle.cache_manager.proofs.Moves.{starts}
 use Rattle.cache_manager.proofs.Pushes.{any_none, load_last, load_on, recorded, rows_on, unended}
@@ -141,16 +142,14 @@ module _ (allowing : Allowing) (cache : CacheOf) (who : Who) (wanted : List Cell
         flies = own_on entries load job.who job.load is.load is.flies;
         header = is.header;
         rows = is.rows ∙ sym rows;
-        costs =
-            is.costs ∙ cost_is cache.setting.catalog entries job.load is.load is.flies.started ∙ sym (ap length rows)
-            ∙ sym (cost_is cache.setting.catalog (entries ++ Start load ∷ []) job.load is.load (load_on entries (Start load) job.load is.load is.flies.started));
+        costs = is.costs ∙ sym (cost_on cache.setting.catalog entries (Start load ∷ []) job.load is.load is.flies.started);
       }
 
   -- a job that was prepared is one of the cache's, once its load is started
   job_new :
-      (entries : List Entry) (n : ℕ) (c : Cell) (p : Planned) → Legal cache.setting entries → IsPrepared allowing cache who (filter (alike c) wanted) n c p → n ≡ suc (length entries) → version entries c.cube ≡ version cache.entries c.cube
+      (entries : List Entry) (n : ℕ) (c : Cell) (p : Planned) → Legal cache.setting entries → list_any builds entries ≡ false → IsPrepared allowing cache who (filter (alike c) wanted) n c p → n ≡ suc (length entries) → version entries c.cube ≡ version cache.entries c.cube
       → rows_of entries c.cube (version cache.entries c.cube) ≡ rows_of cache.entries c.cube (version cache.entries c.cube) → IsJobOf (at (entries ++ Start (load_of c p) ∷ [])) p.job
-  job_new entries n c p legal is number present same =
+  job_new entries n c p legal unbuilt is number present same =
       let place : p.job.load ≡ suc (length entries) = is.load ∙ number in
       let rows : rows_in p.job.snapshot ≡ rows_of (entries ++ Start (load_of c p) ∷ []) p.job.header.cube (version cache.entries c.cube) =
       is.rows ∙ sym same ∙ sym (rows_on entries (Start (load_of c p)) c.cube (version cache.entries c.cube) (omega (arith, present)))
@@ -166,24 +165,27 @@ module _ (allowing : Allowing) (cache : CacheOf) (who : Who) (wanted : List Cell
         header = refl;
         rows = rows;
         costs =
-            ap length rows
-            ∙ sym (cost_is cache.setting.catalog (entries ++ Start (load_of c p) ∷ []) p.job.load (load_of c p) (ap (load_at (entries ++ Start (load_of c p) ∷ [])) place ∙ load_last entries (Start (load_of c p))));
+            ap (λ read. job_cost (record p.job { read = read })) is.facts
+            ∙ ap length (is.rows ∙ sym same ∙ ap (λ (cube : ℕ). rows_of entries cube (version cache.entries c.cube)) (sym is.allowed.cube))
+            ∙ sym (reads_rows cache.setting.catalog entries (load_of c p) unbuilt)
+            ∙ sym (cost_at cache.setting.catalog entries [] (load_of c p))
+            ∙ ap (cost cache.setting.catalog (entries ++ Start (load_of c p) ∷ [])) (sym place);
       }
 
   -- the jobs after their loads are started
   pub all_jobs :
-      (plans : List Planned) (entries : List Entry) (jobs : List JobOf) (n : ℕ) (cells : List Cell) → Legal cache.setting entries → AreLegalSteps cache.setting entries (map step_of plans) → ArePrepared allowing cache who wanted n cells plans → n ≡ suc (length entries)
+      (plans : List Planned) (entries : List Entry) (jobs : List JobOf) (n : ℕ) (cells : List Cell) → Legal cache.setting entries → list_any builds entries ≡ false → AreLegalSteps cache.setting entries (map step_of plans) → ArePrepared allowing cache who wanted n cells plans → n ≡ suc (length entries)
       → ((cube : ℕ) → version entries cube ≡ version cache.entries cube) → ((cube : ℕ) → rows_of entries cube (version cache.entries cube) ≡ rows_of cache.entries cube (version cache.entries cube))
       → All (IsJobOf (at entries)) jobs → All (IsJobOf (at (entries ++ map step_of plans))) (jobs ++ map (λ p. p.job) plans)
-  all_jobs [] entries jobs n cells legal steps are number present same all = rw (append-nil entries, append-nil jobs) all
-  all_jobs (p ∷ ps) entries jobs n [] legal steps are number present same all = absurd are
-  all_jobs (p ∷ ps) entries jobs n (c ∷ cs) legal steps are number present same all =
+  all_jobs [] entries jobs n cells legal unbuilt steps are number present same all = rw (append-nil entries, append-nil jobs) all
+  all_jobs (p ∷ ps) entries jobs n [] legal unbuilt steps are number present same all = absurd are
+  all_jobs (p ∷ ps) entries jobs n (c ∷ cs) legal unbuilt steps are number present same all =
       rw (← append_assoc entries (step_of p ∷ []) (map step_of ps), ← append_assoc jobs (p.job ∷ []) (map (λ q. q.job) ps))
-      (all_jobs ps (entries ++ step_of p ∷ []) (jobs ++ p.job ∷ []) (suc n) cs (legal_grows cache.setting entries (step_of p) legal steps.0) steps.1 are.1
+      (all_jobs ps (entries ++ step_of p ∷ []) (jobs ++ p.job ∷ []) (suc n) cs (legal_grows cache.setting entries (step_of p) legal steps.0) (any_none builds entries (step_of p) unbuilt (ap builds are.0.start)) steps.1 are.1
       (let long = length_push entries (step_of p) in omega (arith, long, number))
       (λ cube. later_version cube) (λ cube. later_rows cube)
       (subst (λ (e : Entry). All (IsJobOf (at (entries ++ e ∷ []))) (jobs ++ p.job ∷ [])) (sym are.0.start)
-      (All-push (IsJobOf (at (entries ++ Start (load_of c p) ∷ []))) jobs p.job (All-weaker (IsJobOf (at entries)) (IsJobOf (at (entries ++ Start (load_of c p) ∷ []))) (λ job is. job_on entries (load_of c p) job legal is) jobs all) (job_new entries n c p legal are.0 number (present c.cube) (same c.cube)))))
+      (All-push (IsJobOf (at (entries ++ Start (load_of c p) ∷ []))) jobs p.job (All-weaker (IsJobOf (at entries)) (IsJobOf (at (entries ++ Start (load_of c p) ∷ []))) (λ job is. job_on entries (load_of c p) job legal is) jobs all) (job_new entries n c p legal unbuilt are.0 number (present c.cube) (same c.cube)))))
     where
       later_version : (cube : ℕ) → version (entries ++ step_of p ∷ []) cube ≡ version cache.entries cube
       later_version cube =

@@ -11,9 +11,8 @@ use Rattle.olap_meaning.specs.declared.tables.Setting.{Setting}
 use Rattle.olap_meaning.specs.Covering.{among}
 use Rattle.olap_meaning.specs.History.{Entry, Start, Load, ends, is_some_and}
 use Rattle.olap_meaning.specs.Legal.{Legal, caller, is_call_below, is_call_of, is_next_call}
-use Rattle.fact_reader.specs.BodyRows.{rows_in}
 use Rattle.segment_header.specs.Widening.{Allowing}
-use Rattle.segment_load.specs.Loads.{JobOf}
+use Rattle.segment_load.specs.Loads.{JobOf, job_cost}
 use Rattle.history_core.specs.Cache.{CacheOf}
 use Rattle.cache_manager.specs.Jobs.{IsJobOf}
 use Rattle.history_core.specs.Groups.{numbers_from}
@@ -164,11 +163,11 @@ ending_is cache (x ∷ xs) n zero job end all l at =
 ending_is cache (x ∷ xs) n (suc i) job end all l at = ending_is cache xs n i job end (All-tail (IsJobOf cache) x xs all) (omega (arith, l)) at
 
 -- the rows of the load of a job that is out
-pub rows_are : (cache : CacheOf) (jobs : List JobOf) (n i : ℕ) (job : JobOf) → All (IsJobOf cache) jobs → i < length jobs → job ≡ get_or jobs i job → rows_of_job (stage_of cache jobs n) i ≡ length (rows_in job.snapshot)
+pub rows_are : (cache : CacheOf) (jobs : List JobOf) (n i : ℕ) (job : JobOf) → All (IsJobOf cache) jobs → i < length jobs → job ≡ get_or jobs i job → rows_of_job (stage_of cache jobs n) i ≡ job_cost job
 rows_are cache [] n i job all l at = absurd (omega (arith, l))
 rows_are cache (x ∷ xs) n zero job all l at =
     let is : IsJobOf cache x = All-head (IsJobOf cache) x xs all in
-    sym is.costs ∙ ap (λ (j : JobOf). length (rows_in j.snapshot)) (sym at)
+    sym is.costs ∙ ap job_cost (sym at)
 rows_are cache (x ∷ xs) n (suc i) job all l at = rows_are cache xs n i job (All-tail (IsJobOf cache) x xs all) (omega (arith, l)) at
 
 -- a call may have this reply, and the loads that it starts their headers

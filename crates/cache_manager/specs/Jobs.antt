@@ -1,12 +1,12 @@
 -- Jobs and deliveries of the loads in flight.
-use Rattle.std.specs.Prelude.{ℕ, ◌≡◌, Some, false, length}
+use Rattle.std.specs.Prelude.{ℕ, ◌≡◌, Some, false}
 use Rattle.std.specs.List.{list_any}
 use Rattle.olap_meaning.specs.declared.cells.Who.{Who}
 use Rattle.olap_meaning.specs.History.{Load, ends, load_at, rows_of}
-use Rattle.olap_meaning.specs.Worth.{cost}
+use Rattle.load_costs.specs.Costs.{cost}
 use Rattle.segment_body.specs.BodyOf.{BodyOf}
-use Rattle.fact_reader.specs.BodyRows.{body_of, rows_in}
-use Rattle.segment_load.specs.Loads.{JobOf}
+use Rattle.fact_reader.specs.BodyRows.{HoldsRows, rows_in}
+use Rattle.segment_load.specs.Loads.{JobOf, job_cost}
 use Rattle.history_core.specs.Cache.{CacheOf}
 use Rattle.history_core.specs.Seats.{entries_of}
 
@@ -21,12 +21,12 @@ pub record IsOwn (cache : CacheOf) (who : Who) (j : ℕ) (load : Load) : Type 0 
 abbrev pub IsOwnLoad : CacheOf → Who → ℕ → Type 0
 IsOwnLoad cache who j = (load : Load) × IsOwn cache who j load
 
--- a body is that of an own load that flies: of its header, over the rows of its version
+-- a body is that of an own load that flies: it holds the rows of its version that its header allows
 pub record IsOwnBody (cache : CacheOf) (who : Who) (j : ℕ) (body : BodyOf) : Type 0 where
   pub load : Load
   pub flies : IsOwn cache who j load
-  pub whole : body_of cache.setting.catalog load.header
-      (rows_of cache.entries load.header.cube load.version) ≡ Some body
+  pub holds : HoldsRows cache.setting.catalog load.header
+      (rows_of cache.entries load.header.cube load.version) body
 
 -- a job is that of a load of the cache: by its number, of its header, over the rows of its version, at its cost
 pub record IsJobOf (cache : CacheOf) (job : JobOf) : Type 0 where
@@ -35,4 +35,4 @@ pub record IsJobOf (cache : CacheOf) (job : JobOf) : Type 0 where
   pub flies : IsOwn cache job.who job.load load
   pub header : job.header ≡ load.header
   pub rows : rows_in job.snapshot ≡ rows_of cache.entries load.header.cube load.version
-  pub costs : length (rows_in job.snapshot) ≡ cost cache.setting.catalog cache.entries job.load
+  pub costs : job_cost job ≡ cost cache.setting.catalog cache.entries job.load

@@ -1,5 +1,5 @@
 -- What a look prepares before it starts loads.
-use Rattle.std.specs.Prelude.{ℕ, suc, ◌≡◌, ⊤, List, [], ◌∷◌, ◌++◌, IsFalse, filter}
+use Rattle.std.specs.Prelude.{ℕ, suc, ◌≡◌, ⊤, List, [], ◌∷◌, ◌++◌, None, IsFalse, filter}
 use Rattle.olap_meaning.specs.declared.cells.Cell.{Cell}
 use Rattle.olap_meaning.specs.declared.cells.Who.{Who}
 use Rattle.olap_meaning.specs.declared.tables.Setting.{Setting}
@@ -44,6 +44,7 @@ pub record IsPrepared (allowing : Allowing) (cache : CacheOf) (who : Who) (cells
   pub catalog : planned.job.catalog ≡ cache.setting.catalog
   pub rows : rows_in planned.job.snapshot
       ≡ rows_of cache.entries first.cube (version cache.entries first.cube)
+  pub facts : planned.job.read ≡ None
 
 -- what is prepared for the groups of some first cells, whose loads are numbered from one on
 abbrev pub ArePrepared : Allowing → CacheOf → Who → List Cell → ℕ → List Cell → List Planned

@@ -9,7 +9,7 @@ use Rattle.olap_meaning.specs.Covering.{among}
 use Rattle.olap_meaning.specs.History as history
 use Rattle.olap_meaning.specs.History.{Entry, load_at, version}
 use Rattle.olap_meaning.specs.Legal.{caller, is_cell, is_flushable}
-use Rattle.olap_meaning.specs.Worth.{cost}
+use Rattle.load_costs.specs.Costs.{cost}
 use Rattle.fact_versions.specs.Facts.{append_fault}
 use Rattle.fact_versions.specs.declared.faults.AppendFault.TheVariants as fault
 use Rattle.fact_reader.specs.BodyRows.{is_batch}

@@ -145,7 +145,7 @@ impl Manager {
                 header: other,
                 version,
             },
-            job: LoadJob::new(catalog, load, who, header, snapshot),
+            job: LoadJob::new(catalog, load, who, header, snapshot, &[])?,
         })
     }
 

@@ -8,10 +8,10 @@ ghost use Rattle.cache_manager.specs.declared.rollups.Rollup.{Rollup as RollupOf
 
 use crate::alike::are_alike;
 use cache_flush::Shelf;
+use fact_reader::laws::rows_are_valued;
 use history_core::{Answered, History};
 use measure_folds::Tally;
 use olap_meaning::{Cell, List, OutOfMemory, ROW_LIMIT, Version};
-use rollup_plan::laws::rows_are_valued;
 use rollup_plan::{Plan, roll_all};
 use segment_header::copy_cell;
 use segment_index::SegmentIndex;

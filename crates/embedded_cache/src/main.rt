@@ -12,7 +12,7 @@ use fact_versions::Steps;
 use history_core::Answer;
 use line_session::Desk;
 use manager_desk::ManagerDesk;
-use mdx_reader::{QueryFault, read_query};
+use mdx_reader::{Query, QueryFault, read_query};
 use olap_meaning::{Allowed, Cell, List, OutOfMemory, ValueId, plain_text};
 use outside::{Depot, FolderDepot};
 use segment_header::{Widener, Widening, plain_widener, widened_plainly};
@@ -38,7 +38,16 @@ enum Failure {
     NoText(#[from] AllocError),
 }
 
-// The cells of the program's query over the catalog of a cache.
+// The cells of a query over the catalog of a cache.
+fn query_cells(alloc: Global, desk: &ManagerDesk, query: &Query) -> Result<List<Cell>, Failure>
+    ensures { IfOk result
+        (λ cells. IsTrue (list_all (is_cell desk.now.setting.catalog) cells)) }
+{
+    let axes = resolve(alloc, desk.catalog(), query)?;
+    Ok(cells(alloc, desk.catalog(), &axes)?)
+}
+
+// The cells of the program's query.
 fn cells_of(alloc: Global, desk: &ManagerDesk) -> Result<List<Cell>, Failure>
     ensures { IfOk result
         (λ cells. IsTrue (list_all (is_cell desk.now.setting.catalog) cells)) }
@@ -47,8 +56,7 @@ fn cells_of(alloc: Global, desk: &ManagerDesk) -> Result<List<Cell>, Failure>
         alloc,
         "SELECT {[Time].[1997], [Time].[1998]} ON COLUMNS, [Store].[State].Members ON ROWS FROM [Sales]",
     )?;
-    let axes = resolve(alloc, desk.catalog(), &query)?;
-    Ok(cells(alloc, desk.catalog(), &axes)?)
+    query_cells(alloc, desk, &query)
 }
 
 // The answer to the cells, asked for by seat 1: the base batches are appended by seat 0. Loads that are missing are run

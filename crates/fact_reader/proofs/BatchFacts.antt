@@ -1,5 +1,5 @@
 -- The rows of batches, one batch after another, and the rows that a body takes of them.
-use Rattle.std.proofs.Common.{◌≡◌, ◌∙◌, ◌≤◌, ◌+◌, ℕ, ℤ, zero, suc, List, [], ◌∷◌, ◌++◌, Option, None, Some, length, take, append-nil, append_assoc, length-append, add-one, refl, sym, ap, arith}
+use Rattle.std.proofs.Common.{◌≡◌, ◌∙◌, ◌≤◌, ◌+◌, ℕ, ℤ, zero, suc, List, [], ◌∷◌, ◌++◌, Option, None, Some, length, drop, take, append-nil, append_assoc, length-append, add-one, refl, sym, ap, arith}
 use Rattle.std.specs.Prelude.{IsTrue, option_to_list, slice_get}
 use Rattle.std.specs.List.{cons_option}
 use Rattle.std.proofs.lemmas.List.Sums.{sum_by-append}
@@ -56,6 +56,15 @@ pub taken_fit : {A : Type 0} (xs : List A) (n : ℕ) → length (take n xs) ≤ 
 taken_fit xs zero = omega arith
 taken_fit [] (suc n) = omega arith
 taken_fit (x ∷ xs) (suc n) = omega (arith, taken_fit xs n)
+
+-- an element behind the first ones
+pub later_at : {A : Type 0} (xs : List A) (n i : ℕ) → slice_get xs (n + i) ≡ slice_get (drop n xs) i
+later_at xs zero i = ap (slice_get xs) (omega arith)
+later_at [] (suc n) i = refl
+later_at (x ∷ xs) (suc n) i = ap (slice_get (x ∷ xs)) (plus n i) ∙ later_at xs n i
+  where
+    plus : (m j : ℕ) → suc m + j ≡ suc (m + j)
+    plus m j = omega arith
 
 module _ (catalog : Catalog) (header : Header) where
   -- a body takes no more rows than there are

@@ -24,7 +24,9 @@ use Rattle.segment_body.specs.BodyOf.{BodyOf, body_row_in}
 use Rattle.list_orders.proofs.Aggregates.{aggregate_permutes}
 use Rattle.list_orders.proofs.Permutations.{IsPermutation-filter}
 use Rattle.std.proofs.lemmas.List.Sorted.{IsPermutation-map, IsPermutation-refl}
-use Rattle.fact_reader.specs.BodyRows.{HoldsRows, allowed_values, if_allowed, row_values, row_number, header_measure, body_rows, body_of, body_value}
+use Rattle.segment_body.specs.Narrowed.{allowed_values, if_allowed}
+use Rattle.segment_body.proofs.ValueFacts.{first_allowed}
+use Rattle.fact_reader.specs.BodyRows.{HoldsRows, row_values, row_number, header_measure, body_rows, body_of, body_value}
 
 eq_of : (a b : ℕ) → (a == b) ≡ true → a ≡ b
 eq_of a b h = grind (arith, nat_tests)
@@ -37,22 +39,6 @@ or_twice : (a b : Bool) → (b || (a && b)) ≡ b
 or_twice a true = refl
 or_twice true false = refl
 or_twice false false = refl
-
--- values on the first column and on the others
-pub first_allowed : (allowed : Allowed) (value : Option ℕ) (rest : Option (List ℕ)) (vs : List ℕ)
-    → option_and_then (λ v. option_map (λ values. v ∷ values) rest) (option_and_then (if_allowed allowed) value) ≡ Some vs
-    → (v : ℕ) × (others : List ℕ) × (value ≡ Some v) × (allows allowed v ≡ true) × (rest ≡ Some others) × (vs ≡ v ∷ others)
-first_allowed allowed None rest vs h = absurd (cc)
-first_allowed allowed (Some v) rest vs h =
-    elim (cases_Bool (allows allowed v)) [
-      | inl passes ↦ here rest (rw passes at h) passes
-      | inr fails ↦ let e = rw fails at h in absurd (cc)
-    ]
-  where
-    here : (rest : Option (List ℕ)) → option_map (λ values. v ∷ values) rest ≡ Some vs → allows allowed v ≡ true
-        → (w : ℕ) × (others : List ℕ) × (Some v ≡ Some w) × (allows allowed w ≡ true) × (rest ≡ Some others) × (vs ≡ w ∷ others)
-    here None e passes = absurd (cc)
-    here (Some others) e passes = (v, others, refl, passes, refl, cc)
 
 module _ (f : ℕ → Option ℕ) where
   -- a value that passes a test stands in a column where the column is one of them and has such a value

@@ -1,5 +1,5 @@
 pub mod LawFacts
 pub mod RowFacts
 pub mod FactPlaces
-pub mod ValueFacts
 pub mod BatchFacts
+pub mod ValuedFacts

@@ -1,34 +1,22 @@
 -- What a body takes of fact rows.
-use Rattle.std.specs.Prelude.{ℕ, ℤ, List, [], ◌∷◌, Bool, true, ◌==◌, ◌≡◌, ◌&&◌, Option, Some, None, length, map, filter, filter_map, flat_map, option_and_then, option_map, slice_get, if◌then◌else◌}
+use Rattle.std.specs.Prelude.{ℕ, ℤ, List, Bool, true, ◌==◌, ◌≡◌, ◌&&◌, Option, Some, length, map, filter, filter_map, flat_map, nat_lt, option_and_then, option_map, slice_get}
 use Rattle.std.specs.List.{list_all}
 use Rattle.std.specs.List.Sorted.{IsPermutation}
 use Rattle.olap_meaning.specs.declared.CellValue.{CellValue}
-use Rattle.olap_meaning.specs.declared.cells.Allowed.{Allowed}
 use Rattle.olap_meaning.specs.declared.cells.Cell.{Cell}
 use Rattle.olap_meaning.specs.declared.cells.Header.{Header}
 use Rattle.olap_meaning.specs.declared.tables.Catalog.{Catalog}
 use Rattle.olap_meaning.specs.declared.tables.Measure.{Measure}
 use Rattle.olap_meaning.specs.declared.tables.Row.{Row}
 use Rattle.olap_meaning.specs.Catalog.{fact_columns}
-use Rattle.olap_meaning.specs.Covering.{allows}
 use Rattle.olap_meaning.specs.History.{is_some_and}
 use Rattle.olap_meaning.specs.Legal.{is_column_of, is_row}
+use Rattle.olap_meaning.specs.Rolled.{value_count}
 use Rattle.olap_meaning.specs.Values.{aggregate}
 use Rattle.olap_meaning.specs.Worth.{fact, row_value}
 use Rattle.fact_versions.specs.FactRows.{FactRows}
 use Rattle.segment_body.specs.BodyOf.{BodyOf, body_row_in}
-
--- a value, where a column allows it
-abbrev pub if_allowed : Allowed → ℕ → Option ℕ
-if_allowed allowed value = if allows allowed value then Some value else None
-
--- values on some columns, in order: none where one is missing or is not allowed
-abbrev pub allowed_values : (ℕ → Option ℕ) → List (ℕ × Allowed) → Option (List ℕ)
-allowed_values value_on [] = Some []
-allowed_values value_on (column ∷ columns) =
-    option_and_then
-    (λ value. option_map (λ values. value ∷ values) (allowed_values value_on columns))
-    (option_and_then (if_allowed column.1) (value_on column.0))
+use Rattle.segment_body.specs.Narrowed.{allowed_values}
 
 -- a row's values on a header's columns, in order: none where one is missing or is not allowed
 abbrev pub row_values : Catalog → Header → Row → Option (List ℕ)
@@ -98,6 +86,12 @@ is_batch catalog cube batch =
 -- batches are a cube's: each is
 abbrev pub are_batches : Catalog → ℕ → List FactRows → Bool
 are_batches catalog cube batches = list_all (is_batch catalog cube) batches
+
+-- a row of a cube has in a column one of the values of the column
+abbrev pub is_valued : Catalog → ℕ → Row → ℕ → Bool
+is_valued catalog cube row column =
+    is_some_and
+    (λ value. nat_lt value (value_count catalog column)) (row_value catalog cube row column)
 
 -- what a body says of a cell
 abbrev pub body_value : BodyOf → Cell → CellValue

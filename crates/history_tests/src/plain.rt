@@ -107,10 +107,16 @@ fn told_steps(alloc: Global) -> Result<(String, usize), Fail> {
     Ok((told, history.len()))
 }
 
-// What is told of the cells behind the steps.
-fn told_cells(alloc: Global) -> Result<String, Fail> {
+// The history of the steps that are legal.
+fn legal_steps(alloc: Global) -> Result<Vec<PlainEntry>, Fail> {
     let setting = small_setting(alloc)?;
     let (_, history) = tell_steps(alloc, &setting, STEPS)?;
+    Ok(history)
+}
+
+// What is told of the cells behind the steps.
+fn told_cells(alloc: Global) -> Result<String, Fail> {
+    let history = legal_steps(alloc)?;
     Ok(tell_cells(alloc, history.as_slice(), CELLS)?)
 }
 
@@ -138,11 +144,7 @@ fn shut_off(
     ))
 }
 
-#[test]
-fn flushes_are_counted_from_a_start(rt: HostRuntime) -> Result<(), Fail> {
-    let alloc = rt.alloc();
-    let setting = small_setting(alloc)?;
-    let (_, history) = tell_steps(alloc, &setting, STEPS)?;
+fn tell_shut_off(rt: &(impl Abort + AllocGlobal), history: &[PlainEntry]) -> Result<(), Fail> {
     for (load, want) in [
         (2, (3, 3, true)),
         (10, (2, 2, false)),
@@ -150,10 +152,16 @@ fn flushes_are_counted_from_a_start(rt: HostRuntime) -> Result<(), Fail> {
         (16, (1, 1, false)),
         (3, (0, 0, false)),
     ] {
-        let told = shut_off(alloc, history.as_slice(), load)?;
+        let told = shut_off(rt.alloc(), history, load)?;
         assert_eq!(rt; told, want);
     }
     Ok(())
+}
+
+#[test]
+fn flushes_are_counted_from_a_start(rt: HostRuntime) -> Result<(), Fail> {
+    let history = legal_steps(rt.alloc())?;
+    tell_shut_off(&rt, history.as_slice())
 }
 
 // The names of the levels, and one of them in another case.

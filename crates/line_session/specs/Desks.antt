@@ -1,15 +1,16 @@
 -- A desk as contracts see it, and what its calls add to what its seat has seen.
-use Rattle.std.specs.Prelude.{ℕ, ◌≡◌, ◌⊎◌, ◌+◌, ◌<◌, ◌≤◌, ⊤, List, [], ◌∷◌, ◌++◌, Bool, true, false, Contains, Option, Some, None, drop, length, map, option_map, sum_by, take, filter, is_some, not}
+use Rattle.std.specs.Prelude.{ℕ, ◌≡◌, ◌⊎◌, ◌+◌, ◌<◌, ◌≤◌, ⊤, List, [], ◌∷◌, ◌++◌, Bool, true, false, Contains, Option, Some, None, drop, length, map, option_map, take, filter, is_some, not}
 use Rattle.std.specs.List.{list_all}
 use Rattle.olap_meaning.specs.declared.cells.Cell.{Cell}
 use Rattle.olap_meaning.specs.declared.cells.Header.{Header}
 use Rattle.olap_meaning.specs.declared.cells.Who.{Who}
 use Rattle.olap_meaning.specs.declared.regions.Region.{Region}
+use Rattle.olap_meaning.specs.declared.tables.Catalog.{Catalog}
 use Rattle.olap_meaning.specs.declared.tables.Row.{Row}
 use Rattle.olap_meaning.specs.History as history
 use Rattle.olap_meaning.specs.History.{Entry, Start, Done, Drop, Load, awaited_load, flying, load_at, version}
 use Rattle.olap_meaning.specs.Legal.{is_next_call}
-use Rattle.olap_meaning.specs.Worth.{load_rows}
+use Rattle.load_costs.specs.Costs.{seat_costs}
 use Rattle.fact_versions.specs.Facts.{append_fault}
 use Rattle.fact_versions.specs.declared.faults.AppendFault.{AppendFault}
 use Rattle.fact_versions.specs.declared.faults.AppendFault.TheVariants as fault
@@ -244,17 +245,12 @@ pub record HasReadFront (before after : DeskOf) (front : ℕ) : Type 0 where
   pub front_is : front ≡ length after.cache.entries
   pub fronts : after.fronts ≡ option_map (λ fronts. fronts ++ front ∷ []) before.fronts
 
--- the rows that an entry asks to read: where it starts a load, those of the load's version
-abbrev pub rows_to_read : List Entry → Entry → ℕ
-rows_to_read history (Start load) = load_rows history load
-rows_to_read history _ = 0
+-- what the loads cost that a seat has started behind a history, each by the entries before its Start
+abbrev pub costs_started : Catalog → ℕ → List Entry → List Entry → ℕ
+costs_started catalog seat before after =
+    seat_costs catalog seat before (drop (length before) after)
 
--- the rows of the loads that a seat has started behind a history
-abbrev pub rows_started : ℕ → List Entry → List Entry → ℕ
-rows_started seat before after =
-    sum_by (rows_to_read after) (entries_of (drop (length before) after) seat)
-
--- the rows of the loads that a desk's seat has started between two states
-abbrev pub rows_between : DeskOf → DeskOf → ℕ
-rows_between before after =
-    rows_started before.seat before.cache.entries after.cache.entries
+-- what the loads cost that a desk's seat has started between two states
+abbrev pub costs_between : DeskOf → DeskOf → ℕ
+costs_between before after =
+    costs_started before.cache.setting.catalog before.seat before.cache.entries after.cache.entries

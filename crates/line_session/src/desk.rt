@@ -4,7 +4,7 @@ ghost use Rattle.std.specs.List.{list_all};
 ghost use Rattle.olap_meaning.specs.Legal.{Legal, is_cell, is_flushable};
 ghost use Rattle.fact_reader.specs.BodyRows.{is_batch};
 ghost use Rattle.segment_header.specs.Widening.{Widened};
-ghost use Rattle.line_session.specs.Desks.{AddsNone, DeskOf, HasAppended, HasAsked, HasFlushed, HasReadFront, HasNotAppended, HasNotAsked, HasShown, IsIdle, rows_between};
+ghost use Rattle.line_session.specs.Desks.{AddsNone, DeskOf, HasAppended, HasAsked, HasFlushed, HasReadFront, HasNotAppended, HasNotAsked, HasShown, IsIdle, costs_between};
 
 use fact_versions::{AppendFault, Batch, Steps};
 use history_core::{Answer, Appended, CacheView, NotYet};
@@ -43,9 +43,9 @@ pub trait Desk {
             (Widened (⟦<Widener as AllowsValues>⟧.answers widener.now))
             (seen self.old) (seen self.new) cells.now) }
         ensures cost { OnOk result
-            (steps.new ≡ steps.old + rows_between (seen self.old) (seen self.new)) }
+            (steps.new ≡ steps.old + costs_between (seen self.old) (seen self.new)) }
         ensures at_least { steps.old ≤ steps.new }
-        ensures at_most { steps.new ≤ steps.old + rows_between (seen self.old) (seen self.new) };
+        ensures at_most { steps.new ≤ steps.old + costs_between (seen self.old) (seen self.new) };
 
     /// Adds a batch to a cube: it makes the cube's next version. A refused batch is dropped.
     fn append(&mut self, cube: CubeId, batch: Batch) -> Result<Appended, AppendFault>

@@ -4,7 +4,7 @@ ghost use Rattle.input_lines.specs.Asked.{asked};
 ghost use Rattle.input_lines.specs.Requests.{IsRequest};
 ghost use Rattle.outside.specs.Fetched.{Fetched};
 ghost use Rattle.outside.specs.Told.{AreTheirs};
-ghost use Rattle.line_session.specs.Desks.{GoesOn, rows_between};
+ghost use Rattle.line_session.specs.Desks.{GoesOn, costs_between};
 ghost use Rattle.line_session.specs.Replies.{AnswersRequest, Handles, TellsWhatIsSeen};
 ghost use Rattle.line_session.specs.Sessions.{ends_session};
 ghost use Rattle.line_session.specs.Tools.{tools_of};
@@ -59,7 +59,7 @@ fn reply_to_request<P: Desk, D: Depot, L: Ledger>(
         (asked request.now) position result }
     ensures files { D.files depot.new ≡ D.files depot.old }
     ensures at_least { steps.old ≤ steps.new }
-    ensures at_most { steps.new ≤ steps.old + rows_between (P.seen desk.old) (P.seen desk.new) }
+    ensures at_most { steps.new ≤ steps.old + costs_between (P.seen desk.old) (P.seen desk.new) }
 {
     match request {
         Request::NotText => Reply::fixed("ERR 2 UTF8\n"),
@@ -106,7 +106,7 @@ pub(crate) fn reply_to_line<P: Desk, D: Depot, L: Ledger>(
     ensures ends { result.1 ≡ ends_session line.now }
     ensures grown { GoesOn (P.seen desk.old) (P.seen desk.new) }
     ensures at_least { steps.old ≤ steps.new }
-    ensures at_most { steps.new ≤ steps.old + rows_between (P.seen desk.old) (P.seen desk.new) }
+    ensures at_most { steps.new ≤ steps.old + costs_between (P.seen desk.old) (P.seen desk.new) }
 {
     match read_request(alloc, line) {
         Ok(request) => {

@@ -8,7 +8,7 @@ ghost use Rattle.query_meaning.specs.Grids.{row_tuples};
 ghost use Rattle.query_meaning.specs.OwnAxes.{AreAxesOf};
 ghost use Rattle.query_meaning.specs.Replies.{no_memory_reply, refusal_reply};
 ghost use Rattle.query_meaning.specs.Resolution.{axes_meant};
-ghost use Rattle.line_session.specs.Desks.{rows_between};
+ghost use Rattle.line_session.specs.Desks.{costs_between};
 ghost use Rattle.line_session.specs.Replies.{AnswersMeaning};
 ghost use Rattle.line_session.specs.Tools.{tools_of};
 
@@ -71,7 +71,7 @@ fn reply_to_cells<P: Desk, L: Ledger>(
         (record { before = P.seen desk.old; after = P.seen desk.new; asked = [] })
         (Ok axes.now) position result }
     ensures at_least { steps.old ≤ steps.new }
-    ensures at_most { steps.new ≤ steps.old + rows_between (P.seen desk.old) (P.seen desk.new) }
+    ensures at_most { steps.new ≤ steps.old + costs_between (P.seen desk.old) (P.seen desk.new) }
 {
     match desk.ask(alloc, cells, &tools.widener, steps) {
         Ok(answer) => Reply::made(grid(alloc, catalog, axes, &answer, &tools.formatter)),
@@ -96,7 +96,7 @@ fn reply_to_axes<P: Desk, L: Ledger>(
         (record { before = P.seen desk.old; after = P.seen desk.new; asked = [] })
         (Ok axes.now) position result }
     ensures at_least { steps.old ≤ steps.new }
-    ensures at_most { steps.new ≤ steps.old + rows_between (P.seen desk.old) (P.seen desk.new) }
+    ensures at_most { steps.new ≤ steps.old + costs_between (P.seen desk.old) (P.seen desk.new) }
 {
     match cells(alloc, catalog, axes) {
         Ok(cells) => reply_to_cells(alloc, desk, catalog, tools, axes, cells.as_slice(), steps),
@@ -120,7 +120,7 @@ pub(crate) fn reply_to_query<P: Desk, L: Ledger>(
         (record { before = P.seen desk.old; after = P.seen desk.new; asked = [] })
         (axes_meant catalog.now query.now) position result }
     ensures at_least { steps.old ≤ steps.new }
-    ensures at_most { steps.new ≤ steps.old + rows_between (P.seen desk.old) (P.seen desk.new) }
+    ensures at_most { steps.new ≤ steps.old + costs_between (P.seen desk.old) (P.seen desk.new) }
 {
     match resolve(alloc, catalog, query) {
         Ok(axes) => reply_to_axes(alloc, desk, catalog, tools, &axes, steps),

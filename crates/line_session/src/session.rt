@@ -5,7 +5,7 @@ ghost use Rattle.outside.specs.Event.{Event, took};
 ghost use Rattle.outside.specs.Fetched.{Fetched};
 ghost use Rattle.outside.specs.Talks.{taken};
 ghost use Rattle.input_lines.specs.Reader.{IsAtEnd};
-ghost use Rattle.line_session.specs.Desks.{GoesOn, IsIdle, rows_between};
+ghost use Rattle.line_session.specs.Desks.{GoesOn, IsIdle, costs_between};
 ghost use Rattle.line_session.specs.Conversations.{HasConversed, IsCutOff, fresh, sent};
 ghost use Rattle.line_session.specs.Sessions.{IsServed, byte_limit};
 ghost use Rattle.line_session.specs.Turns.{HasPassed, Replies, Turn};
@@ -61,7 +61,7 @@ fn answer_line<P: Desk, K: Link, D: Depot, L: Ledger>(
     ensures grown { GoesOn (P.seen desk.old) (P.seen desk.new) }
     ensures files { D.files depot.new ≡ D.files depot.old }
     ensures at_least { steps.old ≤ steps.new }
-    ensures at_most { steps.new ≤ steps.old + rows_between (P.seen desk.old) (P.seen desk.new) }
+    ensures at_most { steps.new ≤ steps.old + costs_between (P.seen desk.old) (P.seen desk.new) }
 {
     let (reply, ends) = reply_to_line(alloc, desk, depot, catalog, tools, line, steps);
     match send(link, reply.as_str()) {
@@ -110,7 +110,7 @@ fn take_turn<P: Desk, K: Link, D: Depot, L: Ledger>(
     ensures grown { GoesOn (P.seen desk.old) (P.seen desk.new) }
     ensures files { D.files depot.new ≡ D.files depot.old }
     ensures at_least { steps.old ≤ steps.new }
-    ensures at_most { steps.new ≤ steps.old + rows_between (P.seen desk.old) (P.seen desk.new) }
+    ensures at_most { steps.new ≤ steps.old + costs_between (P.seen desk.old) (P.seen desk.new) }
 {
     match reader.next(link) {
         Ok(Next::Line) => answer_line(
@@ -172,7 +172,7 @@ pub fn serve<P: Desk, K: Link, D: Depot, L: Ledger>(
     ensures idle { IsIdle (P.seen desk.new) }
     ensures files { D.files depot.new ≡ D.files depot.old }
     ensures at_least { steps.old ≤ steps.new }
-    ensures at_most { steps.new ≤ steps.old + rows_between (P.seen desk.old) (P.seen desk.new) }
+    ensures at_most { steps.new ≤ steps.old + costs_between (P.seen desk.old) (P.seen desk.new) }
 {
     desk.seen_is_legal();
     let Ok(mut reader) = LineReader::new(alloc, most) else {

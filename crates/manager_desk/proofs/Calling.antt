@@ -10,6 +10,7 @@ use Rattle.olap_meaning.specs.declared.cells.Cell.{Cell}
 use Rattle.olap_meaning.specs.declared.cells.Header.{Header}
 use Rattle.olap_meaning.specs.declared.cells.Who.{Who}
 use Rattle.olap_meaning.specs.declared.regions.Region.{Region}
+use Rattle.olap_meaning.specs.declared.tables.Catalog.{Catalog}
 use Rattle.olap_meaning.specs.declared.tables.Row.{Row}
 use Rattle.olap_meaning.specs.History.{Entry, Append, Agg, Flush, Start, Done, Drop, Evict, Answer, Saw, is_some_and, started, version}
 use Rattle.olap_meaning.specs.Legal.{caller, is_call_below, is_call_of, is_next_call, Legal}
@@ -24,7 +25,7 @@ use Rattle.segment_header.specs.Widening.{Allowing}
 use Rattle.history_core.specs.Seats.{NoneFlies, is_of_seat, entries_of}
 use Rattle.history_core.specs.Shown.{cache_lines}
 use Rattle.line_session.specs.Desks.{AddsCall, AreLoadsFor, DeskOf, GoesOnBy, HasAppended, HasAsked, HasFlushed, HasNotAsked, HasShown, delivered_with, is_start_or_done, load_numbers, none_behind_drops, with_more}
-use Rattle.manager_desk.specs.Delivered.{rows_by}
+use Rattle.manager_desk.specs.Delivered.{cost_by}
 use Rattle.manager_desk.specs.Ends.{AddsAnswer, AddsEnded}
 use Rattle.manager_desk.specs.Keeping.{IsDesk}
 use Rattle.manager_desk.proofs.Counting.{count_one}
@@ -191,8 +192,8 @@ unused_next entries call unused = ap (list_all (is_call_below call)) (uncalled e
         by false at some rest = rw (call_own e at) (rest (rw at at some))
 
 -- what a desk keeps, with a number that was given to a call which added nothing
-pub desk_refused : (entries : List Entry) (who : Who) (last read : ℕ) → who ≡ record { seat = 1; call = last + 1 } → IsDesk entries last read → IsDesk entries who.call read
-desk_refused entries who last read is desk =
+pub desk_refused : (catalog : Catalog) (entries : List Entry) (who : Who) (last read : ℕ) → who ≡ record { seat = 1; call = last + 1 } → IsDesk catalog entries last read → IsDesk catalog entries who.call read
+desk_refused catalog entries who last read is desk =
     let number : who.call ≡ last + 1 = ap (λ (w : Who). w.call) is in
     record {
       idle = desk.idle;
@@ -200,10 +201,10 @@ desk_refused entries who last read is desk =
       count = desk.count;
     }
 
--- and behind a call of the seat which starts, ends and reads no load
+-- and behind a call of the seat which starts, ends and delivers no load
 desk_called :
-    (before : CacheOf) (after : List Entry) (who : Who) (call : Entry) (last read : ℕ) → caller call ≡ Some who → started call ≡ None → rows_by after 1 call ≡ 0 → Legal before.setting before.entries → after ≡ before.entries ++ call ∷ [] → who ≡ record { seat = 1; call = last + 1 } → IsDesk before.entries last read
-    → IsDesk after who.call read
+    (before : CacheOf) (after : List Entry) (who : Who) (call : Entry) (last read : ℕ) → caller call ≡ Some who → started call ≡ None → cost_by before.setting.catalog after 1 call ≡ 0 → Legal before.setting before.entries → after ≡ before.entries ++ call ∷ [] → who ≡ record { seat = 1; call = last + 1 } → IsDesk before.setting.catalog before.entries last read
+    → IsDesk before.setting.catalog after who.call read
 desk_called before after who call last read calls starts none legal grown is desk =
     let seat : who.seat ≡ 1 = ap (λ (w : Who). w.seat) is in
     let number : who.call ≡ last + 1 = ap (λ (w : Who). w.call) is in
@@ -217,14 +218,14 @@ desk_called before after who call last read calls starts none legal grown is des
 
 -- as an append, a flush and a look are
 pub desk_appended :
-    (before : CacheOf) (after : List Entry) (who : Who) (cube v : ℕ) (rows : List Row) (last read : ℕ) → Legal before.setting before.entries → after ≡ before.entries ++ Append who cube v rows ∷ [] → who ≡ record { seat = 1; call = last + 1 } → IsDesk before.entries last read
-    → IsDesk after who.call read
+    (before : CacheOf) (after : List Entry) (who : Who) (cube v : ℕ) (rows : List Row) (last read : ℕ) → Legal before.setting before.entries → after ≡ before.entries ++ Append who cube v rows ∷ [] → who ≡ record { seat = 1; call = last + 1 } → IsDesk before.setting.catalog before.entries last read
+    → IsDesk before.setting.catalog after who.call read
 desk_appended before after who cube v rows last read legal grown is desk = desk_called before after who (Append who cube v rows) last read refl refl refl legal grown is desk
 
-pub desk_flushed : (before : CacheOf) (after : List Entry) (who : Who) (region : Region) (last read : ℕ) → Legal before.setting before.entries → after ≡ before.entries ++ Flush who region ∷ [] → who ≡ record { seat = 1; call = last + 1 } → IsDesk before.entries last read → IsDesk after who.call read
+pub desk_flushed : (before : CacheOf) (after : List Entry) (who : Who) (region : Region) (last read : ℕ) → Legal before.setting before.entries → after ≡ before.entries ++ Flush who region ∷ [] → who ≡ record { seat = 1; call = last + 1 } → IsDesk before.setting.catalog before.entries last read → IsDesk before.setting.catalog after who.call read
 desk_flushed before after who region last read legal grown is desk = desk_called before after who (Flush who region) last read refl refl refl legal grown is desk
 
-pub desk_shown : (before : CacheOf) (after : List Entry) (who : Who) (last read : ℕ) → Legal before.setting before.entries → after ≡ before.entries ++ Saw who ∷ [] → who ≡ record { seat = 1; call = last + 1 } → IsDesk before.entries last read → IsDesk after who.call read
+pub desk_shown : (before : CacheOf) (after : List Entry) (who : Who) (last read : ℕ) → Legal before.setting before.entries → after ≡ before.entries ++ Saw who ∷ [] → who ≡ record { seat = 1; call = last + 1 } → IsDesk before.setting.catalog before.entries last read → IsDesk before.setting.catalog after who.call read
 desk_shown before after who last read legal grown is desk = desk_called before after who (Saw who) last read refl refl refl legal grown is desk
 
 -- rows that were appended

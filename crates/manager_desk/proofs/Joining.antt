@@ -1,20 +1,19 @@
 -- What an ask adds, joined from its looks and its loads.
-use Rattle.std.proofs.Common.{◌≡◌, refl, sym, ◌∙◌, ap, subst, ℕ, suc, ◌+◌, List, [], ◌∷◌, ◌++◌, append_assoc, length, map, filter, true, false, not, ◌==◌, ◌⊎◌, inl, inr, Some, None, is_some, arith, All}
+use Rattle.std.proofs.Common.{◌≡◌, refl, sym, ◌∙◌, ap, subst, ℕ, suc, ◌+◌, List, [], ◌∷◌, ◌++◌, append_assoc, length, map, filter, true, false, not, ◌==◌, ◌⊎◌, inl, inr, None, is_some, arith, All}
 use Rattle.std.specs.Prelude.{IsTrue, sum_by}
 use Rattle.std.specs.List.{list_all, list_any}
 use Rattle.std.proofs.lemmas.Bool.{and_parts, both_ways, eq-eqb, false_from_ne_true, or_cases, or_left, or_right}
 use Rattle.std.proofs.lemmas.List.{append-nil, length-append}
-use Rattle.std.proofs.lemmas.List.Elements.{All-append, All-cons, All-contains, All-head, All-nil, All-tail, filter-append}
+use Rattle.std.proofs.lemmas.List.Elements.{All-cons, All-contains, All-head, All-nil, All-tail, filter-append}
 use Rattle.std.proofs.lemmas.List.Folds.{list_any-append}
-use Rattle.std.proofs.lemmas.List.Sums.{sum_by-append, sum_by-cons}
 use Rattle.olap_meaning.specs.declared.cells.Cell.{Cell}
 use Rattle.olap_meaning.specs.declared.cells.Header.{Header}
 use Rattle.olap_meaning.specs.declared.cells.Who.{Who}
 use Rattle.olap_meaning.specs.declared.tables.Setting.{Setting}
 use Rattle.olap_meaning.specs.Covering.{among}
-use Rattle.olap_meaning.specs.History.{Entry, Append, Agg, Flush, Start, Done, Drop, Evict, Answer, Saw, Load, delivers, evicts, flushes, flying, is_some_and, kept, started}
+use Rattle.olap_meaning.specs.History.{Entry, Append, Agg, Flush, Start, Done, Drop, Evict, Answer, Saw, Load, delivers, evicts, flushes, flying, kept, started}
 use Rattle.olap_meaning.specs.Legal.{Legal, has_source, is_call_below, is_call_of, is_cell, is_next_call}
-use Rattle.segment_load.specs.Loads.{JobOf}
+use Rattle.segment_load.specs.Loads.{JobOf, job_cost}
 use Rattle.olap_meaning.proofs.Loads.{kept_from}
 use Rattle.olap_meaning.proofs.Steps.{none_evicted}
 use Rattle.history_core.specs.declared.answers.Answer.{Answer as Told}
@@ -22,15 +21,18 @@ use Rattle.history_core.specs.Answers.{HasSource, IsAnswer, SomeWants}
 use Rattle.history_core.specs.Cache.{CacheOf}
 use Rattle.history_core.specs.Groups.{loads_with, numbers_from, wanted_of, wanting}
 use Rattle.segment_header.specs.Widening.{Allowing}
-use Rattle.history_core.specs.Seats.{NoneFlies, actor, is_of_seat}
+use Rattle.history_core.specs.Seats.{NoneFlies}
 use Rattle.cache_manager.specs.Jobs.{IsJobOf}
 use Rattle.cache_manager.proofs.Pushes.{flying_back}
 use Rattle.cache_manager.proofs.Ready.{delivered_looks_are_ready, serving_headers}
-use Rattle.line_session.specs.Desks.{AreEnds, AreHeadersOf, delivered_with, is_of_load, load_numbers, rows_to_read, rows_started, with_more}
-use Rattle.manager_desk.specs.Ends.{AddsAnswer, AddsEnded, AreOut, EndsJobs, done_of, rows_of_job}
+use Rattle.line_session.specs.Desks.{AreEnds, AreHeadersOf, delivered_with, is_of_load, load_numbers, costs_started, with_more}
+use Rattle.manager_desk.specs.Ends.{AddsAnswer, AddsEnded, AreOut, EndsJobs, done_of}
 use Rattle.manager_desk.proofs.Looks.{look_parts}
-use Rattle.manager_desk.proofs.Own.{IsPartOf, dones_are_ends, dones_of_call, ends_of_call, loads_counted, loads_own, parts_all, parts_seat}
-use Rattle.manager_desk.proofs.Reading.{dones_read_none, jobs_are, rows_started_are}
+use Rattle.manager_desk.proofs.Own.{dones_of_call, ends_of_call, loads_counted, loads_own, parts_all}
+use Rattle.line_session.proofs.Rows.{started_are}
+use Rattle.load_costs.specs.Costs.{seat_cost, seat_costs}
+use Rattle.load_costs.proofs.CostFacts.{costs-append}
+use Rattle.manager_desk.proofs.Reading.{dones_cost_none, jobs_are}
 
 -- after some Starts only their loads may fly, beside those that did
 started_flying : (entries : List Entry) (loads : List Load) (n j : ℕ) → n ≡ length entries + 1 → flying (entries ++ map Start loads) j ≡ true → (flying entries j ≡ true) ⊎ (among (numbers_from n (length loads)) j ≡ true)
@@ -174,15 +176,15 @@ module _ (allowing : Allowing) (before middle : CacheOf) (who : Who) (cells : Li
   pub numbers_are : map (λ job. job.load) jobs ≡ numbers_from (length before.entries + 1) (length (loads_with before who cells headers))
   numbers_are = look.numbers ∙ ap (numbers_from (length before.entries + 1)) (sym (loads_counted allowing before who cells headers look.allowed))
 
-  whole_jobs : (rest : List Entry)
-      → All (λ job. job.who ≡ who) jobs × (sum_by rows_of_job jobs ≡ sum_by (rows_to_read ((before.entries ++ map Start (loads_with before who cells headers)) ++ rest)) (map Start (loads_with before who cells headers)))
-  whole_jobs rest =
-      jobs_are middle.setting before.entries (loads_with before who cells headers) jobs who rest (length before.entries + 1) (subst (Legal middle.setting) look.entries look.legal) refl numbers_are
+  -- of whose call the jobs are, and what they cost
+  whole_jobs : All (λ job. job.who ≡ who) jobs × (who.seat ≡ 1 → sum_by job_cost jobs ≡ seat_costs middle.setting.catalog 1 before.entries (map Start (loads_with before who cells headers)))
+  whole_jobs =
+      jobs_are middle.setting before.entries (loads_with before who cells headers) jobs who (length before.entries + 1) refl numbers_are
       (subst (λ (es : List Entry). All (IsJobOf (record { setting = middle.setting; entries = es })) jobs) look.entries look.are) (loads_own before who cells headers)
 
   -- the jobs are of the call
   pub jobs_own : All (λ job. job.who ≡ who) jobs
-  jobs_own = (whole_jobs []).0
+  jobs_own = whole_jobs.0
 
   -- the ends of the jobs, behind the Starts
   pub ended_added : (after : List Entry) (ended : EndsJobs middle.entries after jobs) → after ≡ before.entries ++ (map Start (loads_with before who cells headers) ++ ended.ends)
@@ -212,35 +214,29 @@ module _ (allowing : Allowing) (before middle : CacheOf) (who : Who) (cells : Li
       ended ∙ ap (λ (es : List Entry). es ++ map done_of jobs) look.entries ∙ append_assoc before.entries (map Start (loads_with before who cells headers)) (map done_of jobs)
       ∙ ap (λ (es : List Entry). before.entries ++ (map Start (loads_with before who cells headers) ++ es)) (dones_of_call who jobs jobs_own ∙ ap (map (Done who)) look.numbers)
 
-  -- what the jobs read, beside the rows of what came after the Starts
-  pub read_by_starts :
-      (after rest : List Entry) → after ≡ middle.entries ++ rest → All (λ e. is_of_seat 1 e ≡ true) (map Start (loads_with before who cells headers) ++ rest)
-      → rows_started 1 before.entries after ≡ sum_by rows_of_job jobs + sum_by (rows_to_read after) rest
-  read_by_starts after rest grown own =
-      let joined : after ≡ (before.entries ++ map Start (loads_with before who cells headers)) ++ rest = grown ∙ ap (λ (es : List Entry). es ++ rest) look.entries in
-      rows_started_are before.entries after (map Start (loads_with before who cells headers)) rest (joined ∙ append_assoc before.entries (map Start (loads_with before who cells headers)) rest) own
-      ∙ ap (λ (m : ℕ). m + sum_by (rows_to_read after) rest) (ap (λ (es : List Entry). sum_by (rows_to_read es) (map Start (loads_with before who cells headers))) joined ∙ sym (whole_jobs rest).1)
+  -- what the jobs cost, beside what came after the Starts
+  cost_by_starts :
+      (after rest : List Entry) → after ≡ middle.entries ++ rest → who.seat ≡ 1
+      → costs_started before.setting.catalog 1 before.entries after ≡ sum_by job_cost jobs + seat_costs before.setting.catalog 1 middle.entries rest
+  cost_by_starts after rest grown seat =
+      let starts = map Start (loads_with before who cells headers) in
+      let catalog = before.setting.catalog in
+      let joined : after ≡ before.entries ++ (starts ++ rest) = grown ∙ ap (λ (es : List Entry). es ++ rest) look.entries ∙ append_assoc before.entries starts rest in
+      started_are catalog 1 before.entries after (starts ++ rest) joined
+      ∙ costs-append catalog 1 before.entries starts rest
+      ∙ ap (λ (m : ℕ). m + seat_costs catalog 1 (before.entries ++ starts) rest) (ap (λ (s : Setting). seat_costs s.catalog 1 before.entries starts) (sym look.setting) ∙ sym (whole_jobs.1 seat))
+      ∙ ap (λ (es : List Entry). sum_by job_cost jobs + seat_costs catalog 1 es rest) (sym look.entries)
 
-  pub read_ended : (after : List Entry) (ended : EndsJobs middle.entries after jobs) → who.seat ≡ 1 → rows_started 1 before.entries after ≡ sum_by rows_of_job jobs + sum_by (rows_to_read after) ended.ends
-  read_ended after ended seat =
-      read_by_starts after ended.ends ended.entries (parts_seat who 1 (map Start (loads_with before who cells headers) ++ ended.ends) seat (look_parts before who cells headers ended.ends (ended_are after ended)))
+  pub cost_ended : (after : List Entry) (ended : EndsJobs middle.entries after jobs) → who.seat ≡ 1 → costs_started before.setting.catalog 1 before.entries after ≡ sum_by job_cost jobs + seat_costs before.setting.catalog 1 middle.entries ended.ends
+  cost_ended after ended seat = cost_by_starts after ended.ends ended.entries seat
 
-  -- where they were all delivered and the cells were answered, just the jobs' rows were read
-  pub read_in_all :
-      (after : List Entry) (answer : Entry) → who.seat ≡ 1 → actor answer ≡ Some who → ((es : List Entry) → rows_to_read es answer ≡ 0) → after ≡ (middle.entries ++ map done_of jobs) ++ answer ∷ []
-      → rows_started 1 before.entries after ≡ sum_by rows_of_job jobs
-  read_in_all after answer seat own none grown =
-      let dones : map done_of jobs ≡ map (Done who) (load_numbers before cells) = dones_of_call who jobs jobs_own ∙ ap (map (Done who)) look.numbers in
-      let parts : All (IsPartOf who) (map Start (loads_with before who cells headers) ++ map done_of jobs) =
-      subst (λ (es : List Entry). All (IsPartOf who) (map Start (loads_with before who cells headers) ++ es)) (sym dones)
-      (look_parts before who cells headers (map (Done who) (load_numbers before cells)) (dones_are_ends who (load_numbers before cells))) in
-      let last : All (λ e. is_of_seat 1 e ≡ true) (answer ∷ []) =
-      All-cons (λ e. is_of_seat 1 e ≡ true) answer [] (ap (is_some_and (λ (w : Who). w.seat == 1)) own ∙ eq-eqb who.seat 1 seat) (All-nil (λ e. is_of_seat 1 e ≡ true)) in
-      let all : All (λ e. is_of_seat 1 e ≡ true) ((map Start (loads_with before who cells headers) ++ map done_of jobs) ++ answer ∷ []) =
-      All-append (λ e. is_of_seat 1 e ≡ true) (map Start (loads_with before who cells headers) ++ map done_of jobs) (answer ∷ []) (parts_seat who 1 (map Start (loads_with before who cells headers) ++ map done_of jobs) seat parts) last in
-      let read = read_by_starts after (map done_of jobs ++ answer ∷ []) (grown ∙ append_assoc middle.entries (map done_of jobs) (answer ∷ []))
-      (subst (λ (es : List Entry). All (λ e. is_of_seat 1 e ≡ true) es) (append_assoc (map Start (loads_with before who cells headers)) (map done_of jobs) (answer ∷ [])) all) in
-      let split = sum_by-append (rows_to_read after) (map done_of jobs) (answer ∷ []) in
-      let one : sum_by (rows_to_read after) (answer ∷ []) ≡ rows_to_read after answer + 0 = sum_by-cons (rows_to_read after) answer [] in
-      let nothing : rows_to_read after answer ≡ 0 = none after in
-      omega (arith, read, split, dones_read_none after jobs, one, nothing)
+  -- where they were all delivered and the cells were answered, it is just what the jobs cost
+  pub cost_in_all :
+      (after : List Entry) (answer : Entry) → who.seat ≡ 1 → ((es : List Entry) → seat_cost before.setting.catalog 1 es answer ≡ 0) → after ≡ (middle.entries ++ map done_of jobs) ++ answer ∷ []
+      → costs_started before.setting.catalog 1 before.entries after ≡ sum_by job_cost jobs
+  cost_in_all after answer seat none grown =
+      let catalog = before.setting.catalog in
+      let all = cost_by_starts after (map done_of jobs ++ answer ∷ []) (grown ∙ append_assoc middle.entries (map done_of jobs) (answer ∷ [])) seat in
+      let split = costs-append catalog 1 middle.entries (map done_of jobs) (answer ∷ []) in
+      let nothing = none (middle.entries ++ map done_of jobs) in
+      omega (arith, all, split, dones_cost_none catalog middle.entries jobs, nothing)

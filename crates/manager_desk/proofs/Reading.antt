@@ -1,24 +1,21 @@
--- What the jobs of a look read is what its loads cost, and each job is of its call.
-use Rattle.std.proofs.Common.{◌≡◌, refl, sym, ◌∙◌, ap, subst, ℕ, suc, ◌+◌, List, [], ◌∷◌, ◌++◌, append_assoc, length, map, drop, true, Some, slice_get, arith, All}
-use Rattle.std.specs.Prelude.{sum_by}
+-- What the jobs of a look cost is what its loads cost, and each job is of its call.
+use Rattle.std.proofs.Common.{◌≡◌, refl, sym, ◌∙◌, ap, subst, ℕ, suc, ◌+◌, ◌==◌, List, [], ◌∷◌, ◌++◌, append_assoc, length, map, Bool, true, Some, slice_get, arith, All}
+use Rattle.std.specs.Prelude.{sum_by, if◌then◌else◌}
+use Rattle.std.proofs.lemmas.Bool.{eq-eqb}
 use Rattle.std.proofs.lemmas.List.{length-append}
 use Rattle.std.proofs.lemmas.List.Elements.{All-cons, All-head, All-nil, All-tail}
-use Rattle.std.proofs.lemmas.List.Sums.{sum_by-append, sum_by-cons}
-use Rattle.std.proofs.Math.Seq.{drop-append_seam}
+use Rattle.std.proofs.lemmas.List.Sums.{sum_by-cons}
 use Rattle.olap_meaning.specs.declared.cells.Who.{Who}
+use Rattle.olap_meaning.specs.declared.tables.Catalog.{Catalog}
 use Rattle.olap_meaning.specs.declared.tables.Setting.{Setting}
 use Rattle.olap_meaning.specs.History.{Entry, Start, Load, load_at}
-use Rattle.olap_meaning.specs.Legal.{Legal}
-use Rattle.olap_meaning.specs.Worth.{load_rows}
 use Rattle.olap_meaning.proofs.Loads.{start_load}
-use Rattle.segment_load.specs.Loads.{JobOf}
+use Rattle.segment_load.specs.Loads.{JobOf, job_cost}
+use Rattle.load_costs.specs.Costs.{cost, seat_cost, seat_costs, start_cost}
+use Rattle.load_costs.proofs.CostFacts.{cost_at}
 use Rattle.history_core.specs.Groups.{numbers_from}
-use Rattle.history_core.specs.Seats.{is_of_seat, entries_of}
 use Rattle.cache_manager.specs.Jobs.{IsJobOf}
-use Rattle.line_session.specs.Desks.{rows_to_read, rows_started}
-use Rattle.manager_desk.specs.Ends.{done_of, rows_of_job}
-use Rattle.manager_desk.proofs.Counting.{cost_stays, job_costs}
-use Rattle.manager_desk.proofs.Own.{own_entries}
+use Rattle.manager_desk.specs.Ends.{done_of}
 
 get_seam : (entries rest : List Entry) (entry : Entry) → slice_get (entries ++ entry ∷ rest) (length entries) ≡ Some entry
 get_seam [] rest entry = refl
@@ -32,22 +29,19 @@ job_load setting entries load rest job is number =
     let both : Some is.load ≡ Some load = sym is.flies.started ∙ ap (load_at (entries ++ Start load ∷ rest)) e ∙ place in
     cc
 
--- the jobs of some loads, one for each: of whose calls they are, and what they read
+-- the jobs of some loads, one for each: of whose calls they are, and what they cost
 pub jobs_are :
-    (setting : Setting) (entries : List Entry) (loads : List Load) (jobs : List JobOf) (who : Who) (rest : List Entry) (n : ℕ) → Legal setting (entries ++ map Start loads) → n ≡ length entries + 1 → map (λ job. job.load) jobs ≡ numbers_from n (length loads)
+    (setting : Setting) (entries : List Entry) (loads : List Load) (jobs : List JobOf) (who : Who) (n : ℕ) → n ≡ length entries + 1 → map (λ job. job.load) jobs ≡ numbers_from n (length loads)
     → All (IsJobOf (record { setting = setting; entries = entries ++ map Start loads })) jobs → All (λ load. load.who ≡ who) loads
-    → All (λ job. job.who ≡ who) jobs × (sum_by rows_of_job jobs ≡ sum_by (rows_to_read ((entries ++ map Start loads) ++ rest)) (map Start loads))
-jobs_are setting entries [] [] who rest n legal at numbers all own = (All-nil (λ job. job.who ≡ who), refl)
-jobs_are setting entries [] (job ∷ jobs) who rest n legal at numbers all own = absurd (cc)
-jobs_are setting entries (load ∷ loads) [] who rest n legal at numbers all own = absurd (cc)
-jobs_are setting entries (load ∷ loads) (job ∷ jobs) who rest n legal at numbers all own =
-    joined_up (jobs_are setting (entries ++ Start load ∷ []) loads jobs who rest (suc n))
+    → All (λ job. job.who ≡ who) jobs × (who.seat ≡ 1 → sum_by job_cost jobs ≡ seat_costs setting.catalog 1 entries (map Start loads))
+jobs_are setting entries [] [] who n at numbers all own = (All-nil (λ job. job.who ≡ who), λ seat. refl)
+jobs_are setting entries [] (job ∷ jobs) who n at numbers all own = absurd (cc)
+jobs_are setting entries (load ∷ loads) [] who n at numbers all own = absurd (cc)
+jobs_are setting entries (load ∷ loads) (job ∷ jobs) who n at numbers all own =
+    joined_up (jobs_are setting (entries ++ Start load ∷ []) loads jobs who (suc n))
   where
     whole : List Entry
     whole = entries ++ map Start (load ∷ loads)
-
-    final : List Entry
-    final = whole ++ rest
 
     is : IsJobOf (record { setting = setting; entries = whole }) job
     is = All-head (IsJobOf (record { setting = setting; entries = whole })) job jobs all
@@ -58,42 +52,42 @@ jobs_are setting entries (load ∷ loads) (job ∷ jobs) who rest n legal at num
     later : map (λ j. j.load) jobs ≡ numbers_from (suc n) (length loads)
     later = cc
 
+    first : load.who ≡ who
+    first = All-head (λ l. l.who ≡ who) load loads own
+
     same : is.load ≡ load
     same = job_load setting entries load (map Start loads) job is (number ∙ at)
 
-    here : rows_of_job job ≡ load_rows final load
-    here = job_costs (record { setting = setting; entries = whole }) job is ∙ sym (cost_stays setting whole rest job.load is.load legal is.flies.started) ∙ ap (load_rows final) same
-
     whose : job.who ≡ who
-    whose = sym is.flies.own ∙ ap (λ (l : Load). l.who) same ∙ All-head (λ l. l.who ≡ who) load loads own
+    whose = sym is.flies.own ∙ ap (λ (l : Load). l.who) same ∙ first
 
     joined : (entries ++ Start load ∷ []) ++ map Start loads ≡ whole
     joined = append_assoc entries (Start load ∷ []) (map Start loads)
 
+    here : who.seat ≡ 1 → job_cost job ≡ seat_cost setting.catalog 1 entries (Start load)
+    here seat =
+        let place : job.load ≡ suc (length entries) = omega (arith, number, at) in
+        let mine : (load.who.seat == 1) ≡ true = eq-eqb load.who.seat 1 (ap (λ (w : Who). w.seat) first ∙ seat) in
+        is.costs ∙ ap (cost setting.catalog whole) place ∙ cost_at setting.catalog entries (map Start loads) load
+        ∙ ap (λ (b : Bool). if b then start_cost setting.catalog entries load else 0) (sym mine)
+
     joined_up :
-        (Legal setting ((entries ++ Start load ∷ []) ++ map Start loads) → suc n ≡ length (entries ++ Start load ∷ []) + 1 → map (λ j. j.load) jobs ≡ numbers_from (suc n) (length loads)
+        (suc n ≡ length (entries ++ Start load ∷ []) + 1 → map (λ j. j.load) jobs ≡ numbers_from (suc n) (length loads)
         → All (IsJobOf (record { setting = setting; entries = (entries ++ Start load ∷ []) ++ map Start loads })) jobs → All (λ l. l.who ≡ who) loads
-        → All (λ j. j.who ≡ who) jobs × (sum_by rows_of_job jobs ≡ sum_by (rows_to_read (((entries ++ Start load ∷ []) ++ map Start loads) ++ rest)) (map Start loads)))
-        → All (λ j. j.who ≡ who) (job ∷ jobs) × (sum_by rows_of_job (job ∷ jobs) ≡ sum_by (rows_to_read final) (map Start (load ∷ loads)))
+        → All (λ j. j.who ≡ who) jobs × (who.seat ≡ 1 → sum_by job_cost jobs ≡ seat_costs setting.catalog 1 (entries ++ Start load ∷ []) (map Start loads)))
+        → All (λ j. j.who ≡ who) (job ∷ jobs) × (who.seat ≡ 1 → sum_by job_cost (job ∷ jobs) ≡ seat_costs setting.catalog 1 entries (map Start (load ∷ loads)))
     joined_up more =
         let others =
-        more (subst (Legal setting) (sym joined) legal) (let l = length-append entries (Start load ∷ []) in omega (arith, at, l)) later
+        more (let l = length-append entries (Start load ∷ []) in omega (arith, at, l)) later
         (subst (λ (es : List Entry). All (IsJobOf (record { setting = setting; entries = es })) jobs) (sym joined) (All-tail (IsJobOf (record { setting = setting; entries = whole })) job jobs all))
         (All-tail (λ l. l.who ≡ who) load loads own) in (
           All-cons (λ j. j.who ≡ who) job jobs whose others.0,
-          sum_by-cons rows_of_job job jobs ∙ ap (λ (m : ℕ). m + sum_by rows_of_job jobs) here
-              ∙ ap (λ (m : ℕ). load_rows final load + m) (others.1 ∙ ap (λ (es : List Entry). sum_by (rows_to_read (es ++ rest)) (map Start loads)) joined)
-              ∙ sym (sum_by-cons (rows_to_read final) (Start load) (map Start loads)),
+          λ seat.
+              sum_by-cons job_cost job jobs ∙ ap (λ (m : ℕ). m + sum_by job_cost jobs) (here seat)
+              ∙ ap (λ (m : ℕ). seat_cost setting.catalog 1 entries (Start load) + m) (others.1 seat),
         )
 
--- the rows of the loads that a seat has started, where all that was added is its own
-pub rows_started_are : (before final : List Entry) (starts rest : List Entry) → final ≡ before ++ (starts ++ rest) → All (λ e. is_of_seat 1 e ≡ true) (starts ++ rest) → rows_started 1 before final ≡ sum_by (rows_to_read final) starts + sum_by (rows_to_read final) rest
-rows_started_are before final starts rest grown own =
-    ap (λ (es : List Entry). sum_by (rows_to_read final) (entries_of (drop (length before) es) 1)) grown
-    ∙ ap (λ (es : List Entry). sum_by (rows_to_read final) (entries_of es 1)) (drop-append_seam before (starts ++ rest))
-    ∙ ap (sum_by (rows_to_read final)) (own_entries 1 (starts ++ rest) own)
-    ∙ sum_by-append (rows_to_read final) starts rest
-
-pub dones_read_none : (final : List Entry) (jobs : List JobOf) → sum_by (rows_to_read final) (map done_of jobs) ≡ 0
-dones_read_none final [] = refl
-dones_read_none final (job ∷ jobs) = sum_by-cons (rows_to_read final) (done_of job) (map done_of jobs) ∙ ap (λ (m : ℕ). 0 + m) (dones_read_none final jobs)
+-- a delivery starts no load
+pub dones_cost_none : (catalog : Catalog) (before : List Entry) (jobs : List JobOf) → seat_costs catalog 1 before (map done_of jobs) ≡ 0
+dones_cost_none catalog before [] = refl
+dones_cost_none catalog before (job ∷ jobs) = let rest = dones_cost_none catalog (before ++ done_of job ∷ []) jobs in omega (arith, rest)

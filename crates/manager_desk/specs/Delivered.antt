@@ -1,15 +1,15 @@
--- What the loads of a seat that were delivered have read.
+-- What the loads of a seat that were delivered have cost.
 use Rattle.std.specs.Prelude.{ℕ, ◌==◌, List, sum_by, if◌then◌else◌}
-use Rattle.std.specs.Option.{option_map_or}
-use Rattle.olap_meaning.specs.History.{Entry, Done, load_at}
-use Rattle.olap_meaning.specs.Worth.{load_rows}
+use Rattle.olap_meaning.specs.declared.tables.Catalog.{Catalog}
+use Rattle.olap_meaning.specs.History.{Entry, Done}
+use Rattle.load_costs.specs.Costs.{cost}
 
--- the rows of the load that an entry delivers, where it is a seat's
-abbrev pub rows_by : List Entry → ℕ → Entry → ℕ
-rows_by history seat (Done who load) =
-    if who.seat == seat then option_map_or (load_rows history) (load_at history load) 0 else 0
-rows_by history seat _ = 0
+-- what the load cost that an entry delivers, where it is a seat's
+abbrev pub cost_by : Catalog → List Entry → ℕ → Entry → ℕ
+cost_by catalog history seat (Done who load) =
+    if who.seat == seat then cost catalog history load else 0
+cost_by catalog history seat _ = 0
 
--- the rows of all the loads that a seat has delivered
-abbrev pub rows_delivered : ℕ → List Entry → ℕ
-rows_delivered seat history = sum_by (rows_by history seat) history
+-- what all the loads cost that a seat has delivered
+abbrev pub costs_delivered : Catalog → ℕ → List Entry → ℕ
+costs_delivered catalog seat history = sum_by (cost_by catalog history seat) history

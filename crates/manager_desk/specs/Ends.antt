@@ -1,11 +1,10 @@
 -- How the loads of a look are ended, and what an ask adds to a manager's history.
-use Rattle.std.specs.Prelude.{ℕ, ◌≡◌, ◌⊎◌, ⊤, List, [], ◌∷◌, ◌++◌, Bool, true, false, length, map}
+use Rattle.std.specs.Prelude.{ℕ, ◌≡◌, ◌⊎◌, ⊤, List, [], ◌∷◌, ◌++◌, Bool, true, false, map}
 use Rattle.olap_meaning.specs.declared.cells.Cell.{Cell}
 use Rattle.olap_meaning.specs.declared.cells.Header.{Header}
 use Rattle.olap_meaning.specs.declared.cells.Who.{Who}
 use Rattle.olap_meaning.specs.Covering.{among}
 use Rattle.olap_meaning.specs.History.{Entry, Done, Drop, Answer, flying}
-use Rattle.fact_reader.specs.BodyRows.{rows_in}
 use Rattle.segment_load.specs.Loads.{JobOf}
 use Rattle.history_core.specs.Answers.{IsAnswer}
 use Rattle.history_core.specs.Cache.{CacheOf}
@@ -21,10 +20,6 @@ end_of job false = Drop job.who job.load
 -- the entry that delivers the load of a job
 abbrev pub done_of : JobOf → Entry
 done_of job = Done job.who job.load
-
--- the rows that a job reads
-abbrev pub rows_of_job : JobOf → ℕ
-rows_of_job job = length (rows_in job.snapshot)
 
 -- each load that flies is that of one of some jobs
 abbrev pub AreOut : List Entry → List JobOf → Type 0

@@ -3,15 +3,15 @@ ghost use Rattle.std.specs.Prelude.{◌≡◌, ◌≤◌, ◌+◌, ◌++◌, ◌
 ghost use Rattle.std.specs.List.{list_all};
 ghost use Rattle.olap_meaning.specs.History as history;
 ghost use Rattle.olap_meaning.specs.Legal.{is_next_call, is_cell};
-ghost use Rattle.fact_reader.specs.BodyRows.{rows_in};
 ghost use Rattle.segment_header.specs.Widening.{Widened};
 ghost use Rattle.cache_manager.specs.Jobs.{IsJobOf, IsOwnBody};
 ghost use Rattle.cache_manager.specs.Runs.{apart};
 ghost use Rattle.history_core.specs.Answers.{HasSource, IsAnswer};
 ghost use Rattle.history_core.specs.Seats.{NoneFlies};
-ghost use Rattle.line_session.specs.Desks.{rows_started};
-ghost use Rattle.manager_desk.specs.Ends.{AddsAnswer, AddsEnded, AreOut, EndsJobs, done_of, end_of, rows_of_job};
+ghost use Rattle.line_session.specs.Desks.{costs_started};
+ghost use Rattle.manager_desk.specs.Ends.{AddsAnswer, AddsEnded, AreOut, EndsJobs, done_of, end_of};
 ghost use Rattle.manager_desk.specs.Keeping.{IsCount};
+ghost use Rattle.segment_load.specs.Loads.{job_cost};
 
 use cache_manager::{Look, Manager};
 use fact_versions::Steps;
@@ -23,7 +23,7 @@ use std::alloc::Global;
 use std::sync::ledger::Ledger;
 
 /// Ends a load of seat 1: where no load failed before, it is run and delivered; else, and where memory runs out, it is
-/// given up. Tells whether it was delivered, and counts the rows if so.
+/// given up. Tells whether it was delivered, and counts what it cost if so.
 fn end_load<L: Ledger>(
     alloc: Global,
     manager: &mut Manager,
@@ -34,26 +34,26 @@ fn end_load<L: Ledger>(
 ) -> bool
     requires job { IsJobOf manager.old job }
     requires seat { job.who.seat ≡ 1 }
-    requires count { IsCount manager.old.entries read.old }
+    requires count { IsCount manager.old.setting.catalog manager.old.entries read.old }
     ensures setting { manager.new.setting ≡ manager.old.setting }
     ensures entry { manager.new.entries ≡ manager.old.entries ++ end_of job result ∷ [] }
-    ensures count { IsCount manager.new.entries read.new }
+    ensures count { IsCount manager.old.setting.catalog manager.new.entries read.new }
     ensures failed { result ≡ true → run ≡ true }
-    ensures cost { result ≡ true → steps.new ≡ steps.old + length (rows_in job.snapshot) }
+    ensures cost { result ≡ true → steps.new ≡ steps.old + job_cost job }
     ensures at_least { steps.old ≤ steps.new }
-    ensures at_most { steps.new ≤ steps.old + length (rows_in job.snapshot) }
+    ensures at_most { steps.new ≤ steps.old + job_cost job }
 {
     manager.steps_are_legal();
     if !run {
         manager.abandon(job);
         return false;
     }
-    let rows = job.cost();
+    let cost = job.cost();
     match run_load(alloc, job, steps) {
         Ok(delivery) => {
             let _entries = manager.history().len();
             manager.deliver(delivery);
-            *read += u128::from(rows);
+            *read += u128::from(cost);
             true
         }
         Err(back) => {
@@ -76,16 +76,16 @@ fn end_loads<L: Ledger>(
     requires seats { All (λ job. job.who.seat ≡ 1) jobs }
     requires different { apart (map (λ job. job.load) jobs) ≡ true }
     requires complete { AreOut manager.old.entries jobs }
-    requires count { IsCount manager.old.entries read.old }
+    requires count { IsCount manager.old.setting.catalog manager.old.entries read.old }
     ensures setting { manager.new.setting ≡ manager.old.setting }
     ensures ended { EndsJobs manager.old.entries manager.new.entries jobs }
     ensures closed { NoneFlies manager.new.entries }
     ensures delivered { result ≡ true → manager.new.entries ≡ manager.old.entries
         ++ map done_of jobs }
-    ensures count { IsCount manager.new.entries read.new }
-    ensures cost { result ≡ true → steps.new ≡ steps.old + sum_by rows_of_job jobs }
+    ensures count { IsCount manager.old.setting.catalog manager.new.entries read.new }
+    ensures cost { result ≡ true → steps.new ≡ steps.old + sum_by job_cost jobs }
     ensures at_least { steps.old ≤ steps.new }
-    ensures at_most { steps.new ≤ steps.old + sum_by rows_of_job jobs }
+    ensures at_most { steps.new ≤ steps.old + sum_by job_cost jobs }
 {
     let mut run = true;
     for job in jobs.into_vec() {
@@ -135,7 +135,7 @@ pub(crate) fn ask<L: Ledger>(
     requires seat { who.seat ≡ 1 }
     requires known { IsTrue (list_all (is_cell manager.old.setting.catalog) cells.now) }
     requires idle { NoneFlies manager.old.entries }
-    requires count { IsCount manager.old.entries read.old }
+    requires count { IsCount manager.old.setting.catalog manager.old.entries read.old }
     ensures answered { IfOk result (AddsAnswer
         (Widened (⟦<Widener as AllowsValues>⟧.answers widener.now))
         manager.old manager.new who cells.now) }
@@ -143,12 +143,12 @@ pub(crate) fn ask<L: Ledger>(
         (Widened (⟦<Widener as AllowsValues>⟧.answers widener.now))
         manager.old manager.new who cells.now) }
     ensures idle { NoneFlies manager.new.entries }
-    ensures count { IsCount manager.new.entries read.new }
+    ensures count { IsCount manager.old.setting.catalog manager.new.entries read.new }
     ensures cost { OnOk result
-        (steps.new ≡ steps.old + rows_started 1 manager.old.entries manager.new.entries) }
+        (steps.new ≡ steps.old + costs_started manager.old.setting.catalog 1 manager.old.entries manager.new.entries) }
     ensures at_least { steps.old ≤ steps.new }
     ensures at_most { steps.new
-        ≤ steps.old + rows_started 1 manager.old.entries manager.new.entries }
+        ≤ steps.old + costs_started manager.old.setting.catalog 1 manager.old.entries manager.new.entries }
 {
     manager.steps_are_legal();
     match manager.look(who, cells, widener)? {

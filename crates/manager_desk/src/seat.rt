@@ -4,8 +4,8 @@ ghost use Rattle.std.specs.List.{list_all};
 ghost use Rattle.olap_meaning.specs.Legal.{Legal, is_cell, is_flushable};
 ghost use Rattle.fact_reader.specs.BodyRows.{is_batch};
 ghost use Rattle.history_core.specs.Seats.{NoneFlies, entries_of};
-ghost use Rattle.line_session.specs.Desks.{AddsNone, HasAppended, HasAsked, HasFlushed, HasReadFront, HasNotAppended, HasNotAsked, HasShown, IsIdle, rows_between};
-ghost use Rattle.manager_desk.specs.Delivered.{rows_delivered};
+ghost use Rattle.line_session.specs.Desks.{AddsNone, HasAppended, HasAsked, HasFlushed, HasReadFront, HasNotAppended, HasNotAsked, HasShown, IsIdle, costs_between};
+ghost use Rattle.manager_desk.specs.Delivered.{costs_delivered};
 
 use crate::asking::ask;
 use cache_manager::Manager;
@@ -20,8 +20,8 @@ use std::marker::Model;
 use std::sync::Arc;
 use std::sync::ledger::Ledger;
 
-/// A seat over a manager that nobody else has: seat 1. It numbers its calls, and counts the rows of the loads that it
-/// has delivered.
+/// A seat over a manager that nobody else has: seat 1. It numbers its calls, and counts what the loads cost that it has
+/// delivered.
 #[derive(Drop)]
 pub struct ManagerDesk {
     manager: Manager,
@@ -37,7 +37,7 @@ impl Model for ManagerDesk {
 
     ghost view = { λ a. a.manager };
 
-    ghost invariant = { λ a. IsDesk a.manager.entries a.last a.read };
+    ghost invariant = { λ a. IsDesk a.manager.setting.catalog a.manager.entries a.last a.read };
 }
 
 /// The next call of seat 1, by the number of its last one; none where the numbers are used up.
@@ -63,9 +63,9 @@ impl ManagerDesk {
         }
     }
 
-    /// The rows of all the loads that this desk has delivered.
+    /// What all the loads have cost that this desk has delivered: the rows and the groups that they have read.
     pub fn read(&self) -> u128
-        ensures { result ≡ rows_delivered 1 self.now.entries }
+        ensures { result ≡ costs_delivered self.now.setting.catalog 1 self.now.entries }
     {
         self.read
     }

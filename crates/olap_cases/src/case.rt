@@ -100,30 +100,73 @@ fn outcome_of(object: &Value) -> Result<Outcome> {
     })
 }
 
+// The words of a case, or those of its group where it names none.
+fn words_at(alloc: Global, object: &Value, words: Option<&Value>) -> Result<Words> {
+    match object.get("words").or(words) {
+        Some(words) => Ok(Words::Read(words_of(alloc, words)?)),
+        None => bail!("words are wanted"),
+    }
+}
+
+// The files of a case, where it has files of its own.
+fn files_at(rt: &(impl Files + AllocGlobal), object: &Value) -> Result<Option<Stored>> {
+    match object.get("files") {
+        Some(files) => Ok(Some(files_of(rt, files)?)),
+        None => Ok(None),
+    }
+}
+
+// What a case says in numbers.
+#[derive(Clone, Copy)]
+struct Numbers {
+    room: Option<u64>,
+    fetch: Option<u64>,
+    read: Option<u64>,
+    write: Option<u64>,
+    outcome: Outcome,
+}
+
+fn numbers_of(object: &Value) -> Result<Numbers> {
+    Ok(Numbers {
+        room: number_at(object, "room")?,
+        fetch: number_at(object, "fetch")?,
+        read: number_at(object, "read")?,
+        write: number_at(object, "write")?,
+        outcome: outcome_of(object)?,
+    })
+}
+
+// A case with these words and files.
+fn case_of(
+    rt: &(impl Files + AllocGlobal),
+    object: &Value,
+    words: Words,
+    files: Option<Stored>,
+) -> Result<Case> {
+    let input = bytes_at(rt, object, "input")?;
+    let cuts = cuts_of(rt.alloc(), object)?;
+    let numbers = numbers_of(object)?;
+    Ok(Case {
+        words,
+        files,
+        input,
+        cuts,
+        room: numbers.room,
+        fetch: numbers.fetch,
+        read: numbers.read,
+        write: numbers.write,
+        outcome: numbers.outcome,
+        written: bytes_at(rt, object, "written")?,
+    })
+}
+
 /// A case by its object. The words of its group are its own where it names none.
 pub(crate) fn read_case(
     rt: &(impl Files + AllocGlobal),
     object: &Value,
     words: Option<&Value>,
 ) -> Result<Case> {
-    let words = match object.get("words").or(words) {
-        Some(words) => Words::Read(words_of(rt.alloc(), words)?),
-        None => bail!("words are wanted"),
-    };
-    let files = match object.get("files") {
-        Some(files) => Some(files_of(rt, files)?),
-        None => None,
-    };
-    Ok(Case {
-        words,
-        files,
-        input: bytes_at(rt, object, "input")?,
-        cuts: cuts_of(rt.alloc(), object)?,
-        room: number_at(object, "room")?,
-        fetch: number_at(object, "fetch")?,
-        read: number_at(object, "read")?,
-        write: number_at(object, "write")?,
-        outcome: outcome_of(object)?,
-        written: bytes_at(rt, object, "written")?,
-    })
+    let words = words_at(rt.alloc(), object, words)?;
+    let files = files_at(rt, object)?;
+    case_of(rt, object, words, files)
 }

@@ -9,7 +9,7 @@ use Rattle.cache_opening.specs.Asking.{Leads}
 use Rattle.cache_opening.specs.Opening.{IsOpened, opening_from}
 use Rattle.line_session.specs.declared.end.SessionEnd.{SessionEnd}
 use Rattle.line_session.specs.declared.end.SessionEnd.TheVariants as end
-use Rattle.line_session.specs.Desks.{DeskOf, rows_started}
+use Rattle.line_session.specs.Desks.{DeskOf, costs_started}
 use Rattle.line_session.specs.Conversations.{HasConversed, fresh}
 use Rattle.line_session.specs.Tools.{ToolsOf}
 use Rattle.line_session.specs.Sessions.{IsServed, byte_limit}
@@ -249,10 +249,11 @@ abbrev pub EndsRun : ToolsOf → Option Files → CacheOf → HistoryOf → Arou
 EndsRun tools files opened history start finish status =
     ServesDesk tools files opened (cache_of history) start finish status
 
--- as many steps were added at most as the loads have rows that were started in a cache
+-- as many steps were added at most as the loads cost that were started in a cache
 abbrev pub IsWithin : CacheOf → HistoryOf → ℕ → ℕ → Type 0
 IsWithin opened history before after =
-    (before ≤ after) × (after ≤ before + rows_started 1 opened.entries history.entries)
+    (before ≤ after)
+    × (after ≤ before + costs_started opened.setting.catalog 1 opened.entries history.entries)
 
 -- the same time, but for what a depot was asked for
 abbrev pub with_answers : Around → List Fetched → Around

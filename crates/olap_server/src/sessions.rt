@@ -1,7 +1,7 @@
 //! The command `run`: a cache is opened, and a session served over it.
 ghost use Rattle.std.specs.Prelude.{◌≡◌, ◌≢◌, ◌≤◌, ◌+◌, [], IfSome, MatchResult, None};
 ghost use Rattle.history_core.specs.Seats.{NoneFlies, entries_of};
-ghost use Rattle.line_session.specs.Desks.{rows_started};
+ghost use Rattle.line_session.specs.Desks.{costs_started};
 ghost use Rattle.olap_meaning.specs.Legal.{Legal};
 ghost use Rattle.olap_server.specs.Run.{EndsRun, IsLast, IsWithin, SayTells, ServesDesk, around_of};
 ghost use Rattle.olap_server.specs.Said.{budget_line, no_memory};
@@ -101,7 +101,7 @@ fn serve_with<D: Depot, K: Link, L: Ledger>(
         (around_of D.answers K.talk K.left depot.new link.new) result }
     ensures at_least { steps.old ≤ steps.new }
     ensures at_most { steps.new
-        ≤ steps.old + rows_started 1 desk.old.entries desk.new.entries }
+        ≤ steps.old + costs_started desk.old.setting.catalog 1 desk.old.entries desk.new.entries }
 {
     match serve(alloc, desk, link, depot, catalog, tools, BYTE_LIMIT, steps) {
         SessionEnd::Memory => Reply::no_memory().say(link),
@@ -125,7 +125,7 @@ fn serve_desk<D: Depot, K: Link, L: Ledger>(
         (around_of D.answers K.talk K.left depot.new link.new) result }
     ensures at_least { steps.old ≤ steps.new }
     ensures at_most { steps.new
-        ≤ steps.old + rows_started 1 desk.old.entries desk.new.entries }
+        ≤ steps.old + costs_started desk.old.setting.catalog 1 desk.old.entries desk.new.entries }
 {
     match Arc::try_clone(desk.catalog()) {
         Ok(catalog) => serve_with(alloc, desk, &catalog, depot, link, tools, steps),

@@ -24,9 +24,10 @@ use Rattle.segment_header.proofs.RiseFacts.{found_at, key_told, key_here}
 use Rattle.segment_body.specs.AllFolds.{FoldOf, fold_numbers}
 use Rattle.segment_body.specs.Folds.{body_row_within, has_allowed, numbers_where}
 use Rattle.segment_body.specs.BodyOf.{body_row_in}
-use Rattle.fact_reader.specs.BodyRows.{HoldsRows, allowed_values, body_rows, header_measure, row_number, row_values}
+use Rattle.segment_body.specs.Narrowed.{allowed_values}
+use Rattle.fact_reader.specs.BodyRows.{HoldsRows, body_rows, header_measure, row_number, row_values}
 use Rattle.fact_reader.proofs.LawFacts.{all_stand, is_kept, missed, stands_where}
-use Rattle.rollup_plan.specs.Rolls.{is_valued}
+use Rattle.fact_reader.specs.BodyRows.{is_valued}
 
 -- a row's value in a column is one that is allowed
 abbrev pub is_owned : Catalog → ℕ → ℕ → Allowed → Row → Bool

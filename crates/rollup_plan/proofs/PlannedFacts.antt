@@ -1,6 +1,6 @@
 -- What is known of the loads of a plan.
-use Rattle.std.proofs.Common.{◌≡◌, ◌∙◌, ◌<◌, ℕ, zero, suc, Bool, true, false, List, [], ◌∷◌, Option, None, Some, length, map, get_or, refl, sym, ap, arith, inl, inr}
-use Rattle.std.specs.Prelude.{◌&&◌, ◌==◌, All, Contains, IsTrue, option_map, slice_get}
+use Rattle.std.proofs.Common.{◌≡◌, ◌∙◌, ℕ, zero, suc, true, List, [], ◌∷◌, Option, None, Some, map, get_or, refl, ap, arith, inl, inr}
+use Rattle.std.specs.Prelude.{◌&&◌, ◌==◌, All, Contains, IsTrue, slice_get}
 use Rattle.std.specs.List.{list_all, list_any}
 use Rattle.std.proofs.lemmas.Bool.{and_parts, cases_Bool, eqb-true}
 use Rattle.std.proofs.lemmas.List.Elements.{All-contains, Contains-get_or}
@@ -18,9 +18,10 @@ use Rattle.fact_reader.specs.BodyRows.{HoldsRows}
 use Rattle.cache_flush.specs.Loads.{KeptOf}
 use Rattle.rollup_plan.specs.declared.plan.Part.{Part}
 use Rattle.rollup_plan.specs.declared.plan.Plan.{Plan}
-use Rattle.rollup_plan.specs.Laws.{RowsAreValued}
+use Rattle.fact_reader.specs.Laws.{RowsAreValued}
 use Rattle.rollup_plan.specs.Plans.{IsRolledBy, kept_at, offer_of, offers_at}
-use Rattle.rollup_plan.specs.Rolls.{AreRowsOf, is_valued, loads_at}
+use Rattle.rollup_plan.specs.Rolls.{AreRowsOf, loads_at}
+use Rattle.fact_reader.specs.BodyRows.{is_valued}
 use Rattle.rollup_plan.proofs.OnceFacts.{unmapped}
 
 -- the kept load of a number is one of the loads

@@ -35,7 +35,8 @@ use Rattle.cache_flush.specs.Loads.{KeptOf}
 use Rattle.rollup_plan.specs.declared.plan.Part.{Part}
 use Rattle.rollup_plan.specs.declared.plan.Plan.{Plan}
 use Rattle.rollup_plan.specs.Plans.{AreApart, MakeCell, Share, kept_at, shares_of}
-use Rattle.rollup_plan.specs.Rolls.{IsRolledUp, LieBehind, cell_numbers, folds_at, is_valued, loads_at}
+use Rattle.rollup_plan.specs.Rolls.{IsRolledUp, LieBehind, cell_numbers, folds_at, loads_at}
+use Rattle.fact_reader.specs.BodyRows.{is_valued}
 use Rattle.rollup_plan.proofs.OnceFacts.{Exclusive, each_permutes, filter_agree_in, map-flat_map, owned_once, unmapped}
 use Rattle.rollup_plan.proofs.FoldFacts.{Serves, aggregator_same, fold_permutes, is_owned, some_passes}
 

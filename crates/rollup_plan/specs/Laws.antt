@@ -1,18 +1,16 @@
 -- The laws of plans and rolls.
-use Rattle.std.specs.Prelude.{ℕ, ◌≡◌, List, Some, All, IsTrue, filter, slice_get}
+use Rattle.std.specs.Prelude.{ℕ, ◌≡◌, List, Some, All, IsTrue, filter}
 use Rattle.olap_meaning.specs.declared.cells.Cell.{Cell}
 use Rattle.olap_meaning.specs.declared.tables.Catalog.{Catalog}
-use Rattle.olap_meaning.specs.declared.tables.Cube.{Cube}
 use Rattle.olap_meaning.specs.declared.tables.Measure.{Measure}
 use Rattle.olap_meaning.specs.declared.tables.Row.{Row}
 use Rattle.olap_meaning.specs.Covering.{among}
-use Rattle.olap_meaning.specs.Legal.{is_column_of, is_row}
 use Rattle.olap_meaning.specs.Rolled.{value_count}
 use Rattle.olap_meaning.specs.Worth.{measure_of}
 use Rattle.cache_flush.specs.Loads.{KeptOf, is_candidate, numbers_of}
 use Rattle.rollup_plan.specs.declared.plan.Plan.{Plan}
 use Rattle.rollup_plan.specs.Plans.{IsRolledBy, is_candidate_at}
-use Rattle.rollup_plan.specs.Rolls.{AreRowsOf, LieBehind, is_valued}
+use Rattle.rollup_plan.specs.Rolls.{AreRowsOf, LieBehind}
 
 -- the rows of the parts of a plan by which a cell is rolled up lie behind it, as a roll asks
 abbrev pub PlansRoll : Type 0
@@ -22,13 +20,6 @@ PlansRoll =
     → measure_of catalog cell ≡ Some measure
     → IsRolledBy measure.aggregator (value_count catalog) cell loads plan
     → AreRowsOf catalog cell.cube loads plan.parts rows → LieBehind catalog cell loads plan rows
-
--- in a catalog, each row of a cube has one of a column's values in each column of the cube's dimensions
-abbrev pub RowsAreValued : Catalog → Type 0
-RowsAreValued catalog =
-    (cube : ℕ) (own : Cube) (row : Row) (column : ℕ) → slice_get catalog.cubes cube ≡ Some own
-    → IsTrue (is_row catalog cube row) → IsTrue (is_column_of catalog own.dimensions column)
-    → IsTrue (is_valued catalog cube row column)
 
 -- numbers that are those of the kept loads that are candidates for a cell are numbers of candidates
 abbrev pub CandidatesAreKept : List KeptOf → Type 0

@@ -1,5 +1,5 @@
 -- What a roll needs of rows, and what it gives.
-use Rattle.std.specs.Prelude.{ℕ, ℤ, ◌≡◌, ◌≢◌, ◌<◌, List, [], Bool, Option, Some, All, IsTrue, filter, filter_map, length, map, nat_lt, option_map}
+use Rattle.std.specs.Prelude.{ℕ, ℤ, ◌≡◌, ◌≢◌, ◌<◌, List, [], Option, Some, All, IsTrue, filter, filter_map, length, map, option_map}
 use Rattle.std.specs.List.{list_all}
 use Rattle.std.specs.List.Sorted.{IsPermutation}
 use Rattle.std.specs.Option.{option_map_or}
@@ -8,13 +8,12 @@ use Rattle.olap_meaning.specs.declared.cells.Cell.{Cell}
 use Rattle.olap_meaning.specs.declared.tables.Catalog.{Catalog}
 use Rattle.olap_meaning.specs.declared.tables.Measure.{Measure}
 use Rattle.olap_meaning.specs.declared.tables.Row.{Row}
-use Rattle.olap_meaning.specs.History.{is_some_and}
 use Rattle.olap_meaning.specs.Rolled.{header_columns, value_count}
 use Rattle.olap_meaning.specs.Values.{aggregate}
-use Rattle.olap_meaning.specs.Worth.{fact, measure_of, row_in, row_value, value_over}
+use Rattle.olap_meaning.specs.Worth.{fact, measure_of, row_in, value_over}
 use Rattle.measure_folds.specs.Tallied.{Tallied}
 use Rattle.segment_body.specs.AllFolds.{FoldOf, fold_of}
-use Rattle.fact_reader.specs.BodyRows.{HoldsRows}
+use Rattle.fact_reader.specs.BodyRows.{HoldsRows, is_valued}
 use Rattle.cache_flush.specs.Loads.{KeptOf}
 use Rattle.rollup_plan.specs.Plans.{MakeCell, kept_at, shares_of}
 use Rattle.rollup_plan.specs.declared.plan.Part.{Part}
@@ -29,12 +28,6 @@ abbrev pub folds_at : List KeptOf → ℕ → List Part → List FoldOf
 folds_at loads split parts =
     filter_map
     (λ part. option_map (λ kept. fold_of kept.body split part.own) (kept_at loads part.load)) parts
-
--- a row of a cube has in a column one of the values of the column
-abbrev pub is_valued : Catalog → ℕ → Row → ℕ → Bool
-is_valued catalog cube row column =
-    is_some_and
-    (λ value. nat_lt value (value_count catalog column)) (row_value catalog cube row column)
 
 -- rows are those of some parts over kept loads: the body of each of their loads holds the rows, which have in each column
 -- of the load one of the column's values

@@ -21,7 +21,7 @@ use Rattle.olap_meaning.proofs.Loads.{some_and}
 use Rattle.olap_meaning.proofs.Members.{All-from_member, in_first, none_in}
 use Rattle.fact_reader.specs.BodyRows.{HoldsRows, header_measure, is_loadable}
 use Rattle.cache_flush.specs.Loads.{KeptOf}
-use Rattle.rollup_plan.specs.Laws.{RowsAreValued}
+use Rattle.fact_reader.specs.Laws.{RowsAreValued}
 use Rattle.rollup_plan.specs.Plans.{IsPlanned, offer_of}
 use Rattle.rollup_plan.specs.Rolls.{LieBehind, loads_at}
 use Rattle.rollup_plan.specs.Serving.{AreAlike, ServesAlike}

@@ -11,8 +11,7 @@ use Rattle.olap_meaning.specs.declared.regions.Region.{Region}
 use Rattle.olap_meaning.specs.declared.tables.Catalog.{Catalog}
 use Rattle.olap_meaning.specs.Legal.{is_row}
 use Rattle.fact_versions.specs.FactRows.{FactRows}
-use Rattle.segment_load.specs.Laws.{LoadsHoldRows}
-use Rattle.fact_reader.specs.BodyRows.{HoldsRows, are_batches, body_of, is_batch, is_loadable, rows_in}
+use Rattle.fact_reader.specs.BodyRows.{HoldsRows, are_batches, is_batch, is_loadable, rows_in}
 use Rattle.cache_flush.specs.Loads.{KeptOf, shut_off}
 use Rattle.test_samples.specs.Sales.{SalesOf}
 use Rattle.rollup_tests.specs.Held.{IsFrom, rows_at}
@@ -34,11 +33,10 @@ rows_fit catalog (batch ∷ batches) fit =
     list_all-append (is_row catalog 0) batch.rows (rows_in batches)
     ∙ and_from (list_all (is_row catalog 0) batch.rows) (list_all (is_row catalog 0) (rows_in batches)) (and_parts _ (list_all (is_row catalog 0) batch.rows) parts.0).1 (rows_fit catalog batches parts.1)
 
--- a load whose body was made of the rows of its version is from it
+-- a load whose body holds the rows of its version is from it
 pub from_load : (sales : SalesOf) (kept : KeptOf) (catalog : Catalog) (header : Header) (snapshot : List FactRows) → catalog ≡ sales.catalog → header.cube ≡ 0 → snapshot ≡ take kept.version sales.batches
-    → is_loadable catalog header ≡ true → are_batches catalog header.cube snapshot ≡ true → length (rows_in snapshot) ≤ ROW_LIMIT → LoadsHoldRows → Some kept.body ≡ body_of catalog header (rows_in snapshot) → IsFrom sales kept
-from_load sales kept catalog header snapshot is_catalog cube is_rows loadable fit few laws body =
-    let made : HoldsRows catalog header (rows_in snapshot) kept.body = laws catalog header (rows_in snapshot) kept.body (sym body) in
+    → is_loadable catalog header ≡ true → are_batches catalog header.cube snapshot ≡ true → length (rows_in snapshot) ≤ ROW_LIMIT → HoldsRows catalog header (rows_in snapshot) kept.body → IsFrom sales kept
+from_load sales kept catalog header snapshot is_catalog cube is_rows loadable fit few made =
     let same : kept.body.header ≡ header = made.own_header in
     record {
       cube = ap (λ (h : Header). h.cube) same ∙ cube;

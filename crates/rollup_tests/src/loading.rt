@@ -1,11 +1,11 @@
 //! Loads from the versions of a cube.
-ghost use Rattle.std.specs.Prelude.{◌≡◌, IfOk, IsTrue, Some, length, take};
+ghost use Rattle.std.specs.Prelude.{◌≡◌, IfOk, IsTrue, length, take};
 ghost use Rattle.std.specs.List.{list_all};
 ghost use Rattle.olap_meaning.specs.Covering.{among};
 ghost use Rattle.olap_meaning.specs.Legal as legal;
 ghost use Rattle.segment_header.specs.Headers.{is_header as holds_header};
 ghost use Rattle.fact_reader.specs.BodyRows as loads;
-ghost use Rattle.fact_reader.specs.BodyRows.{body_of, rows_in};
+ghost use Rattle.fact_reader.specs.BodyRows.{HoldsRows, rows_in};
 ghost use Rattle.cache_flush.specs.Loads.{kept_of};
 ghost use Rattle.rollup_tests.specs.Held.{IsFrom};
 
@@ -13,7 +13,6 @@ use cache_flush::{Kept, Shut};
 use fact_versions::Steps;
 use olap_catalog::Catalog;
 use olap_meaning::{Allowed, ColumnId, CubeId, Header, OutOfMemory, Version, Who};
-use segment_load::laws::loads_hold_rows;
 use segment_load::{Delivery, LoadJob, run_load};
 use std::alloc::Global;
 use std::marker::Brand;
@@ -39,7 +38,7 @@ fn job(sales: &Sales, load: u64, version: u32, header: Header) -> Result<LoadJob
     let snapshot = sales.snapshot(version)?;
     let catalog = sales.share_catalog()?;
     let who = Who { seat: 1, call: 1 };
-    Ok(LoadJob::new(catalog, load, who, header, snapshot))
+    LoadJob::new(catalog, load, who, header, snapshot, &[]).map_err(no_memory)
 }
 
 /// The load of a number, from a version, of which nothing is shut off.
@@ -54,7 +53,6 @@ pub fn kept_load(
     ensures number { IfOk result (λ kept. kept.load ≡ load) }
     ensures from { IfOk result (λ kept. IsFrom sales.now (kept_of kept)) }
 {
-    loads_hold_rows();
     let job = job(sales, load, version, header)?;
     let _fit = (job.cost(), job.snapshot().pieces(), job.header().cube);
     match run::<Brand>(alloc, job, Blank::new(1)) {
@@ -73,7 +71,7 @@ fn run<L: Ledger>(alloc: Global, job: LoadJob, blank: Blank) -> Result<Delivery,
     requires parts { blank.parts ≡ L.parts }
     requires one { blank.parts ≡ 1 }
     ensures { IfOk result
-        (λ delivery. Some delivery.body ≡ body_of job.catalog job.header (rows_in job.snapshot)) }
+        (λ delivery. HoldsRows job.catalog job.header (rows_in job.snapshot) delivery.body) }
 {
     let mut steps: Steps<L> = Steps::new(blank);
     run_load(alloc, job, &mut steps)

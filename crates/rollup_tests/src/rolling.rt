@@ -7,9 +7,10 @@ ghost use Rattle.rollup_tests.specs.Held.{IsFrom, IsPlanFor};
 
 use crate::loading::no_memory;
 use cache_flush::{CacheShelf, Shelf};
+use fact_reader::laws::rows_are_valued;
 use measure_folds::Tally;
 use olap_meaning::{Cell, ColumnId, List, OutOfMemory, ValueId};
-use rollup_plan::laws::{candidates_are_kept, rows_are_valued};
+use rollup_plan::laws::candidates_are_kept;
 use rollup_plan::{Plan, find_plan, roll, roll_all};
 use segment_body::are_alike;
 use std::alloc::Global;

@@ -138,14 +138,20 @@ module _ (a : Aggregator) (test : List ℕ → Bool) (rows : List (List ℕ × O
       let each = map-flat_map (λ (row : List ℕ × Option ℤ). row.1) (λ (k : List ℕ). filter (λ (row : List ℕ × Option ℤ). bytes_eq k row.0) kept) keys ∙ flat_map_agree _ (λ d. if test d then numbers_at rows d else []) part_of keys ∙ sym (picked_groups keys) in
       subst (IsPermutation (numbers_where (λ (row : List ℕ × Option ℤ). test row.0) rows)) each numbers
 
+all_kept : (rows : List (List ℕ × Option ℤ)) → filter (λ (row : List ℕ × Option ℤ). true) rows ≡ rows
+all_kept [] = refl
+all_kept (row ∷ rows) = ap (λ l. row ∷ l) (all_kept rows)
+
 -- all numbers of the groups of rows are as many as the rows
 pub numbers_counted : (a : Aggregator) (rows : List (List ℕ × Option ℤ)) → length (all_numbers (groups_of a rows)) ≡ length rows
 numbers_counted a rows =
     length_permutation _ _ (picked_permutes a (λ values. true) rows) ∙ length-map (filter (λ (row : List ℕ × Option ℤ). true) rows) (λ (row : List ℕ × Option ℤ). row.1) ∙ ap length (all_kept rows)
-  where
-    all_kept : (rs : List (List ℕ × Option ℤ)) → filter (λ (row : List ℕ × Option ℤ). true) rs ≡ rs
-    all_kept [] = refl
-    all_kept (row ∷ rs) = ap (λ l. row ∷ l) (all_kept rs)
+
+-- rows are those of their different values, one list of values after another, in some order
+pub rows_parted : (rows : List (List ℕ × Option ℤ)) → IsPermutation rows (flat_map (λ (k : List ℕ). filter (λ (row : List ℕ × Option ℤ). bytes_eq k row.0) rows) (different_values rows))
+rows_parted rows =
+    let known : list_all (λ (row : List ℕ × Option ℤ). has_row rows row.0) rows ≡ true = subst (λ (l : List (List ℕ × Option ℤ)). list_all (λ (row : List ℕ × Option ℤ). has_row rows row.0) l ≡ true) (all_kept rows) (rows_known (λ (row : List ℕ × Option ℤ). true) [] rows) in
+    parts_permute bytes_eq same_values same_self (λ (row : List ℕ × Option ℤ). row.0) (different_values rows) rows (apart_different rows) (known_keys rows rows (different_values rows) (λ row known. among_different row.0 rows ∙ known) known)
 
 -- each tally of the groups of rows is of the aggregator
 pub groups_alike : (a : Aggregator) (rows : List (List ℕ × Option ℤ)) → All (λ group. group.tally.aggregator ≡ a) (groups_of a rows)

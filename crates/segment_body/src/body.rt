@@ -1,5 +1,5 @@
 //! The cells of a segment.
-ghost use Rattle.std.specs.Prelude.{◌≡◌, ◌≢◌, ◌<◌, ◌≤◌, ◌+◌, ◌++◌, ◌∷◌, [], All, IfOk, OnOk, OnErr, IfSome, IfNone, IsTrue, length, map, filter, is_some};
+ghost use Rattle.std.specs.Prelude.{◌≡◌, ◌≢◌, ◌<◌, ◌≤◌, ◌+◌, ◌++◌, ◌∷◌, [], All, IfOk, OnOk, OnErr, IfSome, IfNone, IsTrue, length, map, filter, flat_map, is_some};
 ghost use Rattle.std.specs.List.{AllZip, list_all};
 ghost use Rattle.std.specs.List.Sorted.{IsPermutation};
 ghost use Rattle.olap_meaning.specs.Covering.{header_covers, just_covers};
@@ -10,9 +10,12 @@ ghost use Rattle.segment_header.specs.Headers.{are_allowed, is_header, is_set};
 ghost use Rattle.segment_body.specs.AllFolds.{IsFolded, are_alike, fold_of, folded_numbers};
 ghost use Rattle.segment_body.specs.BodyOf.{body_row_in, different_values, has_row, numbers_at};
 ghost use Rattle.segment_body.specs.Folds.{body_row_at, body_row_within, numbers_where};
+ghost use Rattle.segment_body.specs.Groups.{group};
+ghost use Rattle.segment_body.specs.Narrowed.{IsNarrowed, narrowed_group};
 
 use crate::folds::{fold_allowed, fold_in, fold_valued};
 use crate::group::{Block, GroupTable};
+use crate::narrow::narrow_values;
 use crate::search::place_in;
 use crate::tables::CellTable;
 use crate::tallies::CellTallies;
@@ -235,6 +238,68 @@ impl Body {
             } }
     {
         tallies.take(self, &self.groups, column, own);
+    }
+
+    // Adds the rows of a group of another header, where the own header allows its values. The buffer is for them: what it
+    // holds before and after says nothing.
+    fn add_narrowed(
+        &mut self,
+        wide: &Header,
+        values: &[ValueId],
+        tally: &Tally,
+        buffer: &mut Vec<ValueId>,
+    ) -> Result<(), OutOfMemory>
+        requires adds_up { self.old.aggregator ≢ Aggregator.DistinctCount }
+        requires same { tally.now.aggregator ≡ self.old.aggregator }
+        requires room { length self.old.rows + length tally.now.values ≤ ROW_LIMIT }
+        ensures { OnOk result
+            (self.new
+            ≡ record self.old {
+              rows = self.old.rows
+                  ++ narrowed_group wide.now self.old.header (group values.now tally.now);
+            }) }
+    {
+        let columns = wide.columns.as_slice();
+        let kept = narrow_values(columns, values, self.header.columns.as_slice(), buffer)?;
+        if kept {
+            self.add_group(buffer.as_slice(), tally)?;
+        }
+        Ok(())
+    }
+
+    // Adds the rows of groups of another header, where the own header allows their values.
+    fn add_groups(&mut self, wide: &Header, groups: &GroupTable) -> Result<(), OutOfMemory>
+        requires adds_up { self.old.aggregator ≢ Aggregator.DistinctCount }
+        requires alike { All
+            (λ group. group.tally.aggregator ≡ self.old.aggregator) groups.now }
+        requires room { length self.old.rows
+            + length (flat_map (λ group. group.tally.values) groups.now)
+            ≤ ROW_LIMIT }
+        ensures { OnOk result
+            (self.new
+            ≡ record self.old {
+              rows = self.old.rows
+                  ++ flat_map (narrowed_group wide.now self.old.header) groups.now;
+            }) }
+    {
+        let mut buffer = Vec::new(self.alloc);
+        for i in 0..groups.len() {
+            let group = groups.at(i);
+            self.add_narrowed(wide, group.0, group.1, &mut buffer)?;
+        }
+        Ok(())
+    }
+
+    /// The rows that another header allows, with their values on its columns, in some order: it has some of the columns, and
+    /// allows some of their values. It is made group by group, and no row is looked at.
+    pub fn narrowed(&self, header: Header) -> Result<Body, OutOfMemory>
+        requires adds_up { self.now.aggregator ≢ Aggregator.DistinctCount }
+        requires formed { IsTrue (is_header header) }
+        ensures { IfOk result (IsNarrowed self.now header) }
+    {
+        let mut body = Body::new(self.alloc, header, self.aggregator)?;
+        body.add_groups(&self.header, &self.groups)?;
+        Ok(body)
     }
 
     /// How many different lists of values the rows have. It takes no memory.

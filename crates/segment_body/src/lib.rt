@@ -8,6 +8,7 @@ mod body;
 mod folds;
 mod group;
 mod key;
+mod narrow;
 mod search;
 mod tables;
 mod tallies;

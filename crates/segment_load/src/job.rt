@@ -1,12 +1,16 @@
 //! Jobs that load a segment.
-ghost use Rattle.std.specs.Prelude.{◌≡◌, ◌≤◌, ◌+◌, ◌++◌, IfErr, IfOk, IsTrue, OnOk, Some, length, map, option_map, unwrap_or};
+ghost use Rattle.std.specs.Prelude.{◌≡◌, ◌≤◌, ◌+◌, All, IfErr, IfOk, IsTrue, OnOk, Some, length, map, option_map};
 ghost use Rattle.segment_header.specs.Headers.{is_header};
-ghost use Rattle.fact_reader.specs.BodyRows.{are_batches, body_of, body_rows, header_measure, is_loadable, rows_in};
+ghost use Rattle.fact_reader.specs.BodyRows.{HoldsRows, are_batches, body_of, header_measure, is_loadable, rows_in};
+ghost use Rattle.agg_tables.specs.Costs as costs;
+ghost use Rattle.segment_load.specs.Loads.{IsOffered, job_cost};
 
-use fact_reader::RowReader;
+use crate::choice::{cheapest, cost_of};
+use agg_tables::AggTable;
+use fact_reader::{RowReader, add_pieces};
 use fact_versions::{Snapshot, Steps};
 use olap_catalog::Catalog;
-use olap_meaning::{Aggregator, Header, OutOfMemory, ROW_LIMIT, ValueId, Who};
+use olap_meaning::{Aggregator, Header, OutOfMemory, ROW_LIMIT, Who};
 use segment_body::Body;
 use segment_header::copy_header;
 use std::alloc::Global;
@@ -14,7 +18,8 @@ use std::marker::Model;
 use std::sync::Arc;
 use std::sync::ledger::Ledger;
 
-/// A load of a header from a version of its cube, for a call. It holds all that it needs, so that any thread may run it.
+/// A load of a header from a version of its cube, for a call. It holds all that it needs, so that any thread may run it. It
+/// reads the cheapest of the facts and the aggregate tables that it was given.
 #[derive(Drop)]
 pub struct LoadJob {
     catalog: Arc<Catalog>,
@@ -22,18 +27,20 @@ pub struct LoadJob {
     who: Who,
     header: Header,
     snapshot: Snapshot,
-    rows: u32,
+    table: Option<Arc<AggTable>>,
+    cost: u64,
 }
 
 impl Model for LoadJob {
+    ghost use Rattle.std.specs.Prelude.{option_map};
     ghost use Rattle.segment_load.specs.Loads.{JobOf};
     ghost use Rattle.segment_load.specs.Jobs.{IsJob};
 
     ghost Value = { JobOf };
 
-    ghost view = { λ a. record { catalog = a.catalog.value; load = a.load; who = a.who; header = a.header; snapshot = a.snapshot } };
+    ghost view = { λ a. record { catalog = a.catalog.value; load = a.load; who = a.who; header = a.header; snapshot = a.snapshot; read = option_map (λ t. t.value) a.table } };
 
-    ghost invariant = { λ a. IsJob a.catalog.value a.header a.snapshot a.rows };
+    ghost invariant = { λ a. IsJob a.catalog.value a.header a.snapshot (option_map (λ t. t.value) a.table) a.cost };
 }
 
 /// What a load has come to: its number, the call that it is for, and the cells of its header.
@@ -45,35 +52,46 @@ pub struct Delivery {
 }
 
 impl LoadJob {
-    /// A load by its number, and the call that it is for. It takes no memory.
+    /// A load by its number, and the call that it is for. It reads the cheapest of the facts and those of the tables that may
+    /// be read: of several that cost as much the first, and the facts last. It keeps the table that it reads, and none else.
     pub fn new(
         catalog: Arc<Catalog>,
         load: u64,
         who: Who,
         header: Header,
         snapshot: Snapshot,
-    ) -> LoadJob
+        tables: &[Arc<AggTable>],
+    ) -> Result<LoadJob, OutOfMemory>
         requires header { IsTrue (is_header header) }
         requires loadable { IsTrue (is_loadable catalog.value header) }
         requires fit { IsTrue (are_batches catalog.value header.cube snapshot) }
-        ensures { result
+        requires offered { All
+            (λ table. IsOffered catalog.value header snapshot table.value) tables.now }
+        ensures { IfOk result
+            (λ job. job
             ≡ record {
               catalog = catalog.value;
               load = load;
               who = who;
               header = header;
               snapshot = snapshot;
-            } }
+              read = costs.cheapest header (length snapshot) (length (rows_in snapshot))
+                  (map (λ table. table.value) tables.now);
+            }) }
     {
-        let rows = snapshot.rows();
-        LoadJob {
+        let table = cheapest(&header, &snapshot, tables)?;
+        let cost = cost_of(&snapshot, &table);
+        // A snapshot has no more rows than a body has room for.
+        let _rows = snapshot.rows();
+        Ok(LoadJob {
             catalog,
             load,
             who,
             header,
             snapshot,
-            rows,
-        }
+            table,
+            cost,
+        })
     }
 
     /// The number of the load.
@@ -113,12 +131,23 @@ impl LoadJob {
         &self.catalog
     }
 
-    /// How many rows the load reads.
+    /// How many steps the load takes: the rows that it reads, each for one, and the groups.
     pub fn cost(&self) -> u64
-        ensures rows { result ≡ length (rows_in self.now.snapshot) }
+        ensures steps { result ≡ job_cost self.now }
+        ensures least { job_cost self.now ≤ length (rows_in self.now.snapshot) }
         ensures bound { length (rows_in self.now.snapshot) ≤ ROW_LIMIT }
     {
-        u64::from(self.rows)
+        self.cost
+    }
+
+    /// Which of the schema's aggregate tables the load reads, by its place, if it reads one.
+    pub fn table(&self) -> Option<u32>
+        ensures { result ≡ option_map (λ table. table.table) self.now.read }
+    {
+        match &self.table {
+            Some(table) => Some(table.table()),
+            None => None,
+        }
     }
 
     /// What the measure is summed up by.
@@ -131,8 +160,8 @@ impl LoadJob {
         cube.measures.as_slice()[usize::from(self.header.measure.0)].aggregator
     }
 
-    /// The body of the rows.
-    fn fold<L: Ledger>(&self, alloc: Global, steps: &mut Steps<L>) -> Result<Body, OutOfMemory>
+    /// The body of the rows, from the facts.
+    fn fold_rows<L: Ledger>(&self, alloc: Global, steps: &mut Steps<L>) -> Result<Body, OutOfMemory>
         ensures body { IfOk result
             (λ body. Some body
             ≡ body_of self.now.catalog self.now.header (rows_in self.now.snapshot)) }
@@ -144,41 +173,28 @@ impl LoadJob {
         let header = copy_header(alloc, &self.header)?;
         let mut body = Body::new(alloc, header, self.aggregator())?;
         let mut values = Vec::with_capacity(alloc, self.header.columns.len())?;
-        add_pieces(&reader, &self.snapshot, &mut values, &mut body, steps)?;
+        add_pieces(&reader, &self.snapshot, 0, &mut values, &mut body, steps)?;
         Ok(body)
     }
-}
 
-/// Adds the rows of a version to a body, piece by piece, as far as the header allows them.
-fn add_pieces<L: Ledger>(
-    reader: &RowReader<'_>,
-    snapshot: &Snapshot,
-    values: &mut Vec<ValueId>,
-    body: &mut Body,
-    steps: &mut Steps<L>,
-) -> Result<(), OutOfMemory>
-    requires fit { IsTrue (are_batches reader.now.catalog reader.now.header.cube snapshot.now) }
-    requires same { body.old.header ≡ reader.now.header }
-    requires room { length body.old.rows + length (rows_in snapshot.now) ≤ ROW_LIMIT }
-    ensures ok { OnOk result
-        (body.new
-        ≡ record body.old {
-          rows = body.old.rows
-              ++ body_rows reader.now.catalog reader.now.header (rows_in snapshot.now);
-        }) }
-    ensures cost { OnOk result (steps.new ≡ steps.old + length (rows_in snapshot.now)) }
-    ensures at_least { steps.old ≤ steps.new }
-    ensures at_most { steps.new ≤ steps.old + length (rows_in snapshot.now) }
-{
-    for i in 0..snapshot.pieces() {
-        let piece = snapshot.piece(i, steps);
-        reader.add_rows(&piece, values, body)?;
+    /// A body that holds the rows, from what the job reads.
+    fn fold<L: Ledger>(&self, alloc: Global, steps: &mut Steps<L>) -> Result<Body, OutOfMemory>
+        ensures body { IfOk result
+            (HoldsRows self.now.catalog self.now.header (rows_in self.now.snapshot)) }
+        ensures cost { OnOk result (steps.new ≡ steps.old + job_cost self.now) }
+        ensures at_least { steps.old ≤ steps.new }
+        ensures at_most { steps.new ≤ steps.old + job_cost self.now }
+    {
+        match &self.table {
+            Some(table) => table.load(alloc, &self.catalog, &self.header, &self.snapshot, steps),
+            None => self.fold_rows(alloc, steps),
+        }
     }
-    Ok(())
 }
 
-/// Runs a load: the rows of its version, each looked at once, are summed up by their values on the header's columns.
-/// Where memory is wanting, the job comes back as it was.
+/// Runs a load: the rows of its version that its header allows are summed up by their values on the header's columns, from
+/// the facts, each looked at once, or from an aggregate table and the facts that are later than the table. Where memory is
+/// wanting, the job comes back as it was.
 pub fn run_load<L: Ledger>(
     alloc: Global,
     job: LoadJob,
@@ -187,10 +203,10 @@ pub fn run_load<L: Ledger>(
     ensures load { IfOk result (λ delivery. delivery.load ≡ job.load) }
     ensures who { IfOk result (λ delivery. delivery.who ≡ job.who) }
     ensures body { IfOk result
-        (λ delivery. Some delivery.body ≡ body_of job.catalog job.header (rows_in job.snapshot)) }
-    ensures cost { OnOk result (steps.new ≡ steps.old + length (rows_in job.snapshot)) }
+        (λ delivery. HoldsRows job.catalog job.header (rows_in job.snapshot) delivery.body) }
+    ensures cost { OnOk result (steps.new ≡ steps.old + job_cost job) }
     ensures at_least { steps.old ≤ steps.new }
-    ensures at_most { steps.new ≤ steps.old + length (rows_in job.snapshot) }
+    ensures at_most { steps.new ≤ steps.old + job_cost job }
     ensures err { IfErr result (λ back. back ≡ job) }
 {
     match job.fold(alloc, steps) {

@@ -3,7 +3,7 @@ use Rattle.std.proofs.Common.{◌≡◌, refl, sym, ◌∙◌, ap, subst, ℕ, z
 use Rattle.std.specs.Prelude.{OnErr, OnOk, Result, Ok, Err, nat_lt}
 use Rattle.std.specs.List.{list_all, list_any}
 use Rattle.std.proofs.lemmas.Bool.{and_from, and_parts, eqb-true, false_from_ne_true, lt-ltb, ltb-true}
-use Rattle.std.proofs.lemmas.List.Elements.{All-cons, All-nil, All-tail, filter-append}
+use Rattle.std.proofs.lemmas.List.Elements.{All-cons, All-head, All-nil, All-tail, filter-append}
 use Rattle.std.proofs.lemmas.List.Folds.{list_any-append}
 use Rattle.olap_meaning.specs.declared.cells.Who.{Who}
 use Rattle.olap_meaning.specs.declared.tables.Row.{Row}
@@ -15,7 +15,8 @@ use Rattle.history_core.specs.Cache.{CacheOf}
 use Rattle.cache_manager.specs.Jobs.{IsJobOf, IsOwn}
 use Rattle.history_core.specs.Seats.{is_of_seat, entries_of}
 use Rattle.history_core.specs.Groups.{numbers_from}
-use Rattle.cache_manager.proofs.JobFacts.{cost_is}
+use Rattle.load_costs.specs.Costs.{cost}
+use Rattle.load_costs.proofs.CostFacts.{cost_on}
 use Rattle.cache_manager.proofs.Pushes.{load_on, recorded, rows_on}
 use Rattle.test_plays.specs.Played.{AreJobsOf}
 
@@ -51,9 +52,9 @@ module _ (cache next : CacheOf) (entry : Entry) (one : IsNext cache next entry) 
     flies = own_on job.who job.load is.load unended is.flies;
     header = is.header;
     rows = is.rows ∙ rows_same job.load is.load is.flies.started;
-    costs = is.costs ∙ cost_is cache.setting.catalog cache.entries job.load is.load is.flies.started
-        ∙ ap (λ (rows : List Row). length rows) (rows_same job.load is.load is.flies.started)
-        ∙ sym (cost_is next.setting.catalog next.entries job.load is.load (own_on job.who job.load is.load unended is.flies).started);
+    costs = is.costs ∙ sym (cost_on cache.setting.catalog cache.entries (entry ∷ []) job.load is.load is.flies.started)
+        ∙ ap (λ (es : List Entry). cost cache.setting.catalog es job.load) (sym one.entries)
+        ∙ ap (λ (s : Setting). cost s.catalog next.entries job.load) (sym one.setting);
   }
 
   all_on : (jobs : List JobOf) → All (λ (job : JobOf). ends job.load entry ≡ false) jobs → All (IsJobOf cache) jobs → All (IsJobOf next) jobs
@@ -90,6 +91,10 @@ parts_of (x ∷ xs) rest job some first left =
 
 rest_rises : (jobs rest : List JobOf) (job : JobOf) → jobs ≡ job ∷ rest → rise (map (λ (job : JobOf). job.load) jobs) ≡ true → (list_all (nat_lt job.load) (map (λ (job : JobOf). job.load) rest) ≡ true) × (rise (map (λ (job : JobOf). job.load) rest) ≡ true)
 rest_rises jobs rest job is up = and_parts _ _ (subst (λ (js : List JobOf). rise (map (λ (job : JobOf). job.load) js) ≡ true) is up)
+
+-- the first job is one of the cache's
+pub first_is : (cache : CacheOf) (jobs rest : List JobOf) (job : JobOf) → jobs ≡ job ∷ rest → AreJobsOf cache jobs → IsJobOf cache job
+first_is cache jobs rest job is are = All-head (IsJobOf cache) job rest (subst (λ (js : List JobOf). All (IsJobOf cache) js) is are.each)
 
 -- the jobs without the first
 pub rest_are : (cache : CacheOf) (jobs rest : List JobOf) (job : JobOf) → jobs ≡ job ∷ rest → AreJobsOf cache jobs → AreJobsOf cache rest

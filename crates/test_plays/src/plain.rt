@@ -55,23 +55,26 @@ fn measure(alloc: Global, name: &str, aggregator: Aggregator) -> Result<Measure,
     })
 }
 
-// The cube of sales, over the first dimensions.
-fn cubes(
-    alloc: Global,
-    dimensions: u32,
-    measures: List<Measure>,
-) -> Result<List<Cube>, OutOfMemory> {
-    let mut uses = List::new(alloc);
-    for dimension in 0..dimensions {
-        uses.push(dimension)?;
+// Measures of the units, by their names.
+fn measures(alloc: Global, named: &[(&str, Aggregator)]) -> Result<List<Measure>, OutOfMemory> {
+    let mut measures = List::new(alloc);
+    for (name, aggregator) in named {
+        measures.push(measure(alloc, name, *aggregator)?)?;
     }
-    let mut cubes = List::new(alloc);
-    cubes.push(Cube {
+    Ok(measures)
+}
+
+// The cube of sales, over the dimensions at these places.
+fn cube(
+    alloc: Global,
+    dimensions: &[u32],
+    named: &[(&str, Aggregator)],
+) -> Result<Cube, OutOfMemory> {
+    Ok(Cube {
         name: Text::from_str(alloc, "Sales")?,
-        dimensions: uses,
-        measures,
-    })?;
-    Ok(cubes)
+        dimensions: List::from_vec(Vec::from_slice(alloc, dimensions)?),
+        measures: measures(alloc, named)?,
+    })
 }
 
 // One aggregate table of the cube of sales, without levels and measures.
@@ -88,25 +91,69 @@ fn aggregates(alloc: Global) -> Result<List<SchemaAggregate>, OutOfMemory> {
     Ok(aggregates)
 }
 
-// A catalog without its hierarchies, and of its schema just the aggregate tables: the plain bodies of a history ask
+// Of its schema a catalog has just the aggregate tables, and it has no hierarchies: the plain bodies of a history ask
 // nothing else.
-fn catalog(
-    alloc: Global,
-    dimensions: List<Dimension>,
-    columns: List<Column>,
-    cubes: List<Cube>,
-) -> Result<Catalog, OutOfMemory> {
+fn bare_catalog(alloc: Global) -> Result<Catalog, OutOfMemory> {
+    let aggregates = aggregates(alloc)?;
     Ok(Catalog {
         schema: Schema {
             dimensions: List::new(alloc),
             cubes: List::new(alloc),
-            aggregates: aggregates(alloc)?,
+            aggregates,
         },
-        dimensions,
-        columns,
+        dimensions: List::new(alloc),
+        columns: List::new(alloc),
         hierarchies: List::new(alloc),
-        cubes,
+        cubes: List::new(alloc),
     })
+}
+
+/// What a catalog has: dimensions by their names and records, columns by their names, dimensions and fields, and the
+/// places of the dimensions and the measures of its cube.
+#[derive(Clone, Copy)]
+struct Parts<'a> {
+    dimensions: &'a [(&'a str, &'a str)],
+    columns: &'a [(&'a str, u32, u32)],
+    uses: &'a [u32],
+    measures: &'a [(&'a str, Aggregator)],
+}
+
+fn add_dimensions(
+    alloc: Global,
+    catalog: &mut Catalog,
+    named: &[(&str, &str)],
+) -> Result<(), OutOfMemory> {
+    for (name, records) in named {
+        catalog.dimensions.push(dimension(alloc, name, records)?)?;
+    }
+    Ok(())
+}
+
+fn add_columns(
+    alloc: Global,
+    catalog: &mut Catalog,
+    columns: &[(&str, u32, u32)],
+) -> Result<(), OutOfMemory> {
+    for (name, dimension, field) in columns {
+        catalog
+            .columns
+            .push(column(alloc, name, *dimension, *field)?)?;
+    }
+    Ok(())
+}
+
+fn add_parts(alloc: Global, catalog: &mut Catalog, parts: &Parts<'_>) -> Result<(), OutOfMemory> {
+    add_dimensions(alloc, catalog, parts.dimensions)?;
+    add_columns(alloc, catalog, parts.columns)?;
+    let cube = cube(alloc, parts.uses, parts.measures)?;
+    catalog.cubes.push(cube)
+}
+
+// A catalog of one cube.
+fn catalog(alloc: Global, parts: &Parts<'_>) -> Result<Catalog, OutOfMemory> {
+    let mut catalog = bare_catalog(alloc)?;
+    add_parts(alloc, &mut catalog, parts)?;
+    Ok(catalog)
 }
 
 /// One dimension of time with two levels, and one cube with the sum of a fact column and the count of its different
@@ -117,17 +164,17 @@ pub fn small_setting(alloc: Global) -> Result<Setting, OutOfMemory> {
 
 /// The small setting over other records of its dimension, parted at white space.
 pub fn time_setting(alloc: Global, records: &str) -> Result<Setting, OutOfMemory> {
-    let mut dimensions = List::new(alloc);
-    dimensions.push(dimension(alloc, "Time", records)?)?;
-    let mut columns = List::new(alloc);
-    columns.push(column(alloc, "Year", 0, 0)?)?;
-    columns.push(column(alloc, "Quarter", 0, 1)?)?;
-    let mut measures = List::new(alloc);
-    measures.push(measure(alloc, "Units", Aggregator::Sum)?)?;
-    measures.push(measure(alloc, "Different", Aggregator::DistinctCount)?)?;
-    let cubes = cubes(alloc, 1, measures)?;
+    let parts = Parts {
+        dimensions: &[("Time", records)],
+        columns: &[("Year", 0, 0), ("Quarter", 0, 1)],
+        uses: &[0],
+        measures: &[
+            ("Units", Aggregator::Sum),
+            ("Different", Aggregator::DistinctCount),
+        ],
+    };
     Ok(Setting {
-        catalog: catalog(alloc, dimensions, columns, cubes)?,
+        catalog: catalog(alloc, &parts)?,
         row_limit: 4,
         budget: 100,
     })
@@ -135,20 +182,22 @@ pub fn time_setting(alloc: Global, records: &str) -> Result<Setting, OutOfMemory
 
 /// The sample files, as plain data.
 pub fn sample_setting(alloc: Global, row_limit: u32) -> Result<Setting, OutOfMemory> {
-    let mut dimensions = List::new(alloc);
-    dimensions.push(dimension(alloc, "Time", "1/1997/Q1 2/1997/Q2 3/1998/Q1")?)?;
-    dimensions.push(dimension(alloc, "Store", "1/CA/LA 2/CA/SF 3/WA/Seattle")?)?;
-    let mut columns = List::new(alloc);
-    columns.push(column(alloc, "Year", 0, 0)?)?;
-    columns.push(column(alloc, "Quarter", 0, 1)?)?;
-    columns.push(column(alloc, "State", 1, 0)?)?;
-    columns.push(column(alloc, "City", 1, 1)?)?;
-    let mut measures = List::new(alloc);
-    measures.push(measure(alloc, "Units", Aggregator::Sum)?)?;
-    measures.push(measure(alloc, "Count", Aggregator::Count)?)?;
-    let cubes = cubes(alloc, 2, measures)?;
+    let parts = Parts {
+        dimensions: &[
+            ("Time", "1/1997/Q1 2/1997/Q2 3/1998/Q1"),
+            ("Store", "1/CA/LA 2/CA/SF 3/WA/Seattle"),
+        ],
+        columns: &[
+            ("Year", 0, 0),
+            ("Quarter", 0, 1),
+            ("State", 1, 0),
+            ("City", 1, 1),
+        ],
+        uses: &[0, 1],
+        measures: &[("Units", Aggregator::Sum), ("Count", Aggregator::Count)],
+    };
     Ok(Setting {
-        catalog: catalog(alloc, dimensions, columns, cubes)?,
+        catalog: catalog(alloc, &parts)?,
         row_limit,
         budget: 0,
     })

@@ -1,6 +1,6 @@
 //! A manager with the jobs of its loads in flight.
 ghost use Rattle.std.specs.Prelude.{◌≡◌, ◌≤◌, IfOk, IsTrue, Some};
-ghost use Rattle.fact_reader.specs.BodyRows.{body_of, rows_in};
+ghost use Rattle.fact_reader.specs.BodyRows.{HoldsRows, rows_in};
 ghost use Rattle.segment_header.specs.Widening.{Serves, are_wanted};
 
 use crate::checks::{are_known, is_next};
@@ -43,7 +43,7 @@ fn run<L: Ledger>(alloc: Global, job: LoadJob, blank: Blank) -> Result<Delivery,
     requires one { blank.parts ≡ 1 }
     ensures load { IfOk result (λ delivery. delivery.load ≡ job.load) }
     ensures who { IfOk result (λ delivery. delivery.who ≡ job.who) }
-    ensures body { IfOk result (λ delivery. Some delivery.body ≡ body_of job.catalog job.header (rows_in job.snapshot)) }
+    ensures body { IfOk result (λ delivery. HoldsRows job.catalog job.header (rows_in job.snapshot) delivery.body) }
 {
     let mut steps: Steps<L> = Steps::new(blank);
     run_load(alloc, job, &mut steps)

@@ -380,10 +380,8 @@ fn step(
     Ok(())
 }
 
-/// Makes so many calls that are drawn from a seed, and says what came of them.
-pub fn play_drawn(alloc: Global, seed: u64, calls: u32) -> Result<Counts, Fail> {
-    let mut random = Random { state: seed };
-    let mut compared = Compared::new(alloc)?;
+// Makes so many calls that are drawn, and says what came of them.
+fn play(compared: &mut Compared, random: &mut Random, calls: u32) -> Result<Counts, Fail> {
     let mut counts = Counts {
         answers: 0,
         rolled: 0,
@@ -394,7 +392,14 @@ pub fn play_drawn(alloc: Global, seed: u64, calls: u32) -> Result<Counts, Fail> 
         touched: 0,
     };
     for call in 0..calls {
-        step(&mut compared, &mut random, u64::from(call) + 1, &mut counts)?;
+        step(compared, random, u64::from(call) + 1, &mut counts)?;
     }
     Ok(counts)
+}
+
+/// Makes so many calls that are drawn from a seed, and says what came of them.
+pub fn play_drawn(alloc: Global, seed: u64, calls: u32) -> Result<Counts, Fail> {
+    let mut random = Random { state: seed };
+    let mut compared = Compared::new(alloc)?;
+    play(&mut compared, &mut random, calls)
 }

@@ -118,11 +118,25 @@ fn told(alloc: Global, run: &Run, table: &str) -> Result<String, Fail> {
     Ok(text)
 }
 
+// The run of the calls of a table over the sample files.
+fn run_of(alloc: Global, table: &str, widener: &Widener) -> Result<Run, Fail> {
+    let catalog = open(alloc)?;
+    let calls = calls_of(alloc, &catalog, table)?;
+    match run::<Brand>(alloc, catalog, calls, widener, Blank::new(1)) {
+        Ok(run) => Ok(run),
+        Err(_) => Err(Fail::from("no memory")),
+    }
+}
+
+// What is told of a run.
+fn told_run(alloc: Global, run: &Run, table: &str) -> Result<(String, usize, u64), Fail> {
+    let text = told(alloc, run, table)?;
+    Ok((text, run.replies.len(), run.manager.history().len()))
+}
+
 /// A table of calls, and what each is answered; and how many replies and entries there are then. A call is `append SEAT
 /// FILE`, `look SEAT CELL ..`, `flush SEAT TEXT`, `show SEAT`, or `deliver JOB` or `abandon JOB` by the place of a job.
 pub fn tell_calls(alloc: Global, table: &str) -> Result<(String, usize, u64), Fail> {
-    let catalog = open(alloc)?;
-    let calls = calls_of(alloc, &catalog, table)?;
     let widen: Widening = Box::new(
         alloc,
         move |wanted: &[ValueId], count: u32| -> Result<Allowed, OutOfMemory>
@@ -131,9 +145,6 @@ pub fn tell_calls(alloc: Global, table: &str) -> Result<(String, usize, u64), Fa
         { not_widened(alloc, wanted, count) },
     )?;
     let widener = Widener::new(widen);
-    let Ok(run) = run::<Brand>(alloc, catalog, calls, &widener, Blank::new(1)) else {
-        return Err(Fail::from("no memory"));
-    };
-    let text = told(alloc, &run, table)?;
-    Ok((text, run.replies.len(), run.manager.history().len()))
+    let run = run_of(alloc, table, &widener)?;
+    told_run(alloc, &run, table)
 }

@@ -102,7 +102,7 @@ fn header(alloc: Global, measure: u16, names: &[Only]) -> Result<Header, OutOfMe
     }
 }
 
-fn made(catalog: Arc<Catalog>, header: Header, snapshot: Snapshot) -> LoadJob
+fn made(catalog: Arc<Catalog>, header: Header, snapshot: Snapshot) -> Result<LoadJob, OutOfMemory>
     requires sample { IsSample catalog.value }
     requires well_formed { IsTrue (headers.is_header header) }
     requires cube { header.cube ≡ 0 }
@@ -110,7 +110,7 @@ fn made(catalog: Arc<Catalog>, header: Header, snapshot: Snapshot) -> LoadJob
     requires known { list_all (λ column. nat_lt column.0 3) header.columns ≡ true }
     requires fit { IsTrue (are_batches catalog.value 0 snapshot) }
 {
-    LoadJob::new(catalog, 7, Who { seat: 1, call: 2 }, header, snapshot)
+    LoadJob::new(catalog, 7, Who { seat: 1, call: 2 }, header, snapshot, &[])
 }
 
 /// A job for a measure over some columns, from some batches.
@@ -124,5 +124,5 @@ pub(crate) fn job(
     let catalog = catalog(alloc)?;
     let snapshot = snapshot(alloc, &catalog, batches)?;
     let shared = Arc::new(alloc, catalog)?;
-    Ok(made(shared, header, snapshot))
+    made(shared, header, snapshot)
 }

@@ -12,12 +12,17 @@ use std::alloc::Global;
 use std::sync::Arc;
 use std::test::Fail;
 
-/// The catalog of the sample schema and tables.
-pub fn open(alloc: Global) -> Result<Arc<Catalog>, Fail> {
-    match open_catalog(alloc, schema(), &[times(), stores()]) {
+/// The catalog of a schema's file and its tables' files, for several owners.
+pub fn open_shared(alloc: Global, schema: &[u8], tables: &[&[u8]]) -> Result<Arc<Catalog>, Fail> {
+    match open_catalog(alloc, schema, tables) {
         Some(catalog) => Ok(Arc::new(alloc, catalog)?),
         None => Err(Fail::from("no catalog")),
     }
+}
+
+/// The catalog of the sample schema and tables.
+pub fn open(alloc: Global) -> Result<Arc<Catalog>, Fail> {
+    open_shared(alloc, schema(), &[times(), stores()])
 }
 
 /// The batch of a file of the first cube, or its fault.

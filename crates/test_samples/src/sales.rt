@@ -1,10 +1,9 @@
 //! A catalog of one cube with the cube's batches.
-ghost use Rattle.std.specs.Prelude.{◌≡◌, IfOk, IsTrue, take};
+ghost use Rattle.std.specs.Prelude.{◌≡◌, IfOk, IsTrue, OnOk, take};
 ghost use Rattle.fact_reader.specs.BodyRows.{are_batches};
 ghost use Rattle.test_samples.specs.Sales.{IsSales};
 
-use crate::open_catalog;
-use crate::opened::read;
+use crate::opened::{open_shared, read};
 use fact_versions::{Facts, Snapshot};
 use olap_catalog::Catalog;
 use olap_meaning::{CubeId, ROW_LIMIT, Version};
@@ -39,14 +38,9 @@ impl Sales {
         tables: &[&[u8]],
         batches: &[&[u8]],
     ) -> Result<Sales, Fail> {
-        let Some(catalog) = open_catalog(alloc, schema, tables) else {
-            return Err(Fail::from("no catalog"));
-        };
+        let catalog = open_shared(alloc, schema, tables)?;
         let facts = facts_of(alloc, &catalog, batches)?;
-        Ok(Sales {
-            catalog: Arc::new(alloc, catalog)?,
-            facts,
-        })
+        Ok(Sales { catalog, facts })
     }
 
     pub fn catalog(&self) -> &Catalog
@@ -79,6 +73,34 @@ impl Sales {
     }
 }
 
+// Appends the batch of a file.
+fn append(alloc: Global, catalog: &Catalog, facts: &mut Facts, file: &[u8]) -> Result<(), Fail>
+    requires { IsSales catalog.now facts.old }
+    ensures { OnOk result (IsSales catalog.now facts.new) }
+{
+    let shared = Arc::new(alloc, read(alloc, catalog, file)?)?;
+    match facts.append(CubeId(0), shared) {
+        Ok(_) => Ok(()),
+        Err(_) => Err(Fail::from("no batch")),
+    }
+}
+
+// Appends the batches of some files.
+fn append_all(
+    alloc: Global,
+    catalog: &Catalog,
+    facts: &mut Facts,
+    batches: &[&[u8]],
+) -> Result<(), Fail>
+    requires { IsSales catalog.now facts.old }
+    ensures { OnOk result (IsSales catalog.now facts.new) }
+{
+    for file in batches {
+        append(alloc, catalog, facts, file)?;
+    }
+    Ok(())
+}
+
 // The cube of some files, in its last version.
 fn facts_of(alloc: Global, catalog: &Catalog, batches: &[&[u8]]) -> Result<Facts, Fail>
     ensures { IfOk result (IsSales catalog.now) }
@@ -86,12 +108,6 @@ fn facts_of(alloc: Global, catalog: &Catalog, batches: &[&[u8]]) -> Result<Facts
     let Ok(mut facts) = Facts::new(alloc, 1, ROW_LIMIT) else {
         return Err(Fail::from("no memory"));
     };
-    for file in batches {
-        let batch = read(alloc, catalog, file)?;
-        let shared = Arc::new(alloc, batch)?;
-        if let Err(_fault) = facts.append(CubeId(0), shared) {
-            return Err(Fail::from("no batch"));
-        }
-    }
+    append_all(alloc, catalog, &mut facts, batches)?;
     Ok(facts)
 }

@@ -1,9 +1,12 @@
 -- A job that is run is taken out and its load delivered, or it is put back.
-use Rattle.std.proofs.Common.{◌≡◌, ◌∙◌, ◌<◌, ◌==◌, ◌++◌, ◌∷◌, [], ℕ, List, refl, sym, ap, arith, length, map}
+use Rattle.std.proofs.Common.{◌≡◌, ◌∙◌, ◌<◌, ◌==◌, ◌++◌, ◌∷◌, [], ℕ, List, refl, sym, ap, subst, arith, length, map}
 use Rattle.std.specs.Prelude.{insert, remove}
+use Rattle.std.proofs.lemmas.List.Elements.{All-get_or}
 use Rattle.olap_meaning.specs.declared.cells.Who.{Who}
 use Rattle.olap_meaning.specs.History.{Entry, Done}
 use Rattle.segment_load.specs.Loads.{JobOf}
+use Rattle.cache_manager.specs.Jobs.{IsJobOf}
+use Rattle.cache_manager.proofs.JobFacts.{own_body}
 use Rattle.cache_manager.proofs.Running.{ending_is, goes_on, length_map, map_remove, put_back, rows_are, run_ended, run_later, stays}
 use Rattle.cache_manager.proofs.calls.run_delivery.Goals as goal
 
@@ -89,3 +92,9 @@ returns-in-Err-clause-at_most g c n =
     let within : c.args.job < length c.args.jobs.now.items = omega (arith, c.if-job-len.false, c.len.ensures, c.args.jobs.now.ok.0) in
     let rows = rows_are c.args.manager.now c.args.jobs.now.items n c.args.job c.remove.result c.requires.jobs within c.remove.ensures.value in
     omega (arith, rows, c.run_load.ensures.at_most)
+
+pub deliver-requires : goal.deliver-requires
+deliver-requires g c =
+    let within : c.args.job < length c.args.jobs.now.items = omega (arith, c.if-job-len.false, c.len.ensures, c.args.jobs.now.ok.0) in
+    let is : IsJobOf c.args.manager.now c.remove.result = subst (IsJobOf c.args.manager.now) (sym c.remove.ensures.value) (All-get_or (IsJobOf c.args.manager.now) c.args.jobs.now.items c.args.job c.remove.result within c.requires.jobs) in
+    rw (c.in-Ok.ensures.who, c.in-Ok.ensures.load) (record { own = own_body c.args.manager.now c.remove.result c.in-Ok.delivery.body is c.in-Ok.ensures.body })

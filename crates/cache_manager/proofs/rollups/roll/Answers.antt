@@ -3,7 +3,7 @@ use Rattle.std.proofs.Common.{◌∙◌, ap, sym, subst, arith, List, All}
 use Rattle.std.specs.List.{AllZip}
 use Rattle.olap_meaning.specs.declared.cells.Cell.{Cell}
 use Rattle.segment_body.specs.AllFolds as folds
-use Rattle.rollup_plan.specs.Laws.{RowsAreValued}
+use Rattle.fact_reader.specs.Laws.{RowsAreValued}
 use Rattle.rollup_plan.specs.Rolls.{IsRolledUp, LieBehind}
 use Rattle.cache_manager.proofs.Behind.{alike_columns, all_behind, all_rows, few_rows, named, ok_worth, shown}
 use Rattle.cache_manager.proofs.rollups.roll.Goals as goal

@@ -7,7 +7,7 @@ use Rattle.outside.specs.Talks.{taken}
 use Rattle.input_lines.specs.Reader.{Reading}
 use Rattle.line_session.specs.Conversations.{HasConversed}
 use Rattle.line_session.proofs.Conversing.{turn_ends, turn_fewer, turn_goes_on}
-use Rattle.line_session.proofs.Rows.{on_and_on, rows_joined}
+use Rattle.line_session.proofs.Rows.{on_and_on, costs_joined}
 use Rattle.line_session.proofs.Serving.{from_begin, turn_ends_served, turn_goes_on_served}
 use Rattle.line_session.proofs.session.serve.Goals as goal
 
@@ -25,7 +25,7 @@ returns-in-Some-clause-served g c = λ other.
 
 pub returns-in-Some-clause-at_most : goal.returns-in-Some-clause-at_most
 returns-in-Some-clause-at_most g c =
-    let read = rows_joined (g.P.Desk.seen c.args.desk.now) (g.P.Desk.seen c.loop-end.desk) (g.P.Desk.seen c.take_turn-turn.new.desk) c.loop-end.invariant.legal c.loop-end.invariant.grown c.take_turn-turn.ensures.grown in
+    let read = costs_joined (g.P.Desk.seen c.args.desk.now) (g.P.Desk.seen c.loop-end.desk) (g.P.Desk.seen c.take_turn-turn.new.desk) c.loop-end.invariant.grown c.take_turn-turn.ensures.grown in
     omega (arith, read, c.loop-end.invariant.at_most, c.take_turn-turn.ensures.at_most)
 
 pub loop-end-smaller : goal.loop-end-smaller
@@ -33,7 +33,7 @@ loop-end-smaller g c = turn_fewer _ c.loop-end.reader c.take_turn-turn.new.reade
 
 pub loop-end-preserved : goal.loop-end-preserved
 loop-end-preserved g c =
-    let read = rows_joined (g.P.Desk.seen c.args.desk.now) (g.P.Desk.seen c.loop-end.desk) (g.P.Desk.seen c.take_turn-turn.new.desk) c.loop-end.invariant.legal c.loop-end.invariant.grown c.take_turn-turn.ensures.grown in
+    let read = costs_joined (g.P.Desk.seen c.args.desk.now) (g.P.Desk.seen c.loop-end.desk) (g.P.Desk.seen c.take_turn-turn.new.desk) c.loop-end.invariant.grown c.take_turn-turn.ensures.grown in
     record {
       served = λ end after answers sent other rest. c.loop-end.invariant.served end after answers sent other
           (turn_goes_on_served _ c.loop-end.reader c.take_turn-turn.new.reader _ (g.P.Desk.seen c.take_turn-turn.new.desk) after _ _ sent _ (g.D.Depot.answers c.take_turn-turn.new.depot) answers _ _ _ end other c.loop-end.invariant.at_end c.in_default-turn.ensures.turn rest);

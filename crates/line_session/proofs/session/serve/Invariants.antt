@@ -8,7 +8,7 @@ use Rattle.segment_header.specs.contracts.widener.WidenerAllowsValues.TheImpl as
 use Rattle.line_session.specs.Tools.{tools_of}
 use Rattle.input_lines.specs.Reader.{IsAtEnd, allowed, not_given}
 use Rattle.olap_meaning.specs.Legal.{Legal}
-use Rattle.line_session.specs.Desks.{DeskOf, GoesOn, rows_between}
+use Rattle.line_session.specs.Desks.{DeskOf, GoesOn, costs_between}
 use Rattle.line_session.specs.Conversations.{HasConversed}
 use Rattle.line_session.specs.declared.end.SessionEnd.{SessionEnd}
 use Rattle.line_session.specs.declared.end.SessionEnd.TheVariants.{Memory}
@@ -29,7 +29,7 @@ invariant-loop-end g l = record {
   at_end : IsAtEnd l.reader.ended (g.K.Link.left l.link);
   files : g.D.Depot.files l.depot ≡ g.D.Depot.files l.initial.depot;
   at_least : l.initial.steps ≤ l.steps;
-  at_most : l.steps ≤ l.initial.steps + rows_between (g.P.Desk.seen l.initial.desk) (g.P.Desk.seen l.desk);
+  at_most : l.steps ≤ l.initial.steps + costs_between (g.P.Desk.seen l.initial.desk) (g.P.Desk.seen l.desk);
 }
 
 abbrev pub decreases-loop-end : goal.decreases-loop-end

@@ -1,7 +1,8 @@
--- An ask adds the loads that its cells lack, all ended, and then the answer, and reads the rows of those loads.
+-- An ask adds the loads that its cells lack, all ended, and then the answer, and costs what those loads do.
 use Rattle.std.proofs.Common.{◌≡◌, ◌∙◌, ◌+◌, ◌++◌, ◌∷◌, [], List, ap, sym, refl, subst, arith, length, map}
 use Rattle.std.proofs.lemmas.List.Elements.{All-weaker}
 use Rattle.olap_meaning.specs.declared.cells.Who.{Who}
+use Rattle.olap_meaning.specs.declared.tables.Setting.{Setting}
 use Rattle.olap_meaning.specs.History.{Answer, Entry}
 use Rattle.segment_load.specs.Loads.{JobOf}
 use Rattle.history_core.specs.Cache.{CacheOf}
@@ -10,11 +11,12 @@ use Rattle.segment_header.specs.contracts.widener.WidenerAllowsValues.TheImpl.{a
 use Rattle.segment_header.specs.Widening.{Widened}
 use Rattle.cache_manager.specs.Runs.{apart}
 use Rattle.cache_manager.proofs.JobFacts.{apart_numbers}
-use Rattle.line_session.specs.Desks.{rows_started}
+use Rattle.line_session.specs.Desks.{costs_started}
 use Rattle.manager_desk.specs.Ends.{AddsEnded}
+use Rattle.manager_desk.specs.Keeping.{IsCount}
 use Rattle.manager_desk.proofs.Calling.{on_error}
 use Rattle.manager_desk.proofs.Counting.{count_one, count_starts}
-use Rattle.manager_desk.proofs.Joining.{IsStarted, adds_answer, adds_ended, all_delivered, jobs_own, next_again, none_allowed, none_lacking, numbers_are, only_started, read_ended, read_in_all, ready_again, still_idle}
+use Rattle.manager_desk.proofs.Joining.{IsStarted, adds_answer, adds_ended, all_delivered, jobs_own, next_again, none_allowed, none_lacking, numbers_are, only_started, cost_ended, cost_in_all, ready_again, still_idle}
 use Rattle.manager_desk.proofs.asking.ask.Goals as goal
 
 pub end_loads-requires : goal.end_loads-requires
@@ -34,7 +36,7 @@ end_loads-requires g c =
           (jobs_own (Widened ((answers-value g.dyn-1).it c.args.widener.now)) c.args.manager.now c.look.new.self c.args.who c.args.cells.now (map (λ job. job.header) c.in-Load.jobs) c.in-Load.jobs look);
       different = ap apart look.numbers ∙ apart_numbers (length c.args.manager.now.entries + 1) (load_count c.args.manager.now c.args.cells.now);
       complete = only_started c.args.manager.now.entries c.look.new.self.entries _ c.in-Load.jobs c.requires.idle look.entries (numbers_are (Widened ((answers-value g.dyn-1).it c.args.widener.now)) c.args.manager.now c.look.new.self c.args.who c.args.cells.now (map (λ job. job.header) c.in-Load.jobs) c.in-Load.jobs look);
-      count = count_starts c.args.manager.now.setting c.args.manager.now.entries c.look.new.self.entries _ c.args.read.now c.steps_are_legal.ensures look.entries c.requires.count;
+      count = subst (λ (s : Setting). IsCount s.catalog c.look.new.self.entries c.args.read.now) (sym look.setting) (count_starts c.args.manager.now.setting c.args.manager.now.entries c.look.new.self.entries _ c.args.read.now c.steps_are_legal.ensures look.entries c.requires.count);
     }
 
 pub returns-then-not-end_loads-clause-refused : goal.returns-then-not-end_loads-clause-refused
@@ -59,7 +61,7 @@ returns-then-not-end_loads-clause-at_most g c =
       are = rw c.in-Load.is at c.in_ok-answer.ensures.jobs;
       legal = c.steps_are_legal-in-Load.ensures;
     } in
-    let read = read_ended (Widened ((answers-value g.dyn-1).it c.args.widener.now)) c.args.manager.now c.look.new.self c.args.who c.args.cells.now (map (λ job. job.header) c.in-Load.jobs) c.in-Load.jobs look c.end_loads.new.manager.entries c.end_loads.ensures.ended c.requires.seat in
+    let read = cost_ended (Widened ((answers-value g.dyn-1).it c.args.widener.now)) c.args.manager.now c.look.new.self c.args.who c.args.cells.now (map (λ job. job.header) c.in-Load.jobs) c.in-Load.jobs look c.end_loads.new.manager.entries c.end_loads.ensures.ended c.requires.seat in
     omega (arith, read, c.end_loads.ensures.at_most)
 
 pub answer_ready-requires-clause-call : goal.answer_ready-requires-clause-call
@@ -111,8 +113,8 @@ returns-in_err-answer-in-Load-clause-at_most g c =
       are = rw c.in-Load.is at c.in_ok-answer.ensures.jobs;
       legal = c.steps_are_legal-in-Load.ensures;
     } in
-    let same = ap (λ (m : CacheOf). rows_started 1 c.args.manager.now.entries m.entries) c.in_err-answer-in-Load.ensures.unchanged in
-    let read = read_ended (Widened ((answers-value g.dyn-1).it c.args.widener.now)) c.args.manager.now c.look.new.self c.args.who c.args.cells.now (map (λ job. job.header) c.in-Load.jobs) c.in-Load.jobs look c.end_loads.new.manager.entries c.end_loads.ensures.ended c.requires.seat in
+    let same = ap (λ (m : CacheOf). costs_started c.args.manager.now.setting.catalog 1 c.args.manager.now.entries m.entries) c.in_err-answer-in-Load.ensures.unchanged in
+    let read = cost_ended (Widened ((answers-value g.dyn-1).it c.args.widener.now)) c.args.manager.now c.look.new.self c.args.who c.args.cells.now (map (λ job. job.header) c.in-Load.jobs) c.in-Load.jobs look c.end_loads.new.manager.entries c.end_loads.ensures.ended c.requires.seat in
     omega (arith, same, read, c.end_loads.ensures.at_most)
 
 pub returns-in-Ready-clause-answered : goal.returns-in-Ready-clause-answered
@@ -150,8 +152,9 @@ returns-in_ok-answer-in-Load-clause-idle g c =
 
 pub returns-in_ok-answer-in-Load-clause-count : goal.returns-in_ok-answer-in-Load-clause-count
 returns-in_ok-answer-in-Load-clause-count g c =
-    count_one c.end_loads.new.manager.setting c.end_loads.new.manager.entries c.answer_ready.new.manager.entries (Answer c.args.who c.in_ok-answer-in-Load.answer.sources.value) c.end_loads.new.read c.steps_are_legal-in-Load-2.ensures refl
-    c.in_ok-answer-in-Load.ensures.entry c.end_loads.ensures.count
+    subst (λ (s : Setting). IsCount s.catalog c.answer_ready.new.manager.entries c.end_loads.new.read) (c.end_loads.ensures.setting ∙ c.look.ensures.setting)
+    (count_one c.end_loads.new.manager.setting c.end_loads.new.manager.entries c.answer_ready.new.manager.entries (Answer c.args.who c.in_ok-answer-in-Load.answer.sources.value) c.end_loads.new.read c.steps_are_legal-in-Load-2.ensures refl c.in_ok-answer-in-Load.ensures.entry
+    (subst (λ (s : Setting). IsCount s.catalog c.end_loads.new.manager.entries c.end_loads.new.read) (sym c.end_loads.ensures.setting) c.end_loads.ensures.count))
 
 pub returns-in_ok-answer-in-Load-clause-cost : goal.returns-in_ok-answer-in-Load-clause-cost
 returns-in_ok-answer-in-Load-clause-cost g c =
@@ -164,7 +167,7 @@ returns-in_ok-answer-in-Load-clause-cost g c =
       legal = c.steps_are_legal-in-Load.ensures;
     } in
     let read =
-    read_in_all (Widened ((answers-value g.dyn-1).it c.args.widener.now)) c.args.manager.now c.look.new.self c.args.who c.args.cells.now (map (λ job. job.header) c.in-Load.jobs) c.in-Load.jobs look c.answer_ready.new.manager.entries (Answer c.args.who c.in_ok-answer-in-Load.answer.sources.value) c.requires.seat refl (λ es. refl)
+    cost_in_all (Widened ((answers-value g.dyn-1).it c.args.widener.now)) c.args.manager.now c.look.new.self c.args.who c.args.cells.now (map (λ job. job.header) c.in-Load.jobs) c.in-Load.jobs look c.answer_ready.new.manager.entries (Answer c.args.who c.in_ok-answer-in-Load.answer.sources.value) c.requires.seat (λ es. refl)
     (c.in_ok-answer-in-Load.ensures.entry ∙ ap (λ (es : List Entry). es ++ Answer c.args.who c.in_ok-answer-in-Load.answer.sources.value ∷ []) (c.end_loads.ensures.delivered c.if-not-end_loads.false)) in
     let cost = c.end_loads.ensures.cost c.if-not-end_loads.false in
     omega (arith, read, cost)
@@ -180,6 +183,6 @@ returns-in_ok-answer-in-Load-clause-at_most g c =
       legal = c.steps_are_legal-in-Load.ensures;
     } in
     let read =
-    read_in_all (Widened ((answers-value g.dyn-1).it c.args.widener.now)) c.args.manager.now c.look.new.self c.args.who c.args.cells.now (map (λ job. job.header) c.in-Load.jobs) c.in-Load.jobs look c.answer_ready.new.manager.entries (Answer c.args.who c.in_ok-answer-in-Load.answer.sources.value) c.requires.seat refl (λ es. refl)
+    cost_in_all (Widened ((answers-value g.dyn-1).it c.args.widener.now)) c.args.manager.now c.look.new.self c.args.who c.args.cells.now (map (λ job. job.header) c.in-Load.jobs) c.in-Load.jobs look c.answer_ready.new.manager.entries (Answer c.args.who c.in_ok-answer-in-Load.answer.sources.value) c.requires.seat (λ es. refl)
     (c.in_ok-answer-in-Load.ensures.entry ∙ ap (λ (es : List Entry). es ++ Answer c.args.who c.in_ok-answer-in-Load.answer.sources.value ∷ []) (c.end_loads.ensures.delivered c.if-not-end_loads.false)) in
     omega (arith, read, c.end_loads.ensures.at_most)

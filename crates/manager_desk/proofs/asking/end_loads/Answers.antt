@@ -5,11 +5,13 @@ use Rattle.std.proofs.lemmas.Iterator.Consumers.{YieldsList-turn}
 use Rattle.std.proofs.lemmas.List.{append_assoc, length_push, map_push}
 use Rattle.std.proofs.lemmas.List.Elements.{All-get_or, All-head}
 use Rattle.std.proofs.lemmas.List.Sums.{sum_by_push}
+use Rattle.olap_meaning.specs.declared.tables.Setting.{Setting}
 use Rattle.olap_meaning.specs.History.{Entry}
-use Rattle.segment_load.specs.Loads.{JobOf}
+use Rattle.segment_load.specs.Loads.{JobOf, job_cost}
 use Rattle.cache_manager.specs.Jobs.{IsJobOf}
 use Rattle.cache_manager.specs.Runs.{apart}
-use Rattle.manager_desk.specs.Ends.{AreOut, done_of, end_of, rows_of_job}
+use Rattle.manager_desk.specs.Ends.{AreOut, done_of, end_of}
+use Rattle.manager_desk.specs.Keeping.{IsCount}
 use Rattle.manager_desk.proofs.Ending.{drop_at, ended_more, rest_out}
 use Rattle.manager_desk.proofs.asking.end_loads.Goals as goal
 
@@ -26,7 +28,7 @@ end_load-run-requires g c =
           (subst (λ (xs : List JobOf). All (IsJobOf c.loop-job.manager) xs) (drop_at c.args.jobs (length c.loop-job.yielded) c.in-Some.job within at) c.loop-job.invariant.jobs);
       seat =
           subst (λ (job : JobOf). job.who.seat ≡ 1) (sym at) (All-get_or (λ (job : JobOf). job.who.seat ≡ 1) c.args.jobs (length c.loop-job.yielded) c.in-Some.job within c.requires.seats);
-      count = c.loop-job.invariant.count;
+      count = subst (λ (s : Setting). IsCount s.catalog c.loop-job.manager.entries c.loop-job.read) (sym c.loop-job.invariant.setting) c.loop-job.invariant.count;
     }
 
 pub loop-job-preserved : goal.loop-job-preserved
@@ -43,7 +45,7 @@ loop-job-preserved g c =
     (subst (λ (xs : List JobOf). apart (map (λ job. job.load) xs) ≡ true) front c.loop-job.invariant.different)
     (subst (λ (xs : List JobOf). AreOut c.loop-job.manager.entries xs) front c.loop-job.invariant.complete) in
     let more : length (c.loop-job.yielded ++ c.in-Some.job ∷ []) ≡ length c.loop-job.yielded + 1 = length_push c.loop-job.yielded c.in-Some.job in
-    let sums = sum_by_push rows_of_job c.loop-job.yielded c.in-Some.job in
+    let sums = sum_by_push job_cost c.loop-job.yielded c.in-Some.job in
     record {
       setting = c.end_load-run.ensures.setting ∙ c.loop-job.invariant.setting;
       jobs = rw more out.0;
@@ -56,7 +58,7 @@ loop-job-preserved g c =
           ∙ ap (λ (es : List Entry). es ++ done_of c.in-Some.job ∷ []) (c.loop-job.invariant.delivered (c.end_load-run.ensures.failed delivered))
           ∙ append_assoc c.args.manager.now.entries (map done_of c.loop-job.yielded) (done_of c.in-Some.job ∷ [])
           ∙ ap (λ (es : List Entry). c.args.manager.now.entries ++ es) (sym (map_push done_of c.loop-job.yielded c.in-Some.job));
-      count = c.end_load-run.ensures.count;
+      count = subst (λ (s : Setting). IsCount s.catalog c.end_load-run.new.manager.entries c.end_load-run.new.read) c.loop-job.invariant.setting c.end_load-run.ensures.count;
       cost = λ delivered. let here = c.end_load-run.ensures.cost delivered in let so_far = c.loop-job.invariant.cost (c.end_load-run.ensures.failed delivered) in omega (arith, here, so_far, sums);
       at_least = omega (arith, c.end_load-run.ensures.at_least, c.loop-job.invariant.at_least);
       at_most = omega (arith, c.end_load-run.ensures.at_most, c.loop-job.invariant.at_most, sums);

@@ -1,7 +1,7 @@
 -- A session that was served over the desk of a cache.
 use Rattle.std.proofs.Common.{◌≤◌, ◌+◌, List, ap, ◌∙◌, subst}
 use Rattle.olap_meaning.specs.History.{Entry}
-use Rattle.line_session.specs.Desks.{rows_started}
+use Rattle.line_session.specs.Desks.{costs_started}
 use Rattle.shown_values.specs.contracts.formatter.FormatterGivesTexts.TheImpl as formats
 use Rattle.segment_header.specs.contracts.widener.WidenerAllowsValues.TheImpl as widens
 use Rattle.line_session.specs.Tools.{tools_of}
@@ -22,5 +22,5 @@ returns-clause-served g c =
 pub returns-clause-cost : goal.returns-clause-cost
 returns-clause-cost g c =
     let after = c.into_history.ensures.entries ∙ ap (λ (k : CacheOf). k.entries) c.into_manager-manager.ensures.same in
-    let most : List Entry → Type 0 = λ es. c.serve_desk-status.new.steps ≤ c.args.steps.now + rows_started 1 es c.serve_desk-status.new.desk.entries in
-    (c.serve_desk-status.ensures.at_least, rw (after) (subst most (ap (λ (k : CacheOf). k.entries) c.new-desk.ensures) c.serve_desk-status.ensures.at_most))
+    let most : CacheOf → Type 0 = λ k. c.serve_desk-status.new.steps ≤ c.args.steps.now + costs_started k.setting.catalog 1 k.entries c.serve_desk-status.new.desk.entries in
+    (c.serve_desk-status.ensures.at_least, rw (after) (subst most c.new-desk.ensures c.serve_desk-status.ensures.at_most))

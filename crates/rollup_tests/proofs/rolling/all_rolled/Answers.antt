@@ -1,6 +1,6 @@
 -- The rows of the version of the plan's loads lie behind the plan, whatever the cell.
 use Rattle.std.proofs.Common.{subst}
-use Rattle.rollup_plan.specs.Laws.{RowsAreValued}
+use Rattle.fact_reader.specs.Laws.{RowsAreValued}
 use Rattle.rollup_tests.proofs.BehindFacts.{all_behind}
 use Rattle.rollup_tests.proofs.rolling.all_rolled.Goals as goal
 

@@ -1,6 +1,6 @@
 -- The rows of the version of the plan's loads lie behind the plan.
 use Rattle.std.proofs.Common.{subst}
-use Rattle.rollup_plan.specs.Laws.{RowsAreValued}
+use Rattle.fact_reader.specs.Laws.{RowsAreValued}
 use Rattle.rollup_tests.proofs.BehindFacts.{few, lie_behind, rows}
 use Rattle.rollup_tests.proofs.rolling.rolled.Goals as goal
 

@@ -34,13 +34,14 @@ pub returns : goal.returns
 returns g c =
     let own : IsHeaderFor (Widened ((answers-value g.dyn-1).it c.args.widener.now)) c.args.self.now.setting.catalog c.args.group.now.first.now (lent c.args.group.now.cells.items) c.in_ok-header.header =
     subst (λ (k : Catalog). IsHeaderFor (Widened ((answers-value g.dyn-1).it c.args.widener.now)) k c.args.group.now.first.now (lent c.args.group.now.cells.items) c.in_ok-header.header) (c.deref.ensures ∙ c.catalog.ensures) c.in_ok-header.ensures in
-    let header : c.new.result.header ≡ c.in_ok-header.header = ap (λ (j : JobOf). j.header) c.new.ensures in
+    let header : c.in_ok-new.field-0.header ≡ c.in_ok-header.header = ap (λ (j : JobOf). j.header) c.in_ok-new.ensures in
     record {
       allowed = rw header own;
       start = rw (header, c.in_ok-copy.ensures, c.version-version.ensures ∙ c.in_ok-snapshot.ensures.version, c.in_ok-copy_cell.ensures) refl;
       flight = rw (header, c.in_ok-other.ensures, c.version-version.ensures ∙ c.in_ok-snapshot.ensures.version) refl;
-      load = ap (λ (j : JobOf). j.load) c.new.ensures;
-      who_is = ap (λ (j : JobOf). j.who) c.new.ensures;
-      catalog = ap (λ (j : JobOf). j.catalog) c.new.ensures ∙ c.in_ok-catalog.ensures ∙ c.catalog-2.ensures;
-      rows = ap (λ (j : JobOf). rows_in j.snapshot) c.new.ensures ∙ c.in_ok-snapshot.ensures.rows;
+      load = ap (λ (j : JobOf). j.load) c.in_ok-new.ensures;
+      who_is = ap (λ (j : JobOf). j.who) c.in_ok-new.ensures;
+      catalog = ap (λ (j : JobOf). j.catalog) c.in_ok-new.ensures ∙ c.in_ok-catalog.ensures ∙ c.catalog-2.ensures;
+      rows = ap (λ (j : JobOf). rows_in j.snapshot) c.in_ok-new.ensures ∙ c.in_ok-snapshot.ensures.rows;
+      facts = ap (λ (j : JobOf). j.read) c.in_ok-new.ensures;
     }

@@ -1,6 +1,6 @@
 -- The Starts that were prepared are legal, and their jobs and flights are those of the history.
-use Rattle.std.proofs.Common.{◌≡◌, ◌∙◌, ◌+◌, ◌++◌, List, [], ap, sym, subst, arith, length, map, true, not, All}
-use Rattle.std.specs.List.{list_all}
+use Rattle.std.proofs.Common.{false, ◌≡◌, ◌∙◌, ◌+◌, ◌++◌, List, [], ap, sym, subst, arith, length, map, true, not, All}
+use Rattle.std.specs.List.{list_all, list_any}
 use Rattle.std.proofs.lemmas.Simd.{map-map}
 use Rattle.std.specs.Vec.{vec_len}
 use Rattle.olap_meaning.specs.declared.cells.Header.{Header}
@@ -13,6 +13,7 @@ use Rattle.olap_meaning.specs.Legal.{Legal, has_source, is_cell}
 use Rattle.history_core.specs.Cache.{CacheOf}
 use Rattle.history_core.specs.Groups.{AreHeadersFor, firsts, loads_over}
 use Rattle.cell_groups.specs.Lent.{lent}
+use Rattle.load_costs.specs.Costs.{builds}
 use Rattle.cache_manager.specs.Jobs.{IsJobOf}
 use Rattle.history_core.specs.Seats.{NoneFlies}
 use Rattle.cache_manager.specs.declared.starts.Planned.{Planned}
@@ -89,4 +90,4 @@ returns-clause-jobs g c =
     subst (λ (js : List JobOf). All (IsJobOf (record { setting = c.start_all.new.history.setting; entries = c.start_all.new.history.entries })) js) (sym jobs)
     (subst (λ (s : Setting). All (IsJobOf (record { setting = s; entries = c.start_all.new.history.entries })) (map (λ p. p.job) c.in_ok-plans.plans.items)) (sym settings)
     (subst (λ (es : List Entry). All (IsJobOf (record { setting = c.args.self.now.setting; entries = es })) (map (λ p. p.job) c.in_ok-plans.plans.items)) (sym entries)
-    (jobs_started (Widened ((answers-value g.dyn-1).it c.args.widener.now)) c.args.self.now c.args.who (lent c.args.wanted.now) c.in_ok-plans.plans.items legal c.requires.known c.requires.unserved c.requires.idle c.in_ok-plans.ensures)))
+    (jobs_started (Widened ((answers-value g.dyn-1).it c.args.widener.now)) c.args.self.now c.args.who (lent c.args.wanted.now) c.in_ok-plans.plans.items legal c.requires.known c.requires.unserved c.requires.idle c.in_ok-plans.ensures (subst (λ (k : CacheOf). list_any builds k.entries ≡ false) c.self.view_is c.self.invariant.unbuilt))))

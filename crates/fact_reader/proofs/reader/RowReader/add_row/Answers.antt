@@ -1,7 +1,7 @@
 -- That `add_row` may call `add`.
 use Rattle.olap_meaning.specs.Worth.{row_value}
 use Rattle.fact_reader.specs.Reading.{row_at}
-use Rattle.fact_reader.proofs.ValueFacts.{are_allowed_of}
+use Rattle.segment_body.proofs.ValueFacts.{are_allowed_of}
 use Rattle.fact_reader.proofs.reader.RowReader.add_row.Goals as goal
 
 pub add-requires-clause-allowed : goal.add-requires-clause-allowed

@@ -5,7 +5,7 @@ use Rattle.olap_meaning.specs.Catalog.{leaf_value}
 use Rattle.olap_meaning.specs.Worth.{row_value}
 use Rattle.fact_reader.specs.Reading.{row_at}
 use Rattle.fact_reader.proofs.RowFacts.{reader_placed, leaf_is}
-use Rattle.fact_reader.proofs.ValueFacts.{read}
+use Rattle.segment_body.proofs.ValueFacts.{read}
 use Rattle.fact_reader.proofs.reader.RowReader.value.Goals as goal
 
 pub overflow_cast-index : goal.overflow_cast-index

@@ -2,7 +2,7 @@
 use Rattle.std.proofs.Common.{◌∙◌, ◌<◌, ◌≤◌, length, ap, sym, arith}
 use Rattle.olap_meaning.specs.Worth.{row_value}
 use Rattle.fact_reader.specs.Reading.{ReaderOf, row_at}
-use Rattle.fact_reader.proofs.ValueFacts.{values_end, values_next, values_whole}
+use Rattle.segment_body.proofs.ValueFacts.{values_end, values_next, values_whole}
 use Rattle.fact_reader.proofs.reader.RowReader.values.Goals as goal
 
 pub returns-in-None : goal.returns-in-None

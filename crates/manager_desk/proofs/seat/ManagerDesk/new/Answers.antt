@@ -7,5 +7,5 @@ pub invariant_of-result : goal.invariant_of-result
 invariant_of-result c = record {
   idle = c.requires.idle;
   next = unused_next c.args.manager.entries 1 c.requires.unused;
-  count = unused_count c.args.manager.entries c.requires.unused;
+  count = unused_count c.args.manager.setting.catalog c.args.manager.entries c.requires.unused;
 }

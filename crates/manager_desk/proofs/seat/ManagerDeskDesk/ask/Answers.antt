@@ -1,11 +1,13 @@
 -- What an ask of the manager adds is what the desk has asked, and the desk keeps what it must.
-use Rattle.std.proofs.Common.{◌+◌, ◌∙◌, ap, refl, subst}
+use Rattle.std.proofs.Common.{◌+◌, ◌∙◌, ap, refl, subst, sym}
 use Rattle.olap_meaning.specs.declared.cells.Who.{Who}
+use Rattle.olap_meaning.specs.declared.tables.Setting.{Setting}
 use Rattle.olap_meaning.specs.Legal.{is_next_call}
 use Rattle.history_core.specs.Cache.{CacheOf}
 use Rattle.segment_header.specs.contracts.widener.WidenerAllowsValues.TheImpl.{answers-value}
 use Rattle.segment_header.specs.Widening.{Widened}
 use Rattle.line_session.specs.Desks.{HasAsked, HasNotAsked}
+use Rattle.manager_desk.specs.Keeping.{IsCount}
 use Rattle.manager_desk.proofs.Calling.{desk_of, has_asked, has_not_asked, next_answered, next_refused, nothing_asked, on_error}
 use Rattle.manager_desk.proofs.seat.ManagerDeskDesk.ask.Goals as goal
 
@@ -18,7 +20,7 @@ pub invariant_of-self : goal.invariant_of-self
 invariant_of-self g c = record {
   idle = c.ask.ensures.idle;
   next = next_refused (Widened ((answers-value g.dyn-1).it c.args.widener.now)) c.self.inside.manager c.ask.new.manager c.in-Some.who c.args.cells.now c.self.inside.last c.in-Some.ensures.next c.in_err-answer.ensures.refused c.self.invariant.next;
-  count = c.ask.ensures.count;
+  count = subst (λ (s : Setting). IsCount s.catalog c.ask.new.manager.entries c.ask.new.read) (sym c.in_err-answer.ensures.refused.setting) c.ask.ensures.count;
 }
 
 pub returns-in_err-answer-clause-refused : goal.returns-in_err-answer-clause-refused
@@ -32,7 +34,7 @@ pub invariant_of-self-2 : goal.invariant_of-self-2
 invariant_of-self-2 g c = record {
   idle = c.ask.ensures.idle;
   next = next_answered (Widened ((answers-value g.dyn-1).it c.args.widener.now)) c.self.inside.manager c.ask.new.manager c.in-Some.who c.args.cells.now c.in_ok-answer.answer c.self.inside.last c.in-Some.ensures.next c.in_ok-answer.ensures.answered c.self.invariant.next;
-  count = c.ask.ensures.count;
+  count = subst (λ (s : Setting). IsCount s.catalog c.ask.new.manager.entries c.ask.new.read) (sym c.in_ok-answer.ensures.answered.setting) c.ask.ensures.count;
 }
 
 pub returns-clause-asked : goal.returns-clause-asked

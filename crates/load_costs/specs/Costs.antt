@@ -1,0 +1,65 @@
+-- What the loads of a history cost, by the tables that were built before them. (Aggregate Tables)
+use Rattle.std.specs.Prelude.{ℕ, zero, suc, ◌+◌, ◌==◌, Bool, true, false, List, [], ◌∷◌, ◌++◌, Option, Some, None, filter_map, length, option_and_then, take, if◌then◌else◌}
+use Rattle.std.specs.List.{range_with_len}
+use Rattle.std.specs.Option.{option_map_or, option_or}
+use Rattle.olap_meaning.specs.declared.tables.Catalog.{Catalog}
+use Rattle.olap_meaning.specs.Catalog.{table_cube}
+use Rattle.olap_meaning.specs.History.{Agg, Entry, Load, Start, load_at, rows_of}
+use Rattle.olap_meaning.specs.Worth.{load_rows}
+use Rattle.agg_tables.specs.Costs.{cheapest, read_cost}
+use Rattle.agg_tables.specs.Tables.{TableOf, built_over}
+
+-- an entry builds a table
+abbrev pub builds : Entry → Bool
+builds (Agg who table version) = true
+builds _ = false
+
+-- the version over which an entry builds a table
+abbrev pub version_built : ℕ → Entry → Option ℕ
+version_built table (Agg who own version) = if own == table then Some version else None
+version_built table _ = None
+
+-- the version over which some entries have built a table last
+abbrev pub last_built : ℕ → List Entry → Option ℕ
+last_built table [] = None
+last_built table (entry ∷ entries) = option_or (last_built table entries) (version_built table entry)
+
+-- a table of the schema as some entries have built it last
+abbrev pub table_built : Catalog → List Entry → ℕ → Option TableOf
+table_built catalog history table =
+    option_and_then
+    (λ version. option_and_then
+    (λ cube. built_over catalog table version (rows_of history cube version))
+    (table_cube catalog table)) (last_built table history)
+
+-- the tables that some entries have built, in the order of their declarations
+abbrev pub tables_built : Catalog → List Entry → List TableOf
+tables_built catalog history =
+    filter_map
+    (table_built catalog history) (range_with_len 0 (length catalog.schema.aggregates))
+
+-- what a load costs that is started behind some entries: the least of the rows of its version, and of what it costs to read
+-- one of the tables that these entries have built
+abbrev pub start_cost : Catalog → List Entry → Load → ℕ
+start_cost catalog history load =
+    read_cost (load_rows history load)
+    (cheapest load.header load.version (load_rows history load) (tables_built catalog history))
+
+-- the cost of the load that is started at a position, by the entries before it, and 0 where none is
+abbrev pub cost : Catalog → List Entry → ℕ → ℕ
+cost catalog history zero = 0
+cost catalog history (suc before) =
+    option_map_or
+    (start_cost catalog (take before history)) (load_at history (suc before)) 0
+
+-- what an entry costs that comes behind others: where a seat starts a load by it, what that costs
+abbrev pub seat_cost : Catalog → ℕ → List Entry → Entry → ℕ
+seat_cost catalog seat before (Start load) =
+    if load.who.seat == seat then start_cost catalog before load else 0
+seat_cost catalog seat before _ = 0
+
+-- what the loads cost that a seat starts by some entries behind others, each by the entries before it
+abbrev pub seat_costs : Catalog → ℕ → List Entry → List Entry → ℕ
+seat_costs catalog seat before [] = 0
+seat_costs catalog seat before (entry ∷ entries) =
+    seat_cost catalog seat before entry + seat_costs catalog seat (before ++ entry ∷ []) entries
