@@ -53,7 +53,7 @@ pub struct Delivery {
 
 impl LoadJob {
     /// A load by its number, and the call that it is for. It reads the cheapest of the facts and those of the tables that may
-    /// be read: of several that cost as much the first, and the facts last. It keeps the table that it reads, and none else.
+    /// be read: of several that cost as much the first, and the facts last.
     pub fn new(
         catalog: Arc<Catalog>,
         load: u64,
