@@ -37,7 +37,17 @@ SCHEMA = {
 }
 
 
-def make(rows):
+def write_sales(file, drawn, pairs):
+    with open(file, "w") as it:
+        it.write("time_id,store_id,units,price\n")
+        for month, city in pairs:
+            # One field in ten has no units.
+            units = drawn.randrange(-100, 1000) if drawn.randrange(10) else ""
+            it.write(f"{month},{city},{units},{drawn.randrange(1, 100_000)}\n")
+
+
+def make(rows, later):
+    """A first batch of so many rows, and a later one."""
     drawn = random.Random(7)
     with open("schema.json", "w") as it:
         json.dump(SCHEMA, it)
@@ -47,12 +57,9 @@ def make(rows):
     with open("store.csv", "w") as it:
         it.write("store_id,city\n")
         it.writelines(f"{i},C{i}\n" for i in range(CITIES))
-    # Each group has a row, and the others are drawn. One field in ten has no units.
+    # Each group has a row in the first batch, and the others are drawn.
     pairs = [(month, city) for month in range(MONTHS) for city in range(CITIES)]
     pairs += [(drawn.randrange(MONTHS), drawn.randrange(CITIES)) for _ in range(rows - len(pairs))]
     drawn.shuffle(pairs)
-    with open("sales.csv", "w") as it:
-        it.write("time_id,store_id,units,price\n")
-        for month, city in pairs:
-            units = drawn.randrange(-100, 1000) if drawn.randrange(10) else ""
-            it.write(f"{month},{city},{units},{drawn.randrange(1, 100_000)}\n")
+    write_sales("sales.csv", drawn, pairs)
+    write_sales("later.csv", drawn, [(drawn.randrange(MONTHS), drawn.randrange(CITIES)) for _ in range(later)])

@@ -1,6 +1,6 @@
 #!/usr/bin/env bash
-# Measures aggregate tables over 1,000,000 fact rows, built and checked, beside a plain Rust program and sqlite3. README.md says what it
-# prints.
+# Measures aggregate tables over 1,000,000 fact rows, built and checked, beside a plain Rust program and sqlite3; and loads from them, beside
+# loads from the facts. README.md says what it prints.
 # usage: bench/run_aggregates.sh [ROUNDS]   (5, if not given)
 set -euo pipefail
 here=$(cd "$(dirname "${BASH_SOURCE[0]}")" && pwd)
@@ -9,16 +9,23 @@ trap 'rm -rf "$folder"' EXIT
 mkdir -p "$folder/crates/aggregates/src"
 cp "$here/../HANDLES" "$here/../LICENSE" "$here/../crates.txt" "$folder"
 cp -r "$here/../crates/." "$folder/crates"
-echo "aggregates: test_samples agg_tests" >> "$folder/crates.txt"
+echo "aggregates: olap_meaning segment_body measure_folds test_samples agg_tests" >> "$folder/crates.txt"
 cat > "$folder/crates/aggregates/src/main.rt" <<'END_OF_PROGRAM'
-//! Builds and checks aggregate tables. Its input is a line with the place of a table, how often it is built and how often its file is
-//! checked; and behind it, parted by lines with an equals sign, the schema, two tables of dimensions, a batch, and the file.
+//! Builds and checks aggregate tables, and runs loads. Its input is a line with what is to be done and how often; and behind it,
+//! parted by lines with an equals sign, the schema, two tables of dimensions, two batches, and a file of an aggregate table. The
+//! line is `build TABLE TIMES`, `check TABLE TIMES`, both over the first batch, or `load VERSION TABLES HEADER TIMES`, where
+//! TABLES are the tables that the load may read, each with the version over which it is built, as `0@1`, or `-` for none.
 #![tactic(auto)]
 
 use agg_tests::cases::{tell_built, tell_file};
+use agg_tests::headers::{header_in, places_in};
+use agg_tests::runs::{Loaded, built_tables, load};
+use measure_folds::Tally;
+use olap_meaning::{CellValue, plain_text};
 use std::alloc::Global;
 use std::io::Read;
 use std::test::Fail;
+use test_samples::lines::{number, words};
 use test_samples::sales::Sales;
 
 fn part(text: &str) -> Result<(&str, &str), Fail> {
@@ -28,27 +35,83 @@ fn part(text: &str) -> Result<(&str, &str), Fail> {
     }
 }
 
-fn number(word: &str) -> Result<u32, Fail> {
-    match word.parse::<u32>() {
-        Ok(number) => Ok(number),
-        Err(_) => Err(Fail::from("no number")),
-    }
-}
-
-fn told(alloc: Global, sales: &Sales, asked: &str, file: &str) -> Result<String, Fail> {
-    let words: Vec<&str> = asked.split_whitespace().collect(alloc)?;
-    let [table, builds, checks] = words.as_slice() else {
-        return Err(Fail::from("no three words"));
-    };
+fn builds(alloc: Global, sales: &Sales, table: &str, times: &str) -> Result<String, Fail> {
     let table = number(table)?;
     let mut told = String::new(alloc);
-    for _ in 0..number(builds)? {
+    for _ in 0..number(times)? {
         told = tell_built(alloc, sales, 1, table)?;
     }
-    for _ in 0..number(checks)? {
+    Ok(told)
+}
+
+fn checks(
+    alloc: Global,
+    sales: &Sales,
+    table: &str,
+    times: &str,
+    file: &str,
+) -> Result<String, Fail> {
+    let table = number(table)?;
+    let mut told = String::new(alloc);
+    for _ in 0..number(times)? {
         told = tell_file(alloc, sales, 1, table, file.as_bytes())?;
     }
     Ok(told)
+}
+
+// What a load of one group is worth, and nothing for another.
+fn worth(alloc: Global, group: Option<&Tally>) -> Result<String, Fail> {
+    let Some(tally) = group else {
+        return Ok(String::new(alloc));
+    };
+    match tally.finish() {
+        CellValue::Empty => Ok(String::new(alloc)),
+        value => match plain_text(alloc, &value) {
+            Ok(text) => Ok(String::from_str(alloc, text.as_str())?),
+            Err(_) => Err(Fail::from("no memory")),
+        },
+    }
+}
+
+fn loaded_text(alloc: Global, loaded: &Loaded) -> Result<String, Fail> {
+    let (steps, groups) = (loaded.steps, loaded.body.groups());
+    let worth = worth(alloc, loaded.body.get(&[]))?;
+    match loaded.table {
+        Some(table) => Ok(format!(in alloc; "table {table} {steps} {groups} {worth}")?),
+        None => Ok(format!(in alloc; "facts {steps} {groups} {worth}")?),
+    }
+}
+
+fn loads(
+    alloc: Global,
+    sales: &Sales,
+    version: &str,
+    tables: &str,
+    header: &str,
+    times: &str,
+) -> Result<String, Fail> {
+    let version = number(version)?;
+    let header = header_in(alloc, header)?;
+    let places = places_in(alloc, tables)?;
+    let tables = built_tables(alloc, sales, &places)?;
+    let mut told = String::new(alloc);
+    for _ in 0..number(times)? {
+        let loaded = load(alloc, sales, version, &header, &tables)?;
+        told = loaded_text(alloc, &loaded)?;
+    }
+    Ok(told)
+}
+
+fn told(alloc: Global, sales: &Sales, asked: &str, file: &str) -> Result<String, Fail> {
+    let words = words(alloc, asked)?;
+    match words.as_slice() {
+        ["build", table, times] => builds(alloc, sales, table, times),
+        ["check", table, times] => checks(alloc, sales, table, times, file),
+        ["load", version, tables, header, times] => {
+            loads(alloc, sales, version, tables, header, times)
+        }
+        _ => Err(Fail::from("nothing to do")),
+    }
 }
 
 fn asked(alloc: Global, text: &str) -> Result<String, Fail> {
@@ -56,9 +119,11 @@ fn asked(alloc: Global, text: &str) -> Result<String, Fail> {
     let (schema, text) = part(text)?;
     let (times, text) = part(text)?;
     let (stores, text) = part(text)?;
-    let (batch, file) = part(text)?;
+    let (batch, text) = part(text)?;
+    let (later, file) = part(text)?;
     let tables = [times.as_bytes(), stores.as_bytes()];
-    let sales = Sales::open(alloc, schema.as_bytes(), &tables, &[batch.as_bytes()])?;
+    let batches = [batch.as_bytes(), later.as_bytes()];
+    let sales = Sales::open(alloc, schema.as_bytes(), &tables, &batches)?;
     told(alloc, &sales, words, file)
 }
 

@@ -14,6 +14,7 @@ use Rattle.olap_meaning.specs.Legal.{IsLegalEnd, Legal}
 use Rattle.fact_versions.specs.Facts.{FactsOf}
 use Rattle.history_core.specs.History.{HistoryOf}
 use Rattle.history_core.specs.Cache.{CacheOf}
+use Rattle.agg_tables.specs.Tables.{TableOf}
 use Rattle.cache_flush.specs.Loads.{KeptOf}
 use Rattle.cache_flush.specs.Flights.{FlightOf, flight_at}
 use Rattle.cache_manager.specs.Jobs.{IsOwn, IsOwnBody}
@@ -39,7 +40,7 @@ module _ (cache : CacheOf) (history : HistoryOf) (who : Who) (j : ℕ) (is : cac
   pub flies : flying history.entries j ≡ true
   flies = own_flies (cache_of history) who j load legal own_here
 
-  module _ (facts : FactsOf) (held : List KeptOf) (places : List Header → Type 0) (flights : List FlightOf) (manages : IsManager history.setting history.entries history.spare facts held places flights) where
+  module _ (facts : FactsOf) (held : List KeptOf) (places : List Header → Type 0) (flights : List FlightOf) (tables : List TableOf) (manages : IsManager history.setting history.entries history.spare facts held places flights tables) where
     pub spares : 0 < history.spare
     spares = omega (arith, length-others j flights (manages.flights_all j flies), manages.ends_fit)
 

@@ -1,19 +1,20 @@
 -- The facts of a manager, and those of its history.
 use Rattle.std.proofs.Common.{All, cond, subst, take_all, zero, suc, ◌≡◌, refl, sym, ◌∙◌, ap, ℕ, ◌+◌, ◌<◌, ◌≤◌, List, [], ◌∷◌, ◌++◌, length, map, take, ◌≢◌, ◌==◌, ◌⊎◌, inl, inr, Bool, true, false, Option, Some, None, arith, filter_map, flat_map}
-use Rattle.std.proofs.lemmas.List.{append-nil, length-append, length-map, map-append, take-map}
+use Rattle.std.proofs.lemmas.List.{append-nil, length-append, length-map, length-replicate, length-take-le, map-append, take-map}
 use Rattle.std.proofs.lemmas.List.Elements.{filter_map-append}
 use Rattle.std.proofs.lemmas.Bool.{and_from, and_parts, cases_Bool, cases_eq, eq-eqb, eqb-false, eqb-true, false_from_ne_true, ltb-false}
-use Rattle.std.specs.Prelude.{◌&&◌, IsTrue, nat_lt, slice_get}
+use Rattle.std.specs.Prelude.{◌&&◌, IsTrue, nat_lt, replicate, slice_get, slice_index_or, sum_by}
+use Rattle.std.specs.List.{list_all}
 use Rattle.std.proofs.lemmas.List.Elements.{All-cons, All-nil}
 use Rattle.std.proofs.lemmas.Option.{slice_get_cases}
-use Rattle.std.proofs.lemmas.List.Folds.{list_all-append}
+use Rattle.std.proofs.lemmas.List.Folds.{list_all-append, sum_by-replicate}
 use Rattle.std.proofs.lemmas.List.Sums.{sum_by-set, sum_by_push}
 use Rattle.olap_meaning.specs.declared.tables.Setting.{Setting}
 use Rattle.olap_meaning.specs.declared.tables.Row.{Row}
 use Rattle.olap_meaning.specs.declared.cells.Who.{Who}
 use Rattle.olap_meaning.specs.History.{Entry, Append, Agg, Flush, Start, Done, Drop, Evict, Answer, Saw, appended, is_some_and, version, rows_of}
 use Rattle.olap_meaning.specs.Catalog.{fact_columns}
-use Rattle.olap_meaning.specs.declared.TheConstants.{VERSION_LIMIT}
+use Rattle.olap_meaning.specs.declared.TheConstants.{ROW_LIMIT, VERSION_LIMIT}
 use Rattle.olap_meaning.specs.declared.tables.Catalog.{Catalog}
 use Rattle.olap_meaning.specs.declared.tables.Cube.{Cube}
 use Rattle.olap_meaning.proofs.Growing.{version_grows}
@@ -46,10 +47,46 @@ module _ (setting : Setting) (entries : List Entry) (facts : FactsOf) (are : Are
 
   -- all its batches are those of the present version
   pub present : (snapshot : List FactRows) (v : ℕ) → v ≡ length (batches_of facts cube) → snapshot ≡ take v (batches_of facts cube)
-      → (length snapshot ≡ version entries cube) × (rows_in snapshot ≡ rows_of entries cube (version entries cube)) × (are_batches setting.catalog cube snapshot ≡ true)
+      → (length snapshot ≡ version entries cube) × (rows_in snapshot ≡ rows_of entries cube (version entries cube)) × ((n : ℕ) → rows_in (take n snapshot) ≡ rows_of entries cube n) × (are_batches setting.catalog cube snapshot ≡ true)
   present snapshot v all is =
       let whole : snapshot ≡ batches_of facts cube = is ∙ take_all v (batches_of facts cube) (omega (arith, all)) in
-      (ap length whole ∙ version_held, ap rows_in is ∙ rows_of_first v ∙ ap (rows_of entries cube) (all ∙ version_held), ap (are_batches setting.catalog cube) whole ∙ are.fit cube)
+      (ap length whole ∙ version_held, ap rows_in is ∙ rows_of_first v ∙ ap (rows_of entries cube) (all ∙ version_held), (λ n. ap (λ (batches : List FactRows). rows_in (take n batches)) whole ∙ rows_of_first n), ap (are_batches setting.catalog cube) whole ∙ are.fit cube)
+
+  -- its first batches are those of an earlier version
+  pub earlier : (snapshot : List FactRows) (v : ℕ) → v ≤ version entries cube → snapshot ≡ take v (batches_of facts cube)
+      → (length snapshot ≡ v) × (rows_in snapshot ≡ rows_of entries cube v) × (are_batches setting.catalog cube snapshot ≡ true)
+  earlier snapshot v reached is = (
+    ap length is ∙ length-take-le v (batches_of facts cube) (omega (arith, reached, version_held)),
+    ap rows_in is ∙ rows_of_first v,
+    ap (are_batches setting.catalog cube) is ∙ first_all (is_batch setting.catalog cube) v (batches_of facts cube) (are.fit cube),
+  )
+    where
+      first_all : {A : Type 0} (p : A → Bool) (n : ℕ) (xs : List A) → list_all p xs ≡ true → list_all p (take n xs) ≡ true
+      first_all p zero xs all = refl
+      first_all p (suc n) [] all = refl
+      first_all p (suc n) (x ∷ xs) all = and_from _ _ (and_parts (p x) (list_all p xs) all).0 (first_all p n xs (and_parts (p x) (list_all p xs) all).1)
+
+-- where nothing has happened no cube has a batch
+pub none_appended : (setting : Setting) (count : ℕ) → setting.row_limit ≤ ROW_LIMIT → count ≡ length setting.catalog.cubes → AreFactsOf setting [] (record { limit = setting.row_limit; cubes = replicate count [] })
+none_appended setting count fits cubes = record {
+  limit = refl;
+  limit_fits = fits;
+  cubes = length-replicate count [] ∙ cubes;
+  held = none_held count;
+  each = λ cube. ap (map (λ (batch : FactRows). batch.rows)) (none_at count cube);
+  fit = λ cube. ap (are_batches setting.catalog cube) (none_at count cube);
+}
+  where
+    nothing : List FactRows
+    nothing = []
+
+    none_at : (n k : ℕ) → slice_index_or (replicate n nothing) k [] ≡ []
+    none_at zero k = refl
+    none_at (suc n) zero = refl
+    none_at (suc n) (suc k) = none_at n k
+
+    none_held : (n : ℕ) → sum_by rows_of_batches (replicate n []) ≡ 0
+    none_held n = sum_by-replicate rows_of_batches n [] ∙ omega arith
 
 -- an entry that appends nothing leaves the facts
 pub facts_on :

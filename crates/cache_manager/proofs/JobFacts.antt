@@ -1,5 +1,5 @@
 -- Jobs that are out, while an entry is added to the history; and the numbers of loads.
-use Rattle.std.proofs.Common.{◌≡◌, refl, sym, ◌∙◌, ap, subst, ℕ, zero, suc, ◌<◌, List, [], ◌∷◌, ◌++◌, length, map, Bool, true, false, ◌==◌, inl, inr, Option, Some, arith, All}
+use Rattle.std.proofs.Common.{◌≡◌, refl, sym, ◌∙◌, ap, subst, ℕ, zero, suc, ◌<◌, List, [], ◌∷◌, ◌++◌, map, Bool, true, false, ◌==◌, inl, inr, arith, All}
 use Rattle.std.specs.List.{list_any}
 use Rattle.std.proofs.lemmas.Bool.{and_from, both_ways, eqb-true, eq-eqb, false_from_ne_true, not_from_false, or_cases, or_left, or_right}
 use Rattle.std.proofs.lemmas.List.{append-nil}
@@ -7,14 +7,14 @@ use Rattle.std.proofs.lemmas.List.Elements.{All-cons, All-head, All-nil, All-tai
 use Rattle.olap_meaning.specs.declared.cells.Who.{Who}
 use Rattle.olap_meaning.specs.declared.tables.Setting.{Setting}
 use Rattle.olap_meaning.specs.Covering.{among}
-use Rattle.olap_meaning.specs.History.{Entry, Load, ends, load_at, rows_of}
+use Rattle.olap_meaning.specs.History.{Entry, ends, load_at, rows_of}
 use Rattle.olap_meaning.specs.Legal.{Legal}
 use Rattle.olap_meaning.specs.declared.cells.Header.{Header}
 use Rattle.olap_meaning.specs.declared.tables.Row.{Row}
 use Rattle.segment_body.specs.BodyOf.{BodyOf}
 use Rattle.fact_reader.specs.BodyRows.{HoldsRows, rows_in}
-use Rattle.load_costs.specs.Costs.{cost}
-use Rattle.load_costs.proofs.CostFacts.{cost_on}
+use Rattle.load_costs.specs.Costs.{cost, reads}
+use Rattle.load_costs.proofs.CostFacts.{cost_on, reads_on}
 use Rattle.olap_meaning.specs.declared.tables.Catalog.{Catalog}
 use Rattle.segment_load.specs.Loads.{JobOf}
 use Rattle.history_core.specs.Cache.{CacheOf}
@@ -61,6 +61,11 @@ module _ (before after : CacheOf) (entry : Entry) (same : after.setting ≡ befo
         };
         header = is.header;
         rows = is.rows ∙ sym rows;
+        version = is.version;
+        read =
+            is.read ∙ sym (reads_on before.setting.catalog before.entries (entry ∷ []) job.load is.load is.flies.started)
+            ∙ ap (λ (es : List Entry). reads before.setting.catalog es job.load) (sym grown)
+            ∙ ap (λ (s : Setting). reads s.catalog after.entries job.load) (sym same);
         costs =
             is.costs ∙ sym (cost_on before.setting.catalog before.entries (entry ∷ []) job.load is.load is.flies.started)
             ∙ ap (λ (es : List Entry). cost before.setting.catalog es job.load) (sym grown)

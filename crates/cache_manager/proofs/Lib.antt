@@ -25,4 +25,6 @@ pub mod Finding
 pub mod Searching
 pub mod Ready
 pub mod JobFacts
+pub mod Offering
+pub mod Installing
 pub mod Running

@@ -1,6 +1,6 @@
 -- The loads that a look starts.
 use Rattle.std.proofs.Common.{◌≡◌, refl, sym, ap, subst, ℕ, suc, ◌+◌, ◌≤◌, List, [], ◌∷◌, ◌++◌, length, map, Bool, true, false, not, ◌&&◌, None, filter, arith, All}
-use Rattle.std.specs.List.{list_all, list_any}
+use Rattle.std.specs.List.{list_all}
 use Rattle.std.proofs.lemmas.Bool.{and_from, and_parts, both_ways, false_from_ne_true}
 use Rattle.std.proofs.lemmas.List.{length-append, length-map}
 use Rattle.std.proofs.lemmas.List.Elements.{All-cons, All-head, All-nil, All-tail}
@@ -13,7 +13,7 @@ use Rattle.olap_meaning.specs.History.{Entry, awaited, awaited_load, flushed_aft
 use Rattle.olap_meaning.specs.Legal.{IsSource, Legal, has_source, is_cell}
 use Rattle.olap_meaning.proofs.RolledSources.{sources_are_decided}
 use Rattle.fact_versions.specs.Facts.{FactsOf}
-use Rattle.load_costs.specs.Costs.{builds}
+use Rattle.agg_tables.specs.Tables.{TableOf}
 use Rattle.cache_flush.specs.Loads.{KeptOf}
 use Rattle.cache_flush.specs.Flights.{FlightOf}
 use Rattle.cache_manager.specs.declared.starts.Planned.{Planned}
@@ -38,15 +38,15 @@ idle_unawaited entries cell none = none_latest (length entries) (λ j. awaited e
 
 -- other room
 pub refit :
-    (setting : Setting) (entries : List Entry) (spare left : ℕ) (facts : FactsOf) (held : List KeptOf) (places now : List Header → Type 0) (flights : List FlightOf) → IsManager setting entries spare facts held places flights → length flights ≤ left → now (headers_of flights)
-    → IsManager setting entries left facts held now flights
-refit setting entries spare left facts held places now flights is room fit = record {
+    (setting : Setting) (entries : List Entry) (spare left : ℕ) (facts : FactsOf) (held : List KeptOf) (places now : List Header → Type 0) (flights : List FlightOf) (tables : List TableOf) → IsManager setting entries spare facts held places flights tables → length flights ≤ left → now (headers_of flights)
+    → IsManager setting entries left facts held now flights tables
+refit setting entries spare left facts held places now flights tables is room fit = record {
   facts_are = is.facts_are;
   kept_are = is.kept_are;
   kept_all = is.kept_all;
   flights_are = is.flights_are;
   flights_all = is.flights_all;
-  unbuilt = is.unbuilt;
+  tables_are = is.tables_are;
   ends_fit = room;
   places_fit = fit;
 }
@@ -63,18 +63,18 @@ module _ (allowing : Allowing) (cache : CacheOf) (who : Who) (wanted : List Cell
       (steps_legal allowing cache.setting cache.entries who wanted cache.entries [] wanted (map header_of plans) legal (λ cube. refl) (λ cell here none apart. (none, idle_unawaited cache.entries cell idle)) known unserved (λ k c at. contains_at wanted k c at)
       (prepared_headers allowing cache who wanted (length cache.entries + 1) (firsts [] wanted) plans are))
 
-  pub jobs_started : list_any builds cache.entries ≡ false → All (IsJobOf (record { setting = cache.setting; entries = cache.entries ++ map step_of plans })) (map (λ p. p.job) plans)
-  jobs_started unbuilt =
-      all_jobs allowing cache who wanted plans cache.entries [] (length cache.entries + 1) (firsts [] wanted) legal unbuilt all_legal are (omega arith) (λ cube. refl) (λ cube. refl) (All-nil (IsJobOf (record { setting = cache.setting; entries = cache.entries })))
+  pub jobs_started : All (IsJobOf (record { setting = cache.setting; entries = cache.entries ++ map step_of plans })) (map (λ p. p.job) plans)
+  jobs_started =
+      all_jobs allowing cache who wanted plans cache.entries [] (length cache.entries + 1) (firsts [] wanted) legal refl all_legal are (omega arith) (λ cube. refl) (λ cube. refl) (All-nil (IsJobOf (record { setting = cache.setting; entries = cache.entries })))
 
   pub manager_started :
-      (facts : FactsOf) (held : List KeptOf) (spare left : ℕ) (places now : List Header → Type 0) (flights : List FlightOf) → IsManager cache.setting cache.entries spare facts held places flights → length flights + length plans ≤ left
+      (facts : FactsOf) (held : List KeptOf) (spare left : ℕ) (places now : List Header → Type 0) (flights : List FlightOf) (tables : List TableOf) → IsManager cache.setting cache.entries spare facts held places flights tables → length flights + length plans ≤ left
       → now (headers_of flights ++ map (λ p. p.flight.header) plans)
-      → IsManager cache.setting (cache.entries ++ map step_of plans) left facts held now (flights ++ map (λ p. flight_for p.flight) plans)
-  manager_started facts held spare left places now flights is room fit =
-      refit cache.setting (cache.entries ++ map step_of plans) left left facts held anywhere now (flights ++ map (λ p. flight_for p.flight) plans)
-      (all_started allowing cache who wanted facts held left plans cache.entries flights (length cache.entries + 1) (firsts [] wanted) legal all_legal are (omega arith)
-      (refit cache.setting cache.entries spare left facts held places anywhere flights is (omega (arith, room)) tt) room)
+      → IsManager cache.setting (cache.entries ++ map step_of plans) left facts held now (flights ++ map (λ p. flight_for p.flight) plans) tables
+  manager_started facts held spare left places now flights tables is room fit =
+      refit cache.setting (cache.entries ++ map step_of plans) left left facts held anywhere now (flights ++ map (λ p. flight_for p.flight) plans) tables
+      (all_started allowing cache who wanted facts held tables left plans cache.entries flights (length cache.entries + 1) (firsts [] wanted) legal all_legal are (omega arith)
+      (refit cache.setting cache.entries spare left facts held places anywhere flights tables is (omega (arith, room)) tt) room)
       (omega (arith, room, length-append flights (map (λ (p : Planned). flight_for p.flight) plans), length-map plans (λ (p : Planned). flight_for p.flight)))
       (subst now (sym (headers_started flights plans)) fit)
 

@@ -1,5 +1,5 @@
 -- A manager after each of its calls.
-use Rattle.std.proofs.Common.{◌≡◌, refl, sym, ◌∙◌, ap, subst, ℕ, suc, ◌+◌, ◌<◌, ◌≤◌, List, [], ◌∷◌, ◌++◌, length, map, true, arith, inl, inr}
+use Rattle.std.proofs.Common.{◌≡◌, refl, sym, ◌∙◌, ap, subst, ℕ, suc, ◌+◌, ◌<◌, ◌≤◌, List, [], ◌∷◌, ◌++◌, length, map, Some, true, arith, inl, inr}
 use Rattle.std.proofs.lemmas.Bool.{eqb-true}
 use Rattle.std.proofs.lemmas.List.{length-append, length-map, map-append}
 use Rattle.std.proofs.lemmas.List.Elements.{All-push}
@@ -8,8 +8,9 @@ use Rattle.olap_meaning.specs.declared.cells.Header.{Header}
 use Rattle.olap_meaning.specs.declared.cells.Who.{Who}
 use Rattle.olap_meaning.specs.declared.regions.Region.{Region}
 use Rattle.olap_meaning.specs.declared.tables.Setting.{Setting}
+use Rattle.olap_meaning.specs.Catalog.{table_cube}
 use Rattle.olap_meaning.specs.Covering.{among}
-use Rattle.olap_meaning.specs.History.{Entry, Append, Flush, Start, Done, Drop, Answer, Saw, Load, flying, kept}
+use Rattle.olap_meaning.specs.History.{Entry, Append, Agg, Flush, Start, Done, Drop, Answer, Saw, Load, flying, kept, rows_of, version}
 use Rattle.olap_meaning.specs.Legal.{Legal}
 use Rattle.olap_meaning.proofs.Shutting.{loads_start_whole}
 use Rattle.fact_versions.specs.FactRows.{FactRows}
@@ -17,19 +18,22 @@ use Rattle.fact_versions.specs.Facts.{FactsOf, with_batch}
 use Rattle.fact_reader.specs.BodyRows.{is_batch}
 use Rattle.cache_flush.specs.Loads as of_loads
 use Rattle.cache_flush.specs.Loads.{KeptOf}
-use Rattle.load_costs.specs.Costs.{builds}
+use Rattle.agg_tables.specs.Tables.{TableOf, built_over}
+use Rattle.installed_tables.specs.Installed.{put}
+use Rattle.installed_tables.proofs.BuiltFacts.{tables_built_more}
+use Rattle.load_costs.proofs.BuiltFacts.{tables_stay}
 use Rattle.cache_flush.specs.Flights as of_flights
 use Rattle.cache_flush.specs.Flights.{FlightOf}
 use Rattle.cache_manager.specs.Kept.{IsFlight, IsKept, IsManager, headers_of}
 use Rattle.cache_manager.proofs.Facts.{facts_more, facts_on}
 use Rattle.cache_manager.proofs.Managing.{all_flights_on, all_flights_shut, all_kept_on, all_kept_shut, among_last, among_left, flight_headers_shut, flight_numbers_shut, flights_all_but, flights_all_on, flights_but, kept_all_on, kept_numbers_shut, length-others, others}
-use Rattle.cache_manager.proofs.Pushes.{any_none, flying_back, kept_back, load_last, starts_flying}
+use Rattle.cache_manager.proofs.Pushes.{flying_back, kept_back, load_last, starts_flying}
 
-module _ (setting : Setting) (entries : List Entry) (facts : FactsOf) (held : List KeptOf) (places : List Header → Type 0) (flights : List FlightOf) (legal : Legal setting entries) where
+module _ (setting : Setting) (entries : List Entry) (facts : FactsOf) (held : List KeptOf) (places : List Header → Type 0) (flights : List FlightOf) (tables : List TableOf) (legal : Legal setting entries) where
   -- a load is given up
   pub dropped :
-      (spare left : ℕ) (who : Who) (j : ℕ) → IsManager setting entries spare facts held places flights → flying entries j ≡ true → left + 1 ≡ spare → places (headers_of (others j flights))
-      → IsManager setting (entries ++ Drop who j ∷ []) left facts held places (others j flights)
+      (spare left : ℕ) (who : Who) (j : ℕ) → IsManager setting entries spare facts held places flights tables → flying entries j ≡ true → left + 1 ≡ spare → places (headers_of (others j flights))
+      → IsManager setting (entries ++ Drop who j ∷ []) left facts held places (others j flights) tables
   dropped spare left who j is flies room fit =
       let gone = length-others j flights (is.flights_all j flies) in
       record {
@@ -38,15 +42,15 @@ module _ (setting : Setting) (entries : List Entry) (facts : FactsOf) (held : Li
         kept_all = kept_all_on entries (Drop who j) (map (λ k. k.load) held) (λ i. refl) is.kept_all;
         flights_are = flights_but j entries (Drop who j) flights (λ i. refl) refl is.flights_are;
         flights_all = flights_all_but j entries (Drop who j) flights (λ i. refl) refl is.flights_all;
-        unbuilt = any_none builds entries (Drop who j) is.unbuilt refl;
+        tables_are = is.tables_are ∙ sym (tables_stay setting entries (Drop who j) legal refl);
         ends_fit = omega (arith, gone, is.ends_fit, room);
         places_fit = fit;
       }
 
   -- a load is delivered
   pub delivered :
-      (spare left : ℕ) (now : List Header → Type 0) (who : Who) (j : ℕ) (k : KeptOf) → IsManager setting entries spare facts held places flights → flying entries j ≡ true → left + 1 ≡ spare → now (headers_of (others j flights)) → k.load ≡ j
-      → IsKept setting.catalog (entries ++ Done who j ∷ []) k → IsManager setting (entries ++ Done who j ∷ []) left facts (held ++ k ∷ []) now (others j flights)
+      (spare left : ℕ) (now : List Header → Type 0) (who : Who) (j : ℕ) (k : KeptOf) → IsManager setting entries spare facts held places flights tables → flying entries j ≡ true → left + 1 ≡ spare → now (headers_of (others j flights)) → k.load ≡ j
+      → IsKept setting.catalog (entries ++ Done who j ∷ []) k → IsManager setting (entries ++ Done who j ∷ []) left facts (held ++ k ∷ []) now (others j flights) tables
   delivered spare left now who j k is flies room fit same keeps =
       let gone = length-others j flights (is.flights_all j flies) in
       record {
@@ -59,41 +63,41 @@ module _ (setting : Setting) (entries : List Entry) (facts : FactsOf) (held : Li
             ];
         flights_are = flights_but j entries (Done who j) flights (λ i. refl) refl is.flights_are;
         flights_all = flights_all_but j entries (Done who j) flights (λ i. refl) refl is.flights_all;
-        unbuilt = any_none builds entries (Done who j) is.unbuilt refl;
+        tables_are = is.tables_are ∙ sym (tables_stay setting entries (Done who j) legal refl);
         ends_fit = omega (arith, gone, is.ends_fit, room);
         places_fit = fit;
       }
 
   -- cells are answered
-  pub answered : (spare left : ℕ) (who : Who) (cells : List CellSource) → IsManager setting entries spare facts held places flights → length flights ≤ left → IsManager setting (entries ++ Answer who cells ∷ []) left facts held places flights
+  pub answered : (spare left : ℕ) (who : Who) (cells : List CellSource) → IsManager setting entries spare facts held places flights tables → length flights ≤ left → IsManager setting (entries ++ Answer who cells ∷ []) left facts held places flights tables
   answered spare left who cells is room = record {
     facts_are = facts_on setting entries facts (Answer who cells) (λ cube. refl) refl is.facts_are;
     kept_are = all_kept_on setting entries (Answer who cells) held (λ i. refl) refl legal is.kept_are;
     kept_all = kept_all_on entries (Answer who cells) (map (λ k. k.load) held) (λ i. refl) is.kept_all;
     flights_are = all_flights_on entries (Answer who cells) flights (λ i. refl) refl is.flights_are;
     flights_all = flights_all_on entries (Answer who cells) (map (λ f. f.load) flights) refl is.flights_all;
-    unbuilt = any_none builds entries (Answer who cells) is.unbuilt refl;
+    tables_are = is.tables_are ∙ sym (tables_stay setting entries (Answer who cells) legal refl);
     ends_fit = room;
     places_fit = is.places_fit;
   }
 
   -- what is kept is shown
-  pub shown : (spare left : ℕ) (who : Who) → IsManager setting entries spare facts held places flights → length flights ≤ left → IsManager setting (entries ++ Saw who ∷ []) left facts held places flights
+  pub shown : (spare left : ℕ) (who : Who) → IsManager setting entries spare facts held places flights tables → length flights ≤ left → IsManager setting (entries ++ Saw who ∷ []) left facts held places flights tables
   shown spare left who is room = record {
     facts_are = facts_on setting entries facts (Saw who) (λ cube. refl) refl is.facts_are;
     kept_are = all_kept_on setting entries (Saw who) held (λ i. refl) refl legal is.kept_are;
     kept_all = kept_all_on entries (Saw who) (map (λ k. k.load) held) (λ i. refl) is.kept_all;
     flights_are = all_flights_on entries (Saw who) flights (λ i. refl) refl is.flights_are;
     flights_all = flights_all_on entries (Saw who) (map (λ f. f.load) flights) refl is.flights_all;
-    unbuilt = any_none builds entries (Saw who) is.unbuilt refl;
+    tables_are = is.tables_are ∙ sym (tables_stay setting entries (Saw who) legal refl);
     ends_fit = room;
     places_fit = is.places_fit;
   }
 
   -- a region is flushed: what it covers is shut off in each load
   pub flushed :
-      (spare left : ℕ) (now : List Header → Type 0) (who : Who) (region : Region) → IsManager setting entries spare facts held places flights → length flights ≤ left → ((headers : List Header) → places headers → now headers)
-      → IsManager setting (entries ++ Flush who region ∷ []) left facts (map (of_loads.shut_off region) held) now (map (of_flights.shut_off region) flights)
+      (spare left : ℕ) (now : List Header → Type 0) (who : Who) (region : Region) → IsManager setting entries spare facts held places flights tables → length flights ≤ left → ((headers : List Header) → places headers → now headers)
+      → IsManager setting (entries ++ Flush who region ∷ []) left facts (map (of_loads.shut_off region) held) now (map (of_flights.shut_off region) flights) tables
   flushed spare left now who region is room on = record {
     facts_are = facts_on setting entries facts (Flush who region) (λ cube. refl) refl is.facts_are;
     kept_are = all_kept_shut setting entries who region held legal is.kept_are;
@@ -102,31 +106,31 @@ module _ (setting : Setting) (entries : List Entry) (facts : FactsOf) (held : Li
     flights_are = all_flights_shut entries who region flights is.flights_are;
     flights_all = subst (λ (loads : List ℕ). (j : ℕ) → flying (entries ++ Flush who region ∷ []) j ≡ true → among loads j ≡ true) (sym (flight_numbers_shut region flights))
         (flights_all_on entries (Flush who region) (map (λ f. f.load) flights) refl is.flights_all);
-    unbuilt = any_none builds entries (Flush who region) is.unbuilt refl;
+    tables_are = is.tables_are ∙ sym (tables_stay setting entries (Flush who region) legal refl);
     ends_fit = omega (arith, length-map flights (of_flights.shut_off region), room);
     places_fit = subst now (sym (flight_headers_shut region flights)) (on (headers_of flights) is.places_fit);
   }
 
   -- a batch is appended
   pub appended :
-      (spare left : ℕ) (who : Who) (cube v : ℕ) (batch : FactRows) → IsManager setting entries spare facts held places flights → length flights ≤ left → cube < length facts.cubes → is_batch setting.catalog cube batch ≡ true
-      → IsManager setting (entries ++ Append who cube v batch.rows ∷ []) left (with_batch facts cube batch) held places flights
+      (spare left : ℕ) (who : Who) (cube v : ℕ) (batch : FactRows) → IsManager setting entries spare facts held places flights tables → length flights ≤ left → cube < length facts.cubes → is_batch setting.catalog cube batch ≡ true
+      → IsManager setting (entries ++ Append who cube v batch.rows ∷ []) left (with_batch facts cube batch) held places flights tables
   appended spare left who cube v batch is room known fits = record {
     facts_are = facts_more setting entries facts who cube v batch known fits is.facts_are;
     kept_are = all_kept_on setting entries (Append who cube v batch.rows) held (λ i. refl) refl legal is.kept_are;
     kept_all = kept_all_on entries (Append who cube v batch.rows) (map (λ k. k.load) held) (λ i. refl) is.kept_all;
     flights_are = all_flights_on entries (Append who cube v batch.rows) flights (λ i. refl) refl is.flights_are;
     flights_all = flights_all_on entries (Append who cube v batch.rows) (map (λ f. f.load) flights) refl is.flights_all;
-    unbuilt = any_none builds entries (Append who cube v batch.rows) is.unbuilt refl;
+    tables_are = is.tables_are ∙ sym (tables_stay setting entries (Append who cube v batch.rows) legal refl);
     ends_fit = room;
     places_fit = is.places_fit;
   }
 
   -- a load is started, of which no part is shut off
   pub starts :
-      (spare left : ℕ) (load : Load) (flight : FlightOf) → IsManager setting entries spare facts held places flights → length flights + 1 ≤ left → places (headers_of (flights ++ flight ∷ []))
+      (spare left : ℕ) (load : Load) (flight : FlightOf) → IsManager setting entries spare facts held places flights tables → length flights + 1 ≤ left → places (headers_of (flights ++ flight ∷ []))
       → flight ≡ record { load = suc (length entries); who = load.who; header = load.header; version = load.version; shut = [] }
-      → IsManager setting (entries ++ Start load ∷ []) left facts held places (flights ++ flight ∷ [])
+      → IsManager setting (entries ++ Start load ∷ []) left facts held places (flights ++ flight ∷ []) tables
   starts spare left load flight is room fit made =
       let number : flight.load ≡ suc (length entries) = ap (λ (f : FlightOf). f.load) made in
       record {
@@ -149,7 +153,25 @@ module _ (setting : Setting) (entries : List Entry) (facts : FactsOf) (held : Li
               | inl old ↦ among_left (map (λ f. f.load) flights) flight.load i (is.flights_all i old)
               | inr new ↦ among_last (map (λ f. f.load) flights) flight.load i (number ∙ sym new.0)
             ];
-        unbuilt = any_none builds entries (Start load) is.unbuilt refl;
+        tables_are = is.tables_are ∙ sym (tables_stay setting entries (Start load) legal refl);
         ends_fit = omega (arith, length-append flights (flight ∷ []), room);
         places_fit = fit;
+      }
+
+  -- an aggregate table is installed
+  pub installs :
+      (spare left : ℕ) (who : Who) (table : TableOf) (cube : ℕ) → IsManager setting entries spare facts held places flights tables → length flights ≤ left → table_cube setting.catalog table.table ≡ Some cube → table.version ≤ version entries cube
+      → built_over setting.catalog table.table table.version (rows_of entries cube table.version) ≡ Some table
+      → IsManager setting (entries ++ Agg who table.table table.version ∷ []) left facts held places flights (put table tables)
+  installs spare left who table cube is room known reached own =
+      let entry : Entry = Agg who table.table table.version in
+      record {
+        facts_are = facts_on setting entries facts entry (λ cube. refl) refl is.facts_are;
+        kept_are = all_kept_on setting entries entry held (λ i. refl) refl legal is.kept_are;
+        kept_all = kept_all_on entries entry (map (λ k. k.load) held) (λ i. refl) is.kept_all;
+        flights_are = all_flights_on entries entry flights (λ i. refl) refl is.flights_are;
+        flights_all = flights_all_on entries entry (map (λ f. f.load) flights) refl is.flights_all;
+        tables_are = ap (put table) is.tables_are ∙ sym (tables_built_more setting entries who table cube legal known reached own);
+        ends_fit = room;
+        places_fit = is.places_fit;
       }

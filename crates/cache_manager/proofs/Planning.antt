@@ -10,13 +10,17 @@ use Rattle.olap_meaning.specs.declared.cells.Who.{Who}
 use Rattle.olap_meaning.specs.Covering.{among}
 use Rattle.olap_meaning.specs.History.{Entry, Start, Load, ends, load_at, rows_of, version}
 use Rattle.olap_meaning.specs.Legal.{Legal}
+use Rattle.olap_meaning.specs.Worth.{load_rows}
 use Rattle.olap_meaning.proofs.Growing.{legal_grows, version_grows}
 use Rattle.fact_versions.specs.Facts.{FactsOf}
 use Rattle.history_core.specs.Entries.{entry_of}
 use Rattle.fact_reader.specs.BodyRows.{rows_in}
-use Rattle.load_costs.specs.Costs.{builds, cost}
-use Rattle.load_costs.proofs.CostFacts.{cost_at, cost_on, reads_rows}
-use Rattle.segment_load.specs.Loads.{JobOf, job_cost}
+use Rattle.agg_tables.specs.Costs.{cheapest, read_cost}
+use Rattle.agg_tables.specs.Tables.{TableOf}
+use Rattle.load_costs.proofs.BuiltFacts.{tables_stay}
+use Rattle.load_costs.specs.Costs.{builds, cost, reads, start_read, tables_built}
+use Rattle.load_costs.proofs.CostFacts.{cost_at, cost_on, reads_at, reads_on}
+use Rattle.segment_load.specs.Loads.{JobOf}
 use Rattle.cache_flush.specs.Loads.{KeptOf}
 use Rattle.cache_flush.specs.Flights.{FlightOf}
 use Rattle.cache_manager.specs.declared.starts.Flying.{Flying}
@@ -97,19 +101,19 @@ module _ (allowing : Allowing) (cache : CacheOf) (who : Who) (wanted : List Cell
 
   -- the manager after the loads are started
   pub all_started :
-      (facts : FactsOf) (held : List KeptOf) (left : ℕ) (plans : List Planned) (entries : List Entry) (flights : List FlightOf) (n : ℕ) (cells : List Cell) → Legal cache.setting entries → AreLegalSteps cache.setting entries (map step_of plans)
-      → ArePrepared allowing cache who wanted n cells plans → n ≡ suc (length entries) → IsManager cache.setting entries left facts held anywhere flights → length flights + length plans ≤ left
-      → IsManager cache.setting (entries ++ map step_of plans) left facts held anywhere (flights ++ map (λ p. flight_for p.flight) plans)
-  all_started facts held left [] entries flights n cells legal steps are number is room = rw (append-nil entries, append-nil flights) is
-  all_started facts held left (p ∷ ps) entries flights n [] legal steps are number is room = absurd are
-  all_started facts held left (p ∷ ps) entries flights n (c ∷ cs) legal steps are number is room =
+      (facts : FactsOf) (held : List KeptOf) (tables : List TableOf) (left : ℕ) (plans : List Planned) (entries : List Entry) (flights : List FlightOf) (n : ℕ) (cells : List Cell) → Legal cache.setting entries → AreLegalSteps cache.setting entries (map step_of plans)
+      → ArePrepared allowing cache who wanted n cells plans → n ≡ suc (length entries) → IsManager cache.setting entries left facts held anywhere flights tables → length flights + length plans ≤ left
+      → IsManager cache.setting (entries ++ map step_of plans) left facts held anywhere (flights ++ map (λ p. flight_for p.flight) plans) tables
+  all_started facts held tables left [] entries flights n cells legal steps are number is room = rw (append-nil entries, append-nil flights) is
+  all_started facts held tables left (p ∷ ps) entries flights n [] legal steps are number is room = absurd are
+  all_started facts held tables left (p ∷ ps) entries flights n (c ∷ cs) legal steps are number is room =
       let made : flight_for p.flight ≡ record { load = suc (length entries); who = who; header = p.job.header; version = version cache.entries c.cube; shut = [] } =
       ap flight_for are.0.flight ∙ ap (λ (m : ℕ). flight_for (record { load = m; who = who; header = p.job.header; version = version cache.entries c.cube })) number in
-      let first : IsManager cache.setting (entries ++ step_of p ∷ []) left facts held anywhere (flights ++ flight_for p.flight ∷ []) =
-      subst (λ (e : Entry). IsManager cache.setting (entries ++ e ∷ []) left facts held anywhere (flights ++ flight_for p.flight ∷ [])) (sym are.0.start)
-      (starts cache.setting entries facts held anywhere flights legal left left (load_of c p) (flight_for p.flight) is (omega (arith, room)) tt made) in
+      let first : IsManager cache.setting (entries ++ step_of p ∷ []) left facts held anywhere (flights ++ flight_for p.flight ∷ []) tables =
+      subst (λ (e : Entry). IsManager cache.setting (entries ++ e ∷ []) left facts held anywhere (flights ++ flight_for p.flight ∷ []) tables) (sym are.0.start)
+      (starts cache.setting entries facts held anywhere flights tables legal left left (load_of c p) (flight_for p.flight) is (omega (arith, room)) tt made) in
       rw (← append_assoc entries (step_of p ∷ []) (map step_of ps), ← append_assoc flights (flight_for p.flight ∷ []) (map (λ q. flight_for q.flight) ps))
-      (all_started facts held left ps (entries ++ step_of p ∷ []) (flights ++ flight_for p.flight ∷ []) (suc n) cs (legal_grows cache.setting entries (step_of p) legal steps.0) steps.1 are.1
+      (all_started facts held tables left ps (entries ++ step_of p ∷ []) (flights ++ flight_for p.flight ∷ []) (suc n) cs (legal_grows cache.setting entries (step_of p) legal steps.0) steps.1 are.1
       (let long = length_push entries (step_of p) in omega (arith, long, number)) first
       (let more = length_push flights (flight_for p.flight) in omega (arith, more, room)))
 
@@ -142,18 +146,26 @@ module _ (allowing : Allowing) (cache : CacheOf) (who : Who) (wanted : List Cell
         flies = own_on entries load job.who job.load is.load is.flies;
         header = is.header;
         rows = is.rows ∙ sym rows;
+        version = is.version;
+        read = is.read ∙ sym (reads_on cache.setting.catalog entries (Start load ∷ []) job.load is.load is.flies.started);
         costs = is.costs ∙ sym (cost_on cache.setting.catalog entries (Start load ∷ []) job.load is.load is.flies.started);
       }
 
   -- a job that was prepared is one of the cache's, once its load is started
   job_new :
-      (entries : List Entry) (n : ℕ) (c : Cell) (p : Planned) → Legal cache.setting entries → list_any builds entries ≡ false → IsPrepared allowing cache who (filter (alike c) wanted) n c p → n ≡ suc (length entries) → version entries c.cube ≡ version cache.entries c.cube
+      (entries : List Entry) (n : ℕ) (c : Cell) (p : Planned) → Legal cache.setting entries → tables_built cache.setting.catalog entries ≡ tables_built cache.setting.catalog cache.entries → IsPrepared allowing cache who (filter (alike c) wanted) n c p → n ≡ suc (length entries) → version entries c.cube ≡ version cache.entries c.cube
       → rows_of entries c.cube (version cache.entries c.cube) ≡ rows_of cache.entries c.cube (version cache.entries c.cube) → IsJobOf (at (entries ++ Start (load_of c p) ∷ [])) p.job
-  job_new entries n c p legal unbuilt is number present same =
+  job_new entries n c p legal built is number present same =
       let place : p.job.load ≡ suc (length entries) = is.load ∙ number in
       let rows : rows_in p.job.snapshot ≡ rows_of (entries ++ Start (load_of c p) ∷ []) p.job.header.cube (version cache.entries c.cube) =
       is.rows ∙ sym same ∙ sym (rows_on entries (Start (load_of c p)) c.cube (version cache.entries c.cube) (omega (arith, present)))
       ∙ ap (λ (cube : ℕ). rows_of (entries ++ Start (load_of c p) ∷ []) cube (version cache.entries c.cube)) (sym is.allowed.cube) in
+      let many : length (rows_of cache.entries c.cube (version cache.entries c.cube)) ≡ load_rows entries (load_of c p) =
+      ap length (sym same ∙ ap (λ (cube : ℕ). rows_of entries cube (version cache.entries c.cube)) (sym is.allowed.cube)) in
+      let chosen : p.job.read ≡ start_read cache.setting.catalog entries (load_of c p) =
+      is.read
+      ∙ ap (λ n. cheapest p.job.header (version cache.entries c.cube) n (tables_built cache.setting.catalog cache.entries)) many
+      ∙ ap (λ (tables : List TableOf). cheapest p.job.header (version cache.entries c.cube) (load_rows entries (load_of c p)) tables) (sym built) in
       record {
         load = load_of c p;
         catalog = is.catalog;
@@ -164,28 +176,29 @@ module _ (allowing : Allowing) (cache : CacheOf) (who : Who) (wanted : List Cell
         };
         header = refl;
         rows = rows;
+        version = is.version_is;
+        read = chosen ∙ sym (reads_at cache.setting.catalog entries [] (load_of c p)) ∙ ap (reads cache.setting.catalog (entries ++ Start (load_of c p) ∷ [])) (sym place);
         costs =
-            ap (λ read. job_cost (record p.job { read = read })) is.facts
-            ∙ ap length (is.rows ∙ sym same ∙ ap (λ (cube : ℕ). rows_of entries cube (version cache.entries c.cube)) (sym is.allowed.cube))
-            ∙ sym (reads_rows cache.setting.catalog entries (load_of c p) unbuilt)
+            ap (λ read. read_cost (length (rows_in p.job.snapshot)) read) chosen
+            ∙ ap (λ n. read_cost n (start_read cache.setting.catalog entries (load_of c p))) (ap length is.rows ∙ many)
             ∙ sym (cost_at cache.setting.catalog entries [] (load_of c p))
             ∙ ap (cost cache.setting.catalog (entries ++ Start (load_of c p) ∷ [])) (sym place);
       }
 
   -- the jobs after their loads are started
   pub all_jobs :
-      (plans : List Planned) (entries : List Entry) (jobs : List JobOf) (n : ℕ) (cells : List Cell) → Legal cache.setting entries → list_any builds entries ≡ false → AreLegalSteps cache.setting entries (map step_of plans) → ArePrepared allowing cache who wanted n cells plans → n ≡ suc (length entries)
+      (plans : List Planned) (entries : List Entry) (jobs : List JobOf) (n : ℕ) (cells : List Cell) → Legal cache.setting entries → tables_built cache.setting.catalog entries ≡ tables_built cache.setting.catalog cache.entries → AreLegalSteps cache.setting entries (map step_of plans) → ArePrepared allowing cache who wanted n cells plans → n ≡ suc (length entries)
       → ((cube : ℕ) → version entries cube ≡ version cache.entries cube) → ((cube : ℕ) → rows_of entries cube (version cache.entries cube) ≡ rows_of cache.entries cube (version cache.entries cube))
       → All (IsJobOf (at entries)) jobs → All (IsJobOf (at (entries ++ map step_of plans))) (jobs ++ map (λ p. p.job) plans)
-  all_jobs [] entries jobs n cells legal unbuilt steps are number present same all = rw (append-nil entries, append-nil jobs) all
-  all_jobs (p ∷ ps) entries jobs n [] legal unbuilt steps are number present same all = absurd are
-  all_jobs (p ∷ ps) entries jobs n (c ∷ cs) legal unbuilt steps are number present same all =
+  all_jobs [] entries jobs n cells legal built steps are number present same all = rw (append-nil entries, append-nil jobs) all
+  all_jobs (p ∷ ps) entries jobs n [] legal built steps are number present same all = absurd are
+  all_jobs (p ∷ ps) entries jobs n (c ∷ cs) legal built steps are number present same all =
       rw (← append_assoc entries (step_of p ∷ []) (map step_of ps), ← append_assoc jobs (p.job ∷ []) (map (λ q. q.job) ps))
-      (all_jobs ps (entries ++ step_of p ∷ []) (jobs ++ p.job ∷ []) (suc n) cs (legal_grows cache.setting entries (step_of p) legal steps.0) (any_none builds entries (step_of p) unbuilt (ap builds are.0.start)) steps.1 are.1
+      (all_jobs ps (entries ++ step_of p ∷ []) (jobs ++ p.job ∷ []) (suc n) cs (legal_grows cache.setting entries (step_of p) legal steps.0) (tables_stay cache.setting entries (step_of p) legal (ap builds are.0.start) ∙ built) steps.1 are.1
       (let long = length_push entries (step_of p) in omega (arith, long, number))
       (λ cube. later_version cube) (λ cube. later_rows cube)
       (subst (λ (e : Entry). All (IsJobOf (at (entries ++ e ∷ []))) (jobs ++ p.job ∷ [])) (sym are.0.start)
-      (All-push (IsJobOf (at (entries ++ Start (load_of c p) ∷ []))) jobs p.job (All-weaker (IsJobOf (at entries)) (IsJobOf (at (entries ++ Start (load_of c p) ∷ []))) (λ job is. job_on entries (load_of c p) job legal is) jobs all) (job_new entries n c p legal unbuilt are.0 number (present c.cube) (same c.cube)))))
+      (All-push (IsJobOf (at (entries ++ Start (load_of c p) ∷ []))) jobs p.job (All-weaker (IsJobOf (at entries)) (IsJobOf (at (entries ++ Start (load_of c p) ∷ []))) (λ job is. job_on entries (load_of c p) job legal is) jobs all) (job_new entries n c p legal built are.0 number (present c.cube) (same c.cube)))))
     where
       later_version : (cube : ℕ) → version (entries ++ step_of p ∷ []) cube ≡ version cache.entries cube
       later_version cube =

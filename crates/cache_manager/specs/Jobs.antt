@@ -1,9 +1,9 @@
 -- Jobs and deliveries of the loads in flight.
-use Rattle.std.specs.Prelude.{ℕ, ◌≡◌, Some, false}
+use Rattle.std.specs.Prelude.{ℕ, ◌≡◌, Some, false, length}
 use Rattle.std.specs.List.{list_any}
 use Rattle.olap_meaning.specs.declared.cells.Who.{Who}
 use Rattle.olap_meaning.specs.History.{Load, ends, load_at, rows_of}
-use Rattle.load_costs.specs.Costs.{cost}
+use Rattle.load_costs.specs.Costs.{cost, reads}
 use Rattle.segment_body.specs.BodyOf.{BodyOf}
 use Rattle.fact_reader.specs.BodyRows.{HoldsRows, rows_in}
 use Rattle.segment_load.specs.Loads.{JobOf, job_cost}
@@ -28,11 +28,14 @@ pub record IsOwnBody (cache : CacheOf) (who : Who) (j : ℕ) (body : BodyOf) : T
   pub holds : HoldsRows cache.setting.catalog load.header
       (rows_of cache.entries load.header.cube load.version) body
 
--- a job is that of a load of the cache: by its number, of its header, over the rows of its version, at its cost
+-- a job is that of a load of the cache: by its number, of its header, over its version and the rows of this; it reads the
+-- cheapest of the facts and the tables that were built before its Start, at the load's cost
 pub record IsJobOf (cache : CacheOf) (job : JobOf) : Type 0 where
   pub load : Load
   pub catalog : job.catalog ≡ cache.setting.catalog
   pub flies : IsOwn cache job.who job.load load
   pub header : job.header ≡ load.header
   pub rows : rows_in job.snapshot ≡ rows_of cache.entries load.header.cube load.version
+  pub version : length job.snapshot ≡ load.version
+  pub read : job.read ≡ reads cache.setting.catalog cache.entries job.load
   pub costs : job_cost job ≡ cost cache.setting.catalog cache.entries job.load

@@ -1,6 +1,5 @@
 -- What a manager keeps beside its history, and what that means in the history.
-use Rattle.std.specs.Prelude.{ℕ, ◌≡◌, ◌≤◌, false, List, All, IsTrue, Some, filter_map, length, map}
-use Rattle.std.specs.List.{list_any}
+use Rattle.std.specs.Prelude.{ℕ, ◌≡◌, ◌≤◌, List, All, IsTrue, Some, filter_map, length, map}
 use Rattle.olap_meaning.specs.declared.TheConstants.{ROW_LIMIT}
 use Rattle.olap_meaning.specs.declared.cells.Header.{Header}
 use Rattle.olap_meaning.specs.declared.tables.Catalog.{Catalog}
@@ -14,7 +13,8 @@ use Rattle.segment_header.specs.Headers.{is_header}
 use Rattle.fact_reader.specs.BodyRows.{HoldsRows, are_batches}
 use Rattle.cache_flush.specs.Loads as kept
 use Rattle.cache_flush.specs.Loads.{KeptOf}
-use Rattle.load_costs.specs.Costs.{builds}
+use Rattle.agg_tables.specs.Tables.{TableOf}
+use Rattle.load_costs.specs.Costs.{tables_built}
 use Rattle.cache_flush.specs.Flights as flight
 use Rattle.cache_flush.specs.Flights.{FlightOf}
 
@@ -57,10 +57,11 @@ abbrev pub headers_of : List FlightOf → List Header
 headers_of flights = map (λ flight. flight.header) flights
 
 -- what a manager keeps is what its history says: the facts, each kept load and no other, each load in flight and no
--- other; no table is built; and there is room for the end of each load in flight, and a place on the shelf
+-- other, and of each aggregate table the one that was built last; and there is room for the end of each load in flight,
+-- and a place on the shelf
 pub record IsManager (setting : Setting) (entries : List Entry) (spare : ℕ) (facts : FactsOf)
     (loads : List KeptOf) (has_places : List Header → Type 0) (flights : List FlightOf)
-    : Type 0 where
+    (tables : List TableOf) : Type 0 where
   pub facts_are : AreFactsOf setting entries facts
   pub kept_are : All (IsKept setting.catalog entries) loads
   pub kept_all : (j : ℕ) → IsTrue (history.kept entries j)
@@ -68,6 +69,6 @@ pub record IsManager (setting : Setting) (entries : List Entry) (spare : ℕ) (f
   pub flights_are : All (IsFlight entries) flights
   pub flights_all : (j : ℕ) → IsTrue (flying entries j)
       → IsTrue (among (flight.numbers_of flights) j)
-  pub unbuilt : list_any builds entries ≡ false
+  pub tables_are : tables ≡ tables_built setting.catalog entries
   pub ends_fit : length flights ≤ spare
   pub places_fit : has_places (headers_of flights)

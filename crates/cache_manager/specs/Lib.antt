@@ -5,4 +5,5 @@ pub mod Plans
 pub mod Laws
 pub mod Runs
 pub mod Rollups
+pub mod Tables
 pub mod Found

@@ -1,13 +1,17 @@
 -- What a look prepares before it starts loads.
-use Rattle.std.specs.Prelude.{ℕ, suc, ◌≡◌, ⊤, List, [], ◌∷◌, ◌++◌, None, IsFalse, filter}
+use Rattle.std.specs.Prelude.{ℕ, suc, ◌≡◌, ⊤, List, [], ◌∷◌, ◌++◌, Option, IsFalse, filter, length}
 use Rattle.olap_meaning.specs.declared.cells.Cell.{Cell}
+use Rattle.olap_meaning.specs.declared.cells.Header.{Header}
 use Rattle.olap_meaning.specs.declared.cells.Who.{Who}
 use Rattle.olap_meaning.specs.declared.tables.Setting.{Setting}
 use Rattle.olap_meaning.specs.Covering.{among}
 use Rattle.olap_meaning.specs.History.{Entry, Start, rows_of, version}
 use Rattle.olap_meaning.specs.Legal.{LegalStep}
 use Rattle.history_core.specs.Entries.{entry_of}
+use Rattle.agg_tables.specs.Costs.{cheapest}
+use Rattle.agg_tables.specs.Tables.{TableOf}
 use Rattle.fact_reader.specs.BodyRows.{rows_in}
+use Rattle.load_costs.specs.Costs.{tables_built}
 use Rattle.history_core.specs.Cache.{CacheOf}
 use Rattle.history_core.specs.Groups.{IsHeaderFor, alike, load_with}
 use Rattle.segment_header.specs.Widening.{Allowing}
@@ -25,6 +29,12 @@ flight_for flying =
       version = flying.version;
       shut = [];
     }
+
+-- what a load of a header from a version of a cube reads: the cheapest of the facts and the tables that were built
+abbrev pub read_of : CacheOf → ℕ → Header → ℕ → Option TableOf
+read_of cache cube header version =
+    cheapest header version (length (rows_of cache.entries cube version))
+    (tables_built cache.setting.catalog cache.entries)
 
 -- what is prepared for the load of a group, which is to have this number: its Start, its flight and its job. The group is
 -- told by its first cell and its cells
@@ -44,7 +54,9 @@ pub record IsPrepared (allowing : Allowing) (cache : CacheOf) (who : Who) (cells
   pub catalog : planned.job.catalog ≡ cache.setting.catalog
   pub rows : rows_in planned.job.snapshot
       ≡ rows_of cache.entries first.cube (version cache.entries first.cube)
-  pub facts : planned.job.read ≡ None
+  pub version_is : length planned.job.snapshot ≡ version cache.entries first.cube
+  pub read : planned.job.read
+      ≡ read_of cache first.cube planned.job.header (version cache.entries first.cube)
 
 -- what is prepared for the groups of some first cells, whose loads are numbered from one on
 abbrev pub ArePrepared : Allowing → CacheOf → Who → List Cell → ℕ → List Cell → List Planned

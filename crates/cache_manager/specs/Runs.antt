@@ -9,15 +9,16 @@ use Rattle.olap_meaning.specs.Covering.{among}
 use Rattle.olap_meaning.specs.History as history
 use Rattle.olap_meaning.specs.History.{Entry, load_at, version}
 use Rattle.olap_meaning.specs.Legal.{caller, is_cell, is_flushable}
+use Rattle.installed_tables.specs.Installed.{groups_built, present_rows, present_version, version_rows}
 use Rattle.load_costs.specs.Costs.{cost}
 use Rattle.fact_versions.specs.Facts.{append_fault}
 use Rattle.fact_versions.specs.declared.faults.AppendFault.TheVariants as fault
 use Rattle.fact_reader.specs.BodyRows.{is_batch}
 use Rattle.segment_load.specs.Loads.{JobOf}
 use Rattle.cache_manager.specs.declared.calls.Call.{Call}
-use Rattle.cache_manager.specs.declared.calls.Call.TheVariants.{Append, Look, Deliver, Abandon, Flush, Show}
+use Rattle.cache_manager.specs.declared.calls.Call.TheVariants.{Append, Look, Deliver, Abandon, Flush, Show, BuildAgg, Install}
 use Rattle.cache_manager.specs.declared.calls.Reply.{Reply}
-use Rattle.cache_manager.specs.declared.calls.Reply.TheVariants.{Appended, Refused, Ready, Loading, Busy, Ended, NoJob, Flushed, Shown, OutOfMemory}
+use Rattle.cache_manager.specs.declared.calls.Reply.TheVariants.{Appended, Refused, Ready, Loading, Busy, Ended, NoJob, Flushed, Shown, Built, Installed, NotReached, OutOfMemory}
 use Rattle.history_core.specs.Answers.{HasSource, IsAnswer, SomeWants}
 use Rattle.history_core.specs.Cache.{CacheOf}
 use Rattle.history_core.specs.Arrivals.{arrival_in}
@@ -28,7 +29,8 @@ use Rattle.history_core.specs.Seats.{NoneFlies}
 use Rattle.history_core.specs.Groups.{numbers_from}
 use Rattle.history_core.specs.Shown.{cache_lines}
 
--- a call may be made on a cache over a catalog: a batch is one of a cube, cells are known, and a region may be flushed
+-- a call may be made on a cache over a catalog: a batch is one of a cube, cells are known, a region may be flushed, and an
+-- aggregate table is declared
 abbrev pub MayCall : Catalog → Call → Type 0
 MayCall catalog (Append seat cube batch) =
     (cube < length catalog.cubes) × IsTrue (is_batch catalog cube batch)
@@ -37,6 +39,8 @@ MayCall catalog (Deliver job) = ⊤
 MayCall catalog (Abandon job) = ⊤
 MayCall catalog (Flush seat region) = IsTrue (is_flushable catalog region)
 MayCall catalog (Show seat) = ⊤
+MayCall catalog (BuildAgg seat table) = table < length catalog.schema.aggregates
+MayCall catalog (Install seat table v) = table < length catalog.schema.aggregates
 
 -- where a run stands: its cache, the loads whose jobs are out, in order, and the number of the next call
 pub record Stage : Type 0 where
@@ -75,6 +79,10 @@ added stage (Abandon job) Ended = ending history.Drop stage job
 added stage (Flush seat region) (Flushed position) =
     history.Flush (who_calls stage seat) region ∷ []
 added stage (Show seat) (Shown view) = history.Saw (who_calls stage seat) ∷ []
+added stage (BuildAgg seat table) (Built built) =
+    history.Agg (who_calls stage seat) table built.version ∷ []
+added stage (Install seat table v) (Installed position) =
+    history.Agg (who_calls stage seat) table v ∷ []
 added stage call reply = []
 
 -- the loads whose jobs are out after a call that has this reply
@@ -124,6 +132,19 @@ MayReply stage (Show seat) (Shown view) =
     (view.position ≡ length stage.cache.entries + 1)
     × (view.lines ≡ cache_lines stage.cache.entries)
 MayReply stage (Show seat) OutOfMemory = ⊤
+MayReply stage (BuildAgg seat table) (Built built) =
+    (built.position ≡ length stage.cache.entries + 1)
+    × (built.version ≡ present_version stage.cache.setting.catalog stage.cache.entries table)
+    × (built.groups ≡ groups_built stage.cache.setting.catalog
+    (stage.cache.entries ++ history.Agg (who_calls stage seat) table built.version ∷ []) table)
+MayReply stage (BuildAgg seat table) OutOfMemory = ⊤
+MayReply stage (Install seat table v) (Installed position) =
+    (v ≤ present_version stage.cache.setting.catalog stage.cache.entries table)
+    × (position ≡ length stage.cache.entries + 1)
+MayReply stage (Install seat table v) NotReached =
+    present_version stage.cache.setting.catalog stage.cache.entries table < v
+MayReply stage (Install seat table v) OutOfMemory =
+    v ≤ present_version stage.cache.setting.catalog stage.cache.entries table
 MayReply stage call reply = ⊥
 
 -- the loads that a call starts which has this reply have headers as may be allowed
@@ -146,21 +167,34 @@ stage_after stage (call ∷ calls) (reply ∷ replies) =
     stage_after (next_stage stage call reply) calls replies
 stage_after stage calls replies = stage
 
--- the rows of the load of a job that is out, by its place: what the load costs
+-- what the load of a job that is out costs, by the job's place: the rows and the groups that it reads
 abbrev pub rows_of_job : Stage → ℕ → ℕ
 rows_of_job stage job =
     option_map_or
     (cost stage.cache.setting.catalog stage.cache.entries) (slice_get stage.out job) 0
 
--- the least rows that a call which has this reply has looked at: those of a load that it delivers, each once
+-- the least that a call which has this reply has read: what a load costs that it delivers, or the rows of which it builds a
+-- table
 abbrev pub rows_delivered : Stage → Call → Reply → ℕ
 rows_delivered stage (Deliver job) Ended = rows_of_job stage job
+rows_delivered stage (BuildAgg seat table) (Built built) =
+    present_rows stage.cache.setting.catalog stage.cache.entries table
+rows_delivered stage (Install seat table v) (Installed position) =
+    version_rows stage.cache.setting.catalog stage.cache.entries table v
 rows_delivered stage call reply = 0
 
--- the most rows that it has looked at: where memory was wanting for a load, some of the load's may be among them
+-- the most that it has read: where memory was wanting for a load or a table, some of that
 abbrev pub rows_tried : Stage → Call → Reply → ℕ
 rows_tried stage (Deliver job) Ended = rows_of_job stage job
 rows_tried stage (Deliver job) OutOfMemory = rows_of_job stage job
+rows_tried stage (BuildAgg seat table) (Built built) =
+    present_rows stage.cache.setting.catalog stage.cache.entries table
+rows_tried stage (BuildAgg seat table) OutOfMemory =
+    present_rows stage.cache.setting.catalog stage.cache.entries table
+rows_tried stage (Install seat table v) (Installed position) =
+    version_rows stage.cache.setting.catalog stage.cache.entries table v
+rows_tried stage (Install seat table v) OutOfMemory =
+    version_rows stage.cache.setting.catalog stage.cache.entries table v
 rows_tried stage call reply = 0
 
 -- the rows of calls that had these replies, by those of one call

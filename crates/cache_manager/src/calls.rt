@@ -12,9 +12,9 @@ use crate::look::next;
 use crate::manager::Manager;
 use crate::outcome::Look;
 use fact_versions::{AppendFault, Batch, Steps};
-use history_core::{Answer, Appended, CacheView};
+use history_core::{AggBuilt, Answer, Appended, CacheView};
 use olap_catalog::Catalog;
-use olap_meaning::{Cell, CubeId, Header, List, OutOfMemory, ROW_LIMIT, Region, Who};
+use olap_meaning::{Cell, CubeId, Header, List, OutOfMemory, ROW_LIMIT, Region, Version, Who};
 use segment_header::{AllowsValues, Widener};
 use segment_load::{LoadJob, run_load};
 use std::alloc::Global;
@@ -49,6 +49,17 @@ pub enum Call {
     Show {
         seat: u32,
     },
+    /// Builds an aggregate table from the present version of its cube, and installs it.
+    BuildAgg {
+        seat: u32,
+        table: u32,
+    },
+    /// Builds an aggregate table from a version of its cube, and installs it.
+    Install {
+        seat: u32,
+        table: u32,
+        version: Version,
+    },
 }
 
 /// What a call is answered.
@@ -68,6 +79,11 @@ pub enum Reply {
     /// The position of the flush.
     Flushed(u64),
     Shown(CacheView),
+    Built(AggBuilt),
+    /// The position of the entry of a table.
+    Installed(u64),
+    /// The cube of a table has not reached the version.
+    NotReached,
     OutOfMemory,
 }
 
@@ -235,6 +251,74 @@ fn run_show(manager: &mut Manager, jobs: &[LoadJob], who: Who) -> Reply
     }
 }
 
+fn run_build<L: Ledger>(
+    manager: &mut Manager,
+    jobs: &[LoadJob],
+    who: Who,
+    table: u32,
+    steps: &mut Steps<L>,
+) -> Reply
+    requires run { IsRun manager.old jobs.now who.call }
+    requires declared { table < length manager.old.setting.catalog.schema.aggregates }
+    ensures run { IsRun manager.new jobs.now (who.call + 1) }
+    ensures reply { MayReply (stage_of manager.old jobs.now who.call)
+        (Call.BuildAgg who.seat table) result }
+    ensures next { stage_of manager.new jobs.now (who.call + 1)
+        ≡ next_stage (stage_of manager.old jobs.now who.call)
+        (Call.BuildAgg who.seat table) result }
+    ensures at_least { steps.old
+        + rows_delivered (stage_of manager.old jobs.now who.call)
+        (Call.BuildAgg who.seat table) result ≤ steps.new }
+    ensures at_most { steps.new ≤ steps.old
+        + rows_tried (stage_of manager.old jobs.now who.call)
+        (Call.BuildAgg who.seat table) result }
+{
+    let _out = jobs;
+    manager.steps_are_legal();
+    match manager.build_agg(who, table, steps) {
+        Ok(built) => Reply::Built(built),
+        Err(OutOfMemory) => Reply::OutOfMemory,
+    }
+}
+
+fn run_install<L: Ledger>(
+    manager: &mut Manager,
+    jobs: &[LoadJob],
+    who: Who,
+    table: u32,
+    version: Version,
+    steps: &mut Steps<L>,
+) -> Reply
+    requires run { IsRun manager.old jobs.now who.call }
+    requires declared { table < length manager.old.setting.catalog.schema.aggregates }
+    ensures run { IsRun manager.new jobs.now (who.call + 1) }
+    ensures reply { MayReply (stage_of manager.old jobs.now who.call)
+        (Call.Install who.seat table version) result }
+    ensures next { stage_of manager.new jobs.now (who.call + 1)
+        ≡ next_stage (stage_of manager.old jobs.now who.call)
+        (Call.Install who.seat table version) result }
+    ensures at_least { steps.old
+        + rows_delivered (stage_of manager.old jobs.now who.call)
+        (Call.Install who.seat table version) result ≤ steps.new }
+    ensures at_most { steps.new ≤ steps.old
+        + rows_tried (stage_of manager.old jobs.now who.call)
+        (Call.Install who.seat table version) result }
+{
+    let _out = jobs;
+    manager.steps_are_legal();
+    if version.0 > manager.table_version(table).0 {
+        return Reply::NotReached;
+    }
+    let made = match manager.build(table, version, steps) {
+        Ok(made) => made,
+        Err(OutOfMemory) => return Reply::OutOfMemory,
+    };
+    match manager.install(who, made) {
+        Ok(position) => Reply::Installed(position),
+        Err(OutOfMemory) => Reply::OutOfMemory,
+    }
+}
+
 fn run_call<L: Ledger>(
     alloc: Global,
     manager: &mut Manager,
@@ -276,6 +360,18 @@ fn run_call<L: Ledger>(
             let who = Who { seat, call: number };
             run_show(manager, jobs.as_slice(), who)
         }
+        Call::BuildAgg { seat, table } => {
+            let who = Who { seat, call: number };
+            run_build(manager, jobs.as_slice(), who, table, steps)
+        }
+        Call::Install {
+            seat,
+            table,
+            version,
+        } => {
+            let who = Who { seat, call: number };
+            run_install(manager, jobs.as_slice(), who, table, version, steps)
+        }
     }
 }
 
@@ -285,8 +381,8 @@ fn run_call<L: Ledger>(
 /// The history after them is legal. It has just the entries that the calls and their replies give, one after another,
 /// and each reply has its cause where its call was made.
 ///
-/// The steps are those of the loads that are delivered, and no others: each load looks once at each row of its version.
-/// A load that memory was wanting for has looked at some of its rows, at most. Where the run itself stops for want of
+/// The steps are those of the loads that are delivered and of the tables that are built, and no others: each load takes what
+/// it costs, and each table the rows of its version. One that memory was wanting for takes so many at most. Where the run itself stops for want of
 /// memory, that is so of the calls that were made.
 pub fn run_calls<L: Ledger>(
     alloc: Global,

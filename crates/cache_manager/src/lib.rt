@@ -18,6 +18,7 @@ mod rollups;
 mod shared;
 mod show;
 mod starts;
+mod tables;
 
 pub use calls::{Call, Reply, Run, run_calls};
 pub use manager::Manager;

@@ -126,6 +126,7 @@ impl Manager {
             (λ planned. IsPrepared (Widened (⟦<Widener as AllowsValues>⟧.answers widener.now))
             self.now who (lent group.now.cells.items) load group.now.first.now planned) }
     {
+        self.steps_are_legal();
         let header = header_for(self.alloc, self.catalog(), group, widener)?;
         let copy = copy_header(self.alloc, &header)?;
         let other = copy_header(self.alloc, &header)?;
@@ -145,7 +146,14 @@ impl Manager {
                 header: other,
                 version,
             },
-            job: LoadJob::new(catalog, load, who, header, snapshot, &[])?,
+            job: LoadJob::new(
+                catalog,
+                load,
+                who,
+                header,
+                snapshot,
+                self.installed.tables(),
+            )?,
         })
     }
 

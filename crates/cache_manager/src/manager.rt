@@ -1,5 +1,5 @@
 //! The manager of a cache.
-ghost use Rattle.std.specs.Prelude.{◌≡◌, ◌⊎◌, ◌↔◌, ◌<◌, ◌≤◌, ◌+◌, ◌++◌, ◌∷◌, [], IfErr, IfOk, IfSome, IsTrue, None, OnErr, OnOk, Some, length, true};
+ghost use Rattle.std.specs.Prelude.{◌≡◌, ◌⊎◌, ◌↔◌, ◌<◌, ◌≤◌, ◌+◌, ◌++◌, ◌∷◌, [], ℕ, IfErr, IfOk, IfSome, IsTrue, None, OnErr, OnOk, Some, length, take, true};
 ghost use Rattle.olap_meaning.specs.History.{Append, Done, Drop, Flush, flying, load_version, rows_of, version};
 ghost use Rattle.olap_meaning.specs.Legal.{Legal, is_flushable, is_next_call};
 ghost use Rattle.fact_versions.specs.Facts.{append_fault};
@@ -14,6 +14,7 @@ use crate::look::sum;
 use cache_flush::{CacheShelf, Flights, Kept};
 use fact_versions::{AppendFault, Batch, Facts, Snapshot};
 use history_core::{Appended, Entry, History};
+use installed_tables::Installed;
 use olap_catalog::Catalog;
 use olap_meaning::{CubeId, OutOfMemory, ROW_LIMIT, Region, Version, Who};
 use segment_index::SegmentIndex;
@@ -22,9 +23,9 @@ use std::alloc::Global;
 use std::marker::Model;
 use std::sync::Arc;
 
-/// The manager of a cache (Cache Control): it keeps the facts, the loads that were delivered and those in flight, and
-/// writes down each thing that it does as an entry of its history. A flush shuts off the cells of its region in each load
-/// that was started before, whether it is kept or in flight.
+/// The manager of a cache (Cache Control): it keeps the facts, the aggregate tables that were built last, the loads that
+/// were delivered and those in flight, and writes down each thing that it does as an entry of its history. A flush shuts
+/// off the cells of its region in each load that was started before, whether it is kept or in flight.
 #[derive(Drop)]
 pub struct Manager {
     pub(crate) alloc: Global,
@@ -32,6 +33,7 @@ pub struct Manager {
     pub(crate) facts: Facts,
     pub(crate) shelf: SegmentIndex,
     pub(crate) flights: Flights,
+    pub(crate) installed: Installed,
 }
 
 impl Model for Manager {
@@ -43,7 +45,7 @@ impl Model for Manager {
 
     ghost view = { λ a. record { setting = a.history.setting; entries = a.history.entries } };
 
-    ghost invariant = { λ a. IsManager a.history.setting a.history.entries a.history.spare a.facts a.shelf.loads (has_places a.shelf) a.flights.flights };
+    ghost invariant = { λ a. IsManager a.history.setting a.history.entries a.history.spare a.facts a.shelf.loads (has_places a.shelf) a.flights.flights a.installed };
 }
 
 impl Manager {
@@ -67,6 +69,7 @@ impl Manager {
             facts,
             shelf: SegmentIndex::new(alloc),
             flights: Flights::new(alloc),
+            installed: Installed::new(alloc),
         })
     }
 
@@ -105,7 +108,7 @@ impl Manager {
         })
     }
 
-    /// The present version of a cube.
+    /// The present version of a cube. Its first batches are the earlier versions.
     pub fn snapshot(&self, cube: CubeId) -> Result<Snapshot, OutOfMemory>
         requires { cube < length self.now.setting.catalog.cubes }
         ensures version { IfOk result
@@ -113,6 +116,8 @@ impl Manager {
         ensures rows { IfOk result
             (λ snapshot. rows_in snapshot
             ≡ rows_of self.now.entries cube (version self.now.entries cube)) }
+        ensures versions { IfOk result
+            (λ snapshot. (v : ℕ) → rows_in (take v snapshot) ≡ rows_of self.now.entries cube v) }
         ensures fit { IfOk result
             (λ snapshot. IsTrue (are_batches self.now.setting.catalog cube snapshot)) }
     {

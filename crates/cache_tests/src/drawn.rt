@@ -13,6 +13,7 @@ fn a_manager_does_as_the_slow_bodies_say(rt: HostRuntime) -> Result<(), Fail> {
             counts.answers > 0
                 && counts.rolled > 0
                 && counts.loads > 0
+                && counts.tables > 0
                 && counts.refused > 0
                 && counts.touched > 0,
             "{counts:?}"

@@ -1,6 +1,6 @@
 -- What the costs of loads depend on, and their sums over entries.
-use Rattle.std.proofs.Common.{◌≡◌, ◌∙◌, ◌<◌, ◌≤◌, ◌+◌, ◌==◌, ℕ, zero, suc, Bool, true, false, List, [], ◌∷◌, ◌++◌, Option, None, Some, append_assoc, length, take, filter_map, refl, sym, ap, arith, inl, inr, if◌then◌else◌}
-use Rattle.std.specs.Prelude.{◌||◌, slice_get}
+use Rattle.std.proofs.Common.{◌≡◌, ◌∙◌, ◌+◌, ℕ, zero, suc, false, List, [], ◌∷◌, ◌++◌, Option, None, Some, append_assoc, length, take, filter_map, refl, sym, ap, arith}
+use Rattle.std.specs.Prelude.{◌||◌, option_and_then, slice_get}
 use Rattle.std.specs.List.{list_any, range_with_len}
 use Rattle.std.specs.Option.{option_map_or, option_or}
 use Rattle.std.proofs.Math.Seq.{take-append_seam}
@@ -12,7 +12,7 @@ use Rattle.olap_meaning.proofs.Loads.{load_start, start_load}
 use Rattle.olap_meaning.proofs.Positions.{entry-append, entry_within}
 use Rattle.agg_tables.specs.Costs.{cheapest, read_cost}
 use Rattle.agg_tables.specs.Tables.{TableOf}
-use Rattle.load_costs.specs.Costs.{builds, cost, last_built, seat_cost, seat_costs, start_cost, table_built, tables_built, version_built}
+use Rattle.load_costs.specs.Costs.{builds, cost, last_built, reads, seat_costs, start_cost, start_read, table_built, tables_built, version_built}
 
 -- a load that was started is started at its position however a history goes on
 load_stays : (entries more : List Entry) (j : ℕ) (load : Load) → load_at entries j ≡ Some load → load_at (entries ++ more) j ≡ Some load
@@ -30,11 +30,25 @@ get_seam : (entries rest : List Entry) (entry : Entry) → slice_get (entries ++
 get_seam [] rest entry = refl
 get_seam (e ∷ es) rest entry = get_seam es rest entry
 
+-- and what it reads
+pub reads_on : (catalog : Catalog) (entries more : List Entry) (j : ℕ) (load : Load) → load_at entries j ≡ Some load → reads catalog (entries ++ more) j ≡ reads catalog entries j
+reads_on catalog entries more zero load at = refl
+reads_on catalog entries more (suc b) load at =
+    let within = entry_within entries (suc b) (Start load) (load_start entries (suc b) load at) in
+    ap (λ (h : List Entry). option_and_then (start_read catalog h) (load_at (entries ++ more) (suc b))) (take-append-le b entries more (omega (arith, within.1)))
+    ∙ ap (λ (o : Option Load). option_and_then (start_read catalog (take b entries)) o) (load_stays entries more (suc b) load at ∙ sym at)
+
 -- what a load costs is what it costs behind the entries before it
 pub cost_at : (catalog : Catalog) (entries rest : List Entry) (load : Load) → cost catalog (entries ++ Start load ∷ rest) (suc (length entries)) ≡ start_cost catalog entries load
 cost_at catalog entries rest load =
     ap (λ (h : List Entry). option_map_or (start_cost catalog h) (load_at (entries ++ Start load ∷ rest) (suc (length entries))) 0) (take-append_seam entries (Start load ∷ rest))
     ∙ ap (λ (o : Option Load). option_map_or (start_cost catalog entries) o 0) (start_load (entries ++ Start load ∷ rest) (suc (length entries)) load (get_seam entries rest (Start load)))
+
+-- and it reads what it reads behind them
+pub reads_at : (catalog : Catalog) (entries rest : List Entry) (load : Load) → reads catalog (entries ++ Start load ∷ rest) (suc (length entries)) ≡ start_read catalog entries load
+reads_at catalog entries rest load =
+    ap (λ (h : List Entry). option_and_then (start_read catalog h) (load_at (entries ++ Start load ∷ rest) (suc (length entries)))) (take-append_seam entries (Start load ∷ rest))
+    ∙ ap (λ (o : Option Load). option_and_then (start_read catalog entries) o) (start_load (entries ++ Start load ∷ rest) (suc (length entries)) load (get_seam entries rest (Start load)))
 
 -- no table is built where no entry builds one
 none_last : (table : ℕ) (history : List Entry) → list_any builds history ≡ false → last_built table history ≡ None

@@ -1,1 +1,3 @@
+pub mod BuiltFacts
 pub mod CostFacts
+mod CheapFacts

@@ -38,14 +38,24 @@ tables_built catalog history =
     filter_map
     (table_built catalog history) (range_with_len 0 (length catalog.schema.aggregates))
 
--- what a load costs that is started behind some entries: the least of the rows of its version, and of what it costs to read
--- one of the tables that these entries have built
+-- what a load reads that is started behind some entries: the cheapest of the facts of its version and the tables that these
+-- entries have built
+abbrev pub start_read : Catalog → List Entry → Load → Option TableOf
+start_read catalog history load =
+    cheapest load.header load.version (load_rows history load) (tables_built catalog history)
+
+-- what that costs
 abbrev pub start_cost : Catalog → List Entry → Load → ℕ
 start_cost catalog history load =
-    read_cost (load_rows history load)
-    (cheapest load.header load.version (load_rows history load) (tables_built catalog history))
+    read_cost (load_rows history load) (start_read catalog history load)
 
--- the cost of the load that is started at a position, by the entries before it, and 0 where none is
+-- what the load reads that is started at a position, by the entries before it
+abbrev pub reads : Catalog → List Entry → ℕ → Option TableOf
+reads catalog history zero = None
+reads catalog history (suc before) =
+    option_and_then (start_read catalog (take before history)) (load_at history (suc before))
+
+-- what it costs, and 0 where none is started
 abbrev pub cost : Catalog → List Entry → ℕ → ℕ
 cost catalog history zero = 0
 cost catalog history (suc before) =

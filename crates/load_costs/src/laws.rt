@@ -1,7 +1,8 @@
 //! Laws of what loads cost. A call of one costs nothing.
-ghost use Rattle.load_costs.specs.Laws.{CostsStay, LoadsReadRows};
+ghost use Rattle.load_costs.specs.Laws.{CostsStay, LastBuildsCount, LoadsReadRows, LoadsReadTheCheapest, TablesAreThoseBuilt};
 
-/// What a load costs that was started stays as it is, whatever comes behind: a table that is built later does not change it.
+/// What a load costs and reads that was started stays as it is, whatever comes behind: a table that is built later does not
+/// change it.
 pub fn costs_stay()
     ensures { CostsStay }
 {}
@@ -9,4 +10,21 @@ pub fn costs_stay()
 /// Where no table is built a load costs the rows of its version.
 pub fn loads_read_rows()
     ensures { LoadsReadRows }
+{}
+
+/// A table is built last by an entry behind which none builds it.
+pub fn last_builds_count()
+    ensures { LastBuildsCount }
+{}
+
+/// The tables of a history are just those that it has built, each over the version over which it was built last, in the order
+/// of the schema.
+pub fn tables_are_those_built()
+    ensures { TablesAreThoseBuilt }
+{}
+
+/// A load reads the cheapest of the facts of its version and the tables that were built before its Start: of several that
+/// cost as much the first, and the facts last.
+pub fn loads_read_the_cheapest()
+    ensures { LoadsReadTheCheapest }
 {}

@@ -15,17 +15,8 @@ use Rattle.history_core.specs.Cache.{CacheOf}
 use Rattle.cache_manager.specs.Jobs.{IsJobOf, IsOwn}
 use Rattle.history_core.specs.Seats.{is_of_seat, entries_of}
 use Rattle.history_core.specs.Groups.{numbers_from}
-use Rattle.load_costs.specs.Costs.{cost}
-use Rattle.load_costs.proofs.CostFacts.{cost_on}
-use Rattle.cache_manager.proofs.Pushes.{load_on, recorded, rows_on}
+use Rattle.cache_manager.proofs.JobFacts.{jobs_stay}
 use Rattle.test_plays.specs.Played.{AreJobsOf}
-
-none_kept : (keep test : Entry → Bool) (history : List Entry) (entry : Entry) → list_any test (filter keep history) ≡ false → test entry ≡ false → list_any test (filter keep (history ++ entry ∷ [])) ≡ false
-none_kept keep test history entry h e = by (keep entry) refl
-  where
-    by : (b : Bool) → keep entry ≡ b → list_any test (filter keep (history ++ entry ∷ [])) ≡ false
-    by true k = rw (filter-append keep history (entry ∷ []), list_any-append test (filter keep history) (filter keep (entry ∷ [])), h, k, e) refl
-    by false k = rw (filter-append keep history (entry ∷ []), list_any-append test (filter keep history) (filter keep (entry ∷ [])), h, k) refl
 
 -- a cache and the same with one more entry
 pub record IsNext (cache next : CacheOf) (entry : Entry) : Type 0 where
@@ -34,36 +25,10 @@ pub record IsNext (cache next : CacheOf) (entry : Entry) : Type 0 where
   pub entries : next.entries ≡ cache.entries ++ entry ∷ []
 
 module _ (cache next : CacheOf) (entry : Entry) (one : IsNext cache next entry) where
-  own_on : (who : Who) (j : ℕ) (load : Load) → ends j entry ≡ false → IsOwn cache who j load → IsOwn next who j load
-  own_on who j load unended is = record {
-    started = ap (λ (es : List Entry). load_at es j) one.entries ∙ load_on cache.entries entry j load is.started;
-    own = is.own;
-    unended = ap (λ (es : List Entry). list_any (ends j) (entries_of es who.seat)) one.entries ∙ none_kept (is_of_seat who.seat) (ends j) cache.entries entry is.unended unended;
-  }
-
-  rows_same : (j : ℕ) (load : Load) → load_at cache.entries j ≡ Some load → rows_of cache.entries load.header.cube load.version ≡ rows_of next.entries load.header.cube load.version
-  rows_same j load at =
-      sym (ap (λ (es : List Entry). rows_of es load.header.cube load.version) one.entries ∙ rows_on cache.entries entry load.header.cube load.version (recorded cache.setting cache.entries j load one.legal at))
-
-  job_on : (job : JobOf) → ends job.load entry ≡ false → IsJobOf cache job → IsJobOf next job
-  job_on job unended is = record {
-    load = is.load;
-    catalog = is.catalog ∙ ap (λ (s : Setting). s.catalog) (sym one.setting);
-    flies = own_on job.who job.load is.load unended is.flies;
-    header = is.header;
-    rows = is.rows ∙ rows_same job.load is.load is.flies.started;
-    costs = is.costs ∙ sym (cost_on cache.setting.catalog cache.entries (entry ∷ []) job.load is.load is.flies.started)
-        ∙ ap (λ (es : List Entry). cost cache.setting.catalog es job.load) (sym one.entries)
-        ∙ ap (λ (s : Setting). cost s.catalog next.entries job.load) (sym one.setting);
-  }
-
-  all_on : (jobs : List JobOf) → All (λ (job : JobOf). ends job.load entry ≡ false) jobs → All (IsJobOf cache) jobs → All (IsJobOf next) jobs
-  all_on jobs unended each i d l = job_on (get_or jobs i d) (unended i d l) (each i d l)
-
   -- an entry that ends no load leaves the jobs
   pub jobs_on : (jobs : List JobOf) → ((j : ℕ) → ends j entry ≡ false) → AreJobsOf cache jobs → AreJobsOf next jobs
   jobs_on jobs none are = record {
-    each = all_on jobs (λ i d l. none (get_or jobs i d).load) are.each;
+    each = jobs_stay cache next entry one.setting one.entries one.legal jobs (λ i d l. none (get_or jobs i d).load) are.each;
     rising = are.rising;
   }
 
@@ -111,7 +76,7 @@ rest_on cache next entry jobs rest job one ends_it is are =
     let up = rest_rises jobs rest job is are.rising in
     let left = rest_are cache jobs rest job is are in
     record {
-      each = all_on cache next entry one rest (λ i d l. ends_it (get_or rest i d).load ∙ later job.load rest up.0 i d l) left.each;
+      each = jobs_stay cache next entry one.setting one.entries one.legal rest (λ i d l. ends_it (get_or rest i d).load ∙ later job.load rest up.0 i d l) left.each;
       rising = left.rising;
     }
 

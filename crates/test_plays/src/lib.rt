@@ -14,4 +14,5 @@ pub mod runs;
 pub mod shuts;
 pub mod small;
 pub mod steps;
+mod tables;
 pub mod told;

@@ -1,13 +1,17 @@
 //! A manager with the jobs of its loads in flight.
-ghost use Rattle.std.specs.Prelude.{◌≡◌, ◌≤◌, IfOk, IsTrue, Some};
+ghost use Rattle.std.specs.Prelude.{◌≡◌, ◌<◌, ◌≤◌, ◌++◌, ◌∷◌, [], IfOk, IsTrue, OnErr, OnOk, Some, length};
+ghost use Rattle.olap_meaning.specs.History.{Agg};
+ghost use Rattle.olap_meaning.specs.Legal.{is_next_call};
+ghost use Rattle.installed_tables.specs.Installed.{present_version};
 ghost use Rattle.fact_reader.specs.BodyRows.{HoldsRows, rows_in};
 ghost use Rattle.segment_header.specs.Widening.{Serves, are_wanted};
 
 use crate::checks::{are_known, is_next};
 use crate::regions::region_of;
+use crate::tables::open_with_table;
 use cache_manager::{Look, Manager};
 use fact_versions::{AppendFault, Snapshot, Steps};
-use history_core::{Answer, Appended, CacheView, History};
+use history_core::{AggBuilt, Answer, Appended, CacheView, History};
 use olap_meaning::{Allowed, Cell, CubeId, OutOfMemory, ROW_LIMIT, ValueId, Who};
 use segment_header::{Widener, Widening};
 use segment_load::{Delivery, LoadJob, run_load};
@@ -15,7 +19,7 @@ use std::alloc::Global;
 use std::marker::{Brand, Model};
 use std::sync::ledger::{Blank, Ledger};
 use std::test::Fail;
-use test_samples::opened::{open, read};
+use test_samples::opened::read;
 use test_samples::wideners::not_widened;
 
 /// A manager over the sample catalog, and the jobs of its loads in flight, oldest first.
@@ -49,11 +53,34 @@ fn run<L: Ledger>(alloc: Global, job: LoadJob, blank: Blank) -> Result<Delivery,
     run_load(alloc, job, &mut steps)
 }
 
+fn build<L: Ledger>(
+    manager: &mut Manager,
+    who: Who,
+    table: u32,
+    blank: Blank,
+) -> Result<AggBuilt, OutOfMemory>
+    requires name { blank.name ≡ L.name }
+    requires parts { blank.parts ≡ L.parts }
+    requires one { blank.parts ≡ 1 }
+    requires call { IsTrue (is_next_call manager.old.entries who) }
+    requires declared { table < length manager.old.setting.catalog.schema.aggregates }
+    ensures setting { manager.new.setting ≡ manager.old.setting }
+    ensures entry { OnOk result (manager.new.entries ≡ manager.old.entries ++ Agg who table
+        (present_version manager.old.setting.catalog manager.old.entries table) ∷ []) }
+    ensures unchanged { OnErr result (manager.new ≡ manager.old) }
+{
+    let mut steps: Steps<L> = Steps::new(blank);
+    match manager.build_agg(who, table, &mut steps) {
+        Ok(built) => Ok(built),
+        Err(error) => Err(error),
+    }
+}
+
 impl Played {
     pub(crate) fn new(alloc: Global, row_limit: u32) -> Result<Played, Fail>
         requires { row_limit ≤ ROW_LIMIT }
     {
-        match Manager::new(alloc, open(alloc)?, row_limit, 0) {
+        match Manager::new(alloc, open_with_table(alloc)?, row_limit, 0) {
             Ok(manager) => Ok(Played {
                 alloc,
                 manager,
@@ -148,6 +175,21 @@ impl Played {
         match self.manager.flush(who, region) {
             Ok(position) => Ok(Some(position)),
             Err(_) => Ok(None),
+        }
+    }
+
+    /// Builds an aggregate table.
+    pub(crate) fn build_agg(&mut self, who: Who, table: u32) -> Result<AggBuilt, Fail> {
+        if !is_next(self.manager.history(), who) {
+            return Err(Fail::from("not the next call"));
+        }
+        if table as usize >= self.manager.catalog().schema().aggregates.len() {
+            return Err(Fail::from("no table"));
+        }
+        self.manager.steps_are_legal();
+        match build::<Brand>(&mut self.manager, who, table, Blank::new(1)) {
+            Ok(built) => Ok(built),
+            Err(_) => Err(Fail::from("no memory")),
         }
     }
 

@@ -45,14 +45,15 @@ struct Compared {
     above: Option<Cell>,
 }
 
-/// How often a look was answered, how many cells were rolled up, how often a look started loads, how often a batch was
-/// refused, how often a region was flushed while a load flew and while none did, and how many kept loads were shown that
-/// some flush touches.
+/// How often a look was answered, how many cells were rolled up, how often a look started loads, how many loads read the
+/// aggregate table, how often a batch was refused, how often a region was flushed while a load flew and while none did, and
+/// how many kept loads were shown that some flush touches.
 #[derive(Clone, Copy, Debug, PartialEq, Eq)]
 pub struct Counts {
     pub answers: u32,
     pub rolled: u32,
     pub loads: u32,
+    pub tables: u32,
     pub refused: u32,
     pub overtaken: u32,
     pub flushed: u32,
@@ -301,6 +302,28 @@ impl Compared {
         Ok(!self.played.is_idle())
     }
 
+    // Builds the aggregate table, whose entry has the version of the cube.
+    fn build(&mut self, who: Who) -> Result<(), Fail> {
+        let built = self.played.build_agg(who, 0)?;
+        self.compare()?;
+        if built.position != self.plain.len() as u64 {
+            return Err(Fail::from("a table at another position"));
+        }
+        if built.version.0 as usize != version(self.plain.as_slice(), CubeId(0)) {
+            return Err(Fail::from("a table of another version"));
+        }
+        Ok(())
+    }
+
+    // How many of the loads in flight read an aggregate table.
+    fn tables(&self) -> u32 {
+        let mut tables: u32 = 0;
+        for job in self.played.jobs() {
+            tables = tables.saturating_add(u32::from(job.table().is_some()));
+        }
+        tables
+    }
+
     // Shows what is kept, and says how many of the loads some flush touches.
     fn show(&mut self, who: Who) -> Result<u32, Fail> {
         let view = self.played.show(who)?;
@@ -346,7 +369,7 @@ fn step(
         seat: random.below(3) + 1,
         call,
     };
-    let kind = random.below(12);
+    let kind = random.below(13);
     if kind == 10 {
         return flush(compared, random, who, counts);
     }
@@ -354,6 +377,9 @@ fn step(
         let touched = compared.show(who)?;
         counts.touched = counts.touched.saturating_add(touched);
         return Ok(());
+    }
+    if kind == 12 {
+        return compared.build(who);
     }
     if kind == 0 {
         let refused = compared.append(who, sales(), 4)?;
@@ -375,7 +401,10 @@ fn step(
             counts.answers = counts.answers.saturating_add(1);
             counts.rolled = counts.rolled.saturating_add(rolled);
         }
-        None => counts.loads = counts.loads.saturating_add(1),
+        None => {
+            counts.loads = counts.loads.saturating_add(1);
+            counts.tables = counts.tables.saturating_add(compared.tables());
+        }
     }
     Ok(())
 }
@@ -386,6 +415,7 @@ fn play(compared: &mut Compared, random: &mut Random, calls: u32) -> Result<Coun
         answers: 0,
         rolled: 0,
         loads: 0,
+        tables: 0,
         refused: 0,
         overtaken: 0,
         flushed: 0,

@@ -1,16 +1,17 @@
 //! Whole lists of calls on a manager of their own.
-ghost use Rattle.std.specs.Prelude.{◌≡◌, ◌≤◌, All, IfOk, IsTrue};
+ghost use Rattle.std.specs.Prelude.{◌≡◌, ◌≤◌, ◌<◌, All, IfOk, IsTrue, length};
 ghost use Rattle.segment_header.specs.Widening.{Serves, are_wanted};
 ghost use Rattle.cache_manager.specs.Runs.{MayCall};
 
 use crate::checks::are_known;
 use crate::regions::region_of;
 use crate::steps::{cells_of, file_of};
+use crate::tables::open_with_table;
 use crate::told::told_reply;
 use cache_manager::{Call, Run, run_calls};
 use fact_versions::Steps;
 use olap_catalog::Catalog;
-use olap_meaning::{Allowed, CubeId, List, OutOfMemory, ROW_LIMIT, ValueId};
+use olap_meaning::{Allowed, CubeId, List, OutOfMemory, ROW_LIMIT, ValueId, Version};
 use segment_header::{Widener, Widening};
 use std::alloc::Global;
 use std::marker::Brand;
@@ -18,7 +19,7 @@ use std::sync::Arc;
 use std::sync::ledger::{Blank, Ledger};
 use std::test::Fail;
 use test_samples::lines::{add_line, asked, number, words};
-use test_samples::opened::{open, read};
+use test_samples::opened::read;
 use test_samples::wideners::not_widened;
 
 fn append(alloc: Global, catalog: &Catalog, seat: &str, file: &str) -> Result<Call, Fail>
@@ -52,6 +53,39 @@ fn flush(alloc: Global, catalog: &Catalog, seat: &str, text: &str) -> Result<Cal
     Ok(Call::Flush { seat, region })
 }
 
+// The place of an aggregate table of the schema.
+fn table_of(catalog: &Catalog, word: &str) -> Result<u32, Fail>
+    ensures { IfOk result (λ table. table < length catalog.now.schema.aggregates) }
+{
+    let table = number(word)?;
+    if (table as usize) < catalog.schema().aggregates.len() {
+        Ok(table)
+    } else {
+        Err(Fail::from("no table"))
+    }
+}
+
+fn build(catalog: &Catalog, seat: &str, table: &str) -> Result<Call, Fail>
+    ensures { IfOk result (λ call. MayCall catalog.now call) }
+{
+    let seat = number(seat)?;
+    let table = table_of(catalog, table)?;
+    Ok(Call::BuildAgg { seat, table })
+}
+
+fn install(catalog: &Catalog, seat: &str, table: &str, version: &str) -> Result<Call, Fail>
+    ensures { IfOk result (λ call. MayCall catalog.now call) }
+{
+    let seat = number(seat)?;
+    let table = table_of(catalog, table)?;
+    let version = Version(number(version)?);
+    Ok(Call::Install {
+        seat,
+        table,
+        version,
+    })
+}
+
 fn call_of(alloc: Global, catalog: &Catalog, asked: &str) -> Result<Call, Fail>
     ensures { IfOk result (λ call. MayCall catalog.now call) }
 {
@@ -63,6 +97,8 @@ fn call_of(alloc: Global, catalog: &Catalog, asked: &str) -> Result<Call, Fail>
         ("append", [file]) => append(alloc, catalog, second, file),
         ("look", cells) => look(alloc, catalog, second, cells),
         ("flush", [text]) => flush(alloc, catalog, second, text),
+        ("build", [table]) => build(catalog, second, table),
+        ("install", [table, version]) => install(catalog, second, table, version),
         ("show", []) => Ok(Call::Show {
             seat: number(second)?,
         }),
@@ -120,7 +156,7 @@ fn told(alloc: Global, run: &Run, table: &str) -> Result<String, Fail> {
 
 // The run of the calls of a table over the sample files.
 fn run_of(alloc: Global, table: &str, widener: &Widener) -> Result<Run, Fail> {
-    let catalog = open(alloc)?;
+    let catalog = open_with_table(alloc)?;
     let calls = calls_of(alloc, &catalog, table)?;
     match run::<Brand>(alloc, catalog, calls, widener, Blank::new(1)) {
         Ok(run) => Ok(run),
@@ -135,7 +171,8 @@ fn told_run(alloc: Global, run: &Run, table: &str) -> Result<(String, usize, u64
 }
 
 /// A table of calls, and what each is answered; and how many replies and entries there are then. A call is `append SEAT
-/// FILE`, `look SEAT CELL ..`, `flush SEAT TEXT`, `show SEAT`, or `deliver JOB` or `abandon JOB` by the place of a job.
+/// FILE`, `look SEAT CELL ..`, `flush SEAT TEXT`, `build SEAT TABLE`, `install SEAT TABLE VERSION`, `show SEAT`, or `deliver
+/// JOB` or `abandon JOB` by the place of a job.
 pub fn tell_calls(alloc: Global, table: &str) -> Result<(String, usize, u64), Fail> {
     let widen: Widening = Box::new(
         alloc,

@@ -186,6 +186,12 @@ pub(crate) fn told_reply(alloc: Global, reply: &Reply) -> Result<String, AllocEr
         Reply::Busy => format!(in alloc; "busy"),
         Reply::Ended => format!(in alloc; "ended"),
         Reply::NoJob => format!(in alloc; "no job"),
+        Reply::Built(built) => format!(in alloc;
+            "built {}: version {}, {} groups",
+            built.position, built.version.0, built.groups
+        ),
+        Reply::Installed(position) => format!(in alloc; "installed at {position}"),
+        Reply::NotReached => format!(in alloc; "not reached"),
         Reply::OutOfMemory => format!(in alloc; "no memory"),
     }
 }

@@ -16,5 +16,5 @@ push-requires-clause-legal c =
 pub invariant_of-self-2 : goal.invariant_of-self-2
 invariant_of-self-2 c =
     rw (c.push.ensures.setting, c.push.ensures.entries, c.reserve.ensures.setting, c.reserve.ensures.entries)
-    (answered c.self.inside.history.setting c.self.inside.history.entries c.self.inside.facts _ _ _ c.steps_are_legal.ensures c.self.inside.history.spare _ c.args.who c.args.sources.value c.self.invariant
+    (answered c.self.inside.history.setting c.self.inside.history.entries c.self.inside.facts _ _ _ _ c.steps_are_legal.ensures c.self.inside.history.spare _ c.args.who c.args.sources.value c.self.invariant
     (omega (arith, c.push.ensures.spare, c.in_ok-reserve.ensures.ok, c.in_ok-sum.ensures, c.len.ensures)))

@@ -1,6 +1,6 @@
 -- The Starts that were prepared are legal, and their jobs and flights are those of the history.
-use Rattle.std.proofs.Common.{false, ◌≡◌, ◌∙◌, ◌+◌, ◌++◌, List, [], ap, sym, subst, arith, length, map, true, not, All}
-use Rattle.std.specs.List.{list_all, list_any}
+use Rattle.std.proofs.Common.{◌≡◌, ◌∙◌, ◌+◌, ◌++◌, List, [], ap, sym, subst, arith, length, map, true, not, All}
+use Rattle.std.specs.List.{list_all}
 use Rattle.std.proofs.lemmas.Simd.{map-map}
 use Rattle.std.specs.Vec.{vec_len}
 use Rattle.olap_meaning.specs.declared.cells.Header.{Header}
@@ -13,7 +13,6 @@ use Rattle.olap_meaning.specs.Legal.{Legal, has_source, is_cell}
 use Rattle.history_core.specs.Cache.{CacheOf}
 use Rattle.history_core.specs.Groups.{AreHeadersFor, firsts, loads_over}
 use Rattle.cell_groups.specs.Lent.{lent}
-use Rattle.load_costs.specs.Costs.{builds}
 use Rattle.cache_manager.specs.Jobs.{IsJobOf}
 use Rattle.history_core.specs.Seats.{NoneFlies}
 use Rattle.cache_manager.specs.declared.starts.Planned.{Planned}
@@ -51,7 +50,7 @@ invariant_of-self-2 g c =
     (subst (λ (k : CacheOf). list_all (λ cell. not (has_source k.setting.catalog k.entries cell)) (lent c.args.wanted.now) ≡ true) (sym c.self.view_is) c.requires.unserved)
     (subst (λ (k : CacheOf). NoneFlies k.entries) (sym c.self.view_is) c.requires.idle)
     (subst (λ (k : CacheOf). ArePrepared (Widened ((answers-value g.dyn-1).it c.args.widener.now)) k c.args.who (lent c.args.wanted.now) (length k.entries + 1) (firsts [] (lent c.args.wanted.now)) c.in_ok-plans.plans.items) (sym c.self.view_is) c.in_ok-plans.ensures)
-    c.self.inside.facts c.self.inside.shelf.loads c.self.inside.history.spare _ (has_places c.self.inside.shelf) (has_places c.reserve_places.new.shelf) c.self.inside.flights.flights c.self.invariant
+    c.self.inside.facts c.self.inside.shelf.loads c.self.inside.history.spare _ (has_places c.self.inside.shelf) (has_places c.reserve_places.new.shelf) c.self.inside.flights.flights _ c.self.invariant
     (omega (arith, many, c.start_all.ensures.spare, c.in_ok-reserve-2.ensures.ok, c.in_ok-sum.ensures, c.in_ok-ends.ensures, c.len-2.ensures, c.len-3.ensures, c.len-5.ensures))
     (subst (λ (plans : List Planned). has_places c.reserve_places.new.shelf (headers_of c.self.inside.flights.flights ++ map (λ p. p.flight.header) plans)) c.as_slice.ensures.value
     (c.in_ok-reserve_places.ensures.ok (headers_of c.self.inside.flights.flights) c.self.invariant.places_fit)))
@@ -90,4 +89,4 @@ returns-clause-jobs g c =
     subst (λ (js : List JobOf). All (IsJobOf (record { setting = c.start_all.new.history.setting; entries = c.start_all.new.history.entries })) js) (sym jobs)
     (subst (λ (s : Setting). All (IsJobOf (record { setting = s; entries = c.start_all.new.history.entries })) (map (λ p. p.job) c.in_ok-plans.plans.items)) (sym settings)
     (subst (λ (es : List Entry). All (IsJobOf (record { setting = c.args.self.now.setting; entries = es })) (map (λ p. p.job) c.in_ok-plans.plans.items)) (sym entries)
-    (jobs_started (Widened ((answers-value g.dyn-1).it c.args.widener.now)) c.args.self.now c.args.who (lent c.args.wanted.now) c.in_ok-plans.plans.items legal c.requires.known c.requires.unserved c.requires.idle c.in_ok-plans.ensures (subst (λ (k : CacheOf). list_any builds k.entries ≡ false) c.self.view_is c.self.invariant.unbuilt))))
+    (jobs_started (Widened ((answers-value g.dyn-1).it c.args.widener.now)) c.args.self.now c.args.who (lent c.args.wanted.now) c.in_ok-plans.plans.items legal c.requires.known c.requires.unserved c.requires.idle c.in_ok-plans.ensures)))

@@ -1,6 +1,6 @@
 -- A table over a version is over the first batches of all.
 use Rattle.agg_tests.proofs.OfferFacts.{over_first}
-use Rattle.agg_tests.proofs.loads.built.Goals as goal
+use Rattle.agg_tests.proofs.runs.built.Goals as goal
 
 pub returns-in-Ok : goal.returns-in-Ok
 returns-in-Ok c =

@@ -3,7 +3,7 @@ use Rattle.std.proofs.Common.{◌≡◌, arith}
 use Rattle.std.specs.Arc.{arc_value}
 use Rattle.std.proofs.lemmas.Grind.{common_steps}
 use Rattle.agg_tests.proofs.OfferFacts.{all_offered}
-use Rattle.agg_tests.proofs.loads.job.Goals as goal
+use Rattle.agg_tests.proofs.runs.job.Goals as goal
 
 pub new-requires-clause-fit : goal.new-requires-clause-fit
 new-requires-clause-fit c =

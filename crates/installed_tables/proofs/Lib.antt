@@ -1,0 +1,3 @@
+mod PutFacts
+pub mod BuiltFacts
+pub mod OfferFacts
