@@ -1,13 +1,13 @@
 -- What the entries of base batches say.
-use Rattle.std.proofs.Common.{◌≡◌, refl, ap, ◌∙◌, ℕ, zero, suc, ◌+◌, ◌<◌, ◌≤◌, List, [], ◌∷◌, ◌++◌, length, true, false, cond, None, arith, filter, slice_get, is_some, nat_lt, nat_eq, option_and_then, add-zero}
+use Rattle.std.proofs.Common.{◌≡◌, refl, ap, ◌∙◌, ℕ, suc, ◌+◌, ◌<◌, ◌≤◌, List, [], ◌∷◌, ◌++◌, length, true, false, cond, arith, filter, is_some, nat_lt, nat_eq, add-zero}
 use Rattle.std.specs.Prelude.{IsTrue}
 use Rattle.std.specs.List.{list_all}
 use Rattle.std.proofs.lemmas.List.Sums.{sum_by_push, sum_by-cons}
 use Rattle.olap_meaning.specs.declared.cells.Who.{Who}
 use Rattle.olap_meaning.specs.declared.tables.Row.{Row}
-use Rattle.olap_meaning.specs.History.{Entry, Append, appended, started, version}
+use Rattle.olap_meaning.specs.History.{Entry, Append, appended, version}
 use Rattle.olap_meaning.specs.Legal.{is_call_below, is_call_of, is_next_call, rows_held, rows_added}
-use Rattle.history_core.specs.Seats.{NoneFlies, entries_of}
+use Rattle.history_core.specs.Seats.{entries_of}
 use Rattle.cache_opening.specs.Opening.{base_entries}
 
 -- one base batch more
@@ -19,7 +19,8 @@ base_more k (b ∷ bs) rows = ap (λ (es : List Entry). Append (record { seat = 
 pub held_more : (entries : List Entry) (rows : List Row) (cube : ℕ) → rows_held (entries ++ Append (record { seat = 0; call = cube + 1 }) cube 1 rows ∷ []) ≡ rows_held entries + length rows
 held_more entries rows cube = sum_by_push rows_added entries (Append (record { seat = 0; call = cube + 1 }) cube 1 rows)
 
-calls_below : (k call : ℕ) (batches : List (List Row)) → k + length batches < call → list_all (is_call_below call) (filter (is_call_of 0) (base_entries k batches)) ≡ true
+-- the calls of seat 0 are numbered up to the number of batches
+pub calls_below : (k call : ℕ) (batches : List (List Row)) → k + length batches < call → list_all (is_call_below call) (filter (is_call_of 0) (base_entries k batches)) ≡ true
 calls_below k call [] below = refl
 calls_below k call (b ∷ bs) below = let here : nat_lt (suc k) call ≡ true = grind arith in rw (here) (calls_below (suc k) call bs (omega arith))
 
@@ -27,13 +28,10 @@ calls_below k call (b ∷ bs) below = let here : nat_lt (suc k) call ≡ true = 
 pub base_next : (batches : List (List Row)) → IsTrue (is_next_call (base_entries 0 batches) (record { seat = 0; call = length batches + 1 }))
 base_next batches = calls_below 0 (length batches + 1) batches (omega arith)
 
-no_entry : (k : ℕ) (batches : List (List Row)) → entries_of (base_entries k batches) 1 ≡ []
+-- no entry is of seat 1
+pub no_entry : (k : ℕ) (batches : List (List Row)) → entries_of (base_entries k batches) 1 ≡ []
 no_entry k [] = refl
 no_entry k (b ∷ bs) = no_entry (suc k) bs
-
--- no entry is of seat 1
-pub base_unused : (batches : List (List Row)) → entries_of (base_entries 0 batches) 1 ≡ []
-base_unused batches = no_entry 0 batches
 
 others : (cube k : ℕ) (who : Who) (rows : List Row) → k < cube → ◌≡◌ {A = ℕ} (cond (is_some (appended cube (Append who k 1 rows))) 1 0) 0
 others cube k who rows below = let other : nat_eq k cube ≡ false = grind arith in rw (other, appended) refl
@@ -49,13 +47,3 @@ unappended k cube (b ∷ bs) after =
 -- the next cube has no version
 pub base_fresh : (batches : List (List Row)) → version (base_entries 0 batches) (length batches) ≡ 0
 base_fresh batches = unappended 0 (length batches) batches (omega arith)
-
-no_load : (k : ℕ) (batches : List (List Row)) (i : ℕ) → option_and_then started (slice_get (base_entries k batches) i) ≡ None
-no_load k [] i = refl
-no_load k (b ∷ bs) zero = refl
-no_load k (b ∷ bs) (suc i) = no_load (suc k) bs i
-
--- no load flies
-pub base_idle : (batches : List (List Row)) → NoneFlies (base_entries 0 batches)
-base_idle batches zero = refl
-base_idle batches (suc i) = rw (no_load 0 batches i) refl

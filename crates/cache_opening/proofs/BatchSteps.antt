@@ -111,15 +111,16 @@ module _ (files : Option Files) (before now : List Fetched) (setting : Setting) 
   }
 
   -- all cubes have their base batches
-  pub all_appended : length setting.catalog.cubes ≤ n → AreOpened files before now cache
+  pub all_appended : n ≡ length setting.catalog.cubes → AreOpened files before now cache
   unfolding batches_from
-  all_appended end =
-      let past : drop n setting.catalog.schema.cubes ≡ [] = drop_all n setting.catalog.schema.cubes (rw (← whole.cubes) end) in
+  all_appended all =
+      let past : drop n setting.catalog.schema.cubes ≡ [] = drop_all n setting.catalog.schema.cubes (let end : length setting.catalog.schema.cubes ≤ n = omega (arith, all, whole.cubes) in end) in
       let P : List SchemaCube → Type 0 = λ cs. Leads files now now (batches_from setting.catalog n (rows_held cache.entries) cs) (Ok []) in
       let Q : List (List Row) → Type 0 = λ bs. Leads files before now (batches_from setting.catalog 0 0 setting.catalog.schema.cubes) (Ok bs) in
       let R : Setting → Type 0 = λ s. Leads files before now (batches_from s.catalog 0 0 s.catalog.schema.cubes) (Ok are.batches) in
       record {
         batches = are.batches;
+        count = are.count ∙ all ∙ ap (λ (s : Setting). length s.catalog.cubes) (sym same);
         read = subst R (sym same) (subst Q (append-nil are.batches) (are.read now (Ok []) (subst P (sym past) (leads_here files now (made []) (Ok []) value))));
         entries = are.entries_are;
       }

@@ -6,7 +6,7 @@ use Rattle.outside.specs.Fetched.{Fetched}
 use Rattle.outside.specs.Told.{Files, file_named}
 use Rattle.outside.specs.declared.depot.DepotRefusal.TheVariants as depot
 use Rattle.cache_opening.specs.declared.fault.OpenFault.{OpenFault}
-use Rattle.cache_opening.specs.declared.fault.OpenFault.TheVariants.{NoFile, Schema, Table, Batch, TooManyRows, Unbuilt, Source, OutOfMemory}
+use Rattle.cache_opening.specs.declared.fault.OpenFault.TheVariants.{NoFile, Schema, Table, Batch, TooManyRows, Aggregate, Source, OutOfMemory}
 use Rattle.cache_opening.specs.Asking.{Asking, ask, refused, Comes, value, refuses, found, missing, failed, wanting, unnamed, stopped}
 use Rattle.outside.specs.Told.{IsOf}
 use Rattle.cache_opening.specs.Laws.{IsIn}
@@ -18,7 +18,7 @@ refused_in A all (Schema f) = refl
 refused_in A all (Table n f) = refl
 refused_in A all (Batch n f) = refl
 refused_in A all (TooManyRows n total limit) = refl
-refused_in A all (Unbuilt n) = refl
+refused_in A all (Aggregate n f) = refl
 refused_in A all Source = tt
 refused_in A all OutOfMemory = tt
 
@@ -31,7 +31,7 @@ module _ {A : Type 0} (all : Files) where
   found_in name bytes rest (Err (Table n f)) at h = rw at h
   found_in name bytes rest (Err (Batch n f)) at h = rw at h
   found_in name bytes rest (Err (TooManyRows n total limit)) at h = rw at h
-  found_in name bytes rest (Err (Unbuilt n)) at h = rw at h
+  found_in name bytes rest (Err (Aggregate n f)) at h = rw at h
   found_in name bytes rest (Err Source) at h = tt
   found_in name bytes rest (Err OutOfMemory) at h = tt
 

@@ -95,6 +95,29 @@ module _ {A B : Type 0} (first : Asking A) (next : A → Asking B) (files : Opti
   pub leads_then : (after : List Fetched) (x : A) (outcome : Result B OpenFault) → Leads files before after first (Ok x) → Comes (next x) [] outcome → Leads files before after (first >>= next) outcome
   leads_then after x outcome h k = leads_on after after x outcome h (leads_here files after (next x) outcome k)
 
+-- where a value came, there may be no memory in its stead
+abbrev pub FallsShort : {A : Type 0} → Asking A → List Fetched → Result A OpenFault → Type 0
+FallsShort asking answers (Ok x) = Comes asking answers (Err OutOfMemory)
+FallsShort asking answers (Err fault) = Unit {0}
+
+found_short : {A : Type 0} (name bytes : List ℕ) (rest : List ℕ → Asking A) (answers : List Fetched) (outcome : Result A OpenFault) → FallsShort (rest bytes) answers outcome → FallsShort (ask name rest) ((name, Ok bytes) ∷ answers) outcome
+found_short name bytes rest answers (Ok x) h = found h
+found_short name bytes rest answers (Err fault) h = tt
+
+falls_short : {A : Type 0} {asking : Asking A} {answers : List Fetched} {outcome : Result A OpenFault} → Comes asking answers outcome → FallsShort asking answers outcome
+falls_short value = stopped
+falls_short refuses = tt
+falls_short (found {name} {bytes} {rest} {answers} {outcome} h) = found_short name bytes rest answers outcome (falls_short h)
+falls_short missing = tt
+falls_short failed = tt
+falls_short wanting = tt
+falls_short unnamed = tt
+falls_short stopped = tt
+
+-- all was asked for, and there was no memory to go on
+pub leads_short : {A : Type 0} (files : Option Files) (before after : List Fetched) (asking : Asking A) (x : A) → Leads files before after asking (Ok x) → Leads files before after asking (Err OutOfMemory)
+leads_short files before after asking x h = record { answers = h.answers; added = h.added; comes = falls_short h.comes; theirs = h.theirs }
+
 -- what is so of the value and of the fault is so of the outcome
 pub either : {A : Type 0} (P : Result A OpenFault → Type 0) (outcome : Result A OpenFault) → IfOk outcome (λ x. P (Ok x)) → IfErr outcome (λ fault. P (Err fault)) → P outcome
 either P (Ok x) h k = h

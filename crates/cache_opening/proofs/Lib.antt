@@ -4,5 +4,8 @@ pub mod PartFacts
 pub mod TableSteps
 pub mod CatalogSteps
 pub mod BaseFacts
+pub mod EntryFacts
 pub mod BatchSteps
+pub mod CheckFacts
+pub mod CheckSteps
 pub mod OpenSteps

@@ -1,17 +1,20 @@
 -- What the steps of an opening know of one another.
-use Rattle.std.specs.Prelude.{ℕ, ◌+◌, ◌<◌, ◌≡◌, ◌⊎◌, List, [], ◌∷◌, ◌++◌, length, Option, Ok, IsTrue}
+use Rattle.std.specs.Prelude.{ℕ, ◌+◌, ◌<◌, ◌≡◌, ◌⊎◌, List, [], ◌∷◌, ◌++◌, length, filter_map, Option, Some, None, Ok, IsTrue}
 use Rattle.olap_meaning.specs.declared.tables.Catalog.{Catalog}
 use Rattle.olap_meaning.specs.declared.tables.Row.{Row}
 use Rattle.olap_meaning.specs.History.{Entry, Append, version}
 use Rattle.olap_meaning.specs.Legal.{is_next_call}
 use Rattle.olap_meaning.specs.Limits.{row_limit}
+use Rattle.agg_tables.specs.Tables.{TableOf}
+use Rattle.history_core.specs.History.{setting_of}
 use Rattle.history_core.specs.Cache.{CacheOf}
+use Rattle.cache_manager.specs.Tables.{IsOwnTable}
 use Rattle.outside.specs.Fetched.{Fetched}
 use Rattle.outside.specs.Told.{Files}
 use Rattle.cache_opening.specs.declared.fault.OpenFault.{OpenFault}
 use Rattle.cache_opening.specs.declared.fault.OpenFault.TheVariants.{OutOfMemory}
 use Rattle.cache_opening.specs.Asking.{Asking, Leads}
-use Rattle.cache_opening.specs.Opening.{base_entries, batches_from}
+use Rattle.cache_opening.specs.Opening.{Base, agg_entries, base_entries, base_from, batches_from, budget, opened_entries}
 
 -- this is answered, or want of memory
 abbrev pub IsOrMemory : OpenFault → OpenFault → Type 0
@@ -46,6 +49,48 @@ pub record IsNext (cache : CacheOf) (cube : ℕ) : Type 0 where
 pub record AreOpened (files : Option Files) (before after : List Fetched) (cache : CacheOf)
     : Type 0 where
   pub batches : List (List Row)
+  pub count : length batches ≡ length cache.setting.catalog.cubes
   pub read : Leads files before after
       (batches_from cache.setting.catalog 0 0 cache.setting.catalog.schema.cubes) (Ok batches)
   pub entries : cache.entries ≡ base_entries 0 batches
+
+-- the rows of an append
+abbrev pub rows_appended : Entry → Option (List Row)
+rows_appended (Append who cube version rows) = Some rows
+rows_appended _ = None
+
+-- the batches that were appended, in order
+abbrev pub batches_in : List Entry → List (List Row)
+batches_in entries = filter_map rows_appended entries
+
+-- the base of a cache in which only base batches were appended
+abbrev pub base_in : CacheOf → Base
+base_in cache = record { catalog = cache.setting.catalog; batches = batches_in cache.entries }
+
+-- each cube has its base batch, and behind these there are entries of aggregate tables alone
+pub record IsBased (cache : CacheOf) : Type 0 where
+  pub count : length (batches_in cache.entries) ≡ length cache.setting.catalog.cubes
+  pub tables : List ℕ
+  pub entries : cache.entries ≡ opened_entries (batches_in cache.entries) tables
+
+-- a table is that of this place of the schema over the base batch of its cube, and a cache's own
+pub record IsBaseTable (cache : CacheOf) (table : ℕ) (made : TableOf) : Type 0 where
+  pub own : IsOwnTable cache made
+  pub place : made.table ≡ table
+  pub version : made.version ≡ 1
+
+-- aggregate tables were asked for, and have their entries behind those that there were
+pub record AreInstalled (files : Option Files) (before after : List Fetched)
+    (asking : Asking (List ℕ)) (entries more : List Entry) : Type 0 where
+  pub tables : List ℕ
+  pub read : Leads files before after asking (Ok tables)
+  pub entry : more ≡ entries ++ agg_entries (length entries) tables
+
+-- a manager has the base of a schema's file, and nothing more: just this was asked for
+pub record HasJustBase (files : Option Files) (before after : List Fetched) (file : List ℕ)
+    (manager : CacheOf) : Type 0 where
+  pub base : Base
+  pub read : Leads files before after (base_from file) (Ok base)
+  pub count : length base.batches ≡ length base.catalog.cubes
+  pub setting : manager.setting ≡ setting_of base.catalog row_limit budget
+  pub entries : manager.entries ≡ base_entries 0 base.batches

@@ -1,12 +1,12 @@
 //! The catalog of a schema's file.
-ghost use Rattle.std.specs.Prelude.{◌≡◌, ◌<◌, [], Err, IfErr, IfOk, IsSomeAnd, Ok, OnOk, length, map, slice_get};
+ghost use Rattle.std.specs.Prelude.{◌≡◌, ◌<◌, [], Err, IfErr, IfOk, IsSomeAnd, Ok, length, map, slice_get};
 ghost use Rattle.olap_meaning.specs.Schema.{IsWithinLimits, levels_of};
 ghost use Rattle.olap_meaning.specs.Whole.{IsWhole};
 ghost use Rattle.cube_schema.specs.Schemas.{schema_of};
 ghost use Rattle.dim_tables.specs.TableFiles.{table_of};
 ghost use Rattle.olap_catalog.specs.Parts.{records_in};
-ghost use Rattle.cache_opening.specs.Asking.{Comes, Leads, made, read_by};
-ghost use Rattle.cache_opening.specs.Opening.{built, catalog_from, schema_from, table_from, tables_from};
+ghost use Rattle.cache_opening.specs.Asking.{Comes, Leads, read_by};
+ghost use Rattle.cache_opening.specs.Opening.{catalog_from, schema_from, table_from, tables_from};
 ghost use Rattle.cache_opening.specs.Steps.{HasCubes, IsOrMemory};
 
 use crate::fault::OpenFault;
@@ -43,18 +43,6 @@ fn open_schema<D: Depot>(alloc: Global, depot: &mut D, file: &str) -> Result<Sch
 {
     let bytes = fetch(alloc, depot, file)?;
     schema_in(alloc, bytes.as_slice())
-}
-
-// Refuses the schema of a file that has an aggregate table.
-fn check_built(alloc: Global, file: &str, schema: &Schema) -> Result<(), OpenFault>
-    ensures ok { OnOk result (built file.now schema.now ≡ made tt) }
-    ensures fault { IfErr result (λ fault. Comes (built file.now schema.now) [] (Err fault)) }
-{
-    if schema.aggregates.is_empty() {
-        return Ok(());
-    }
-    let file = Text::from_str(alloc, file)?;
-    Err(OpenFault::Unbuilt { file })
 }
 
 // The table that the bytes of a dimension's file are.
@@ -153,8 +141,7 @@ fn open_tables<D: Depot>(
     Ok(tables)
 }
 
-/// The catalog of a schema's file, with the tables that the schema names. No table is fetched for a schema with a fault,
-/// or with an aggregate table.
+/// The catalog of a schema's file, with the tables of its dimensions. No table is fetched for a schema with a fault.
 pub(crate) fn open_catalog<D: Depot>(
     alloc: Global,
     depot: &mut D,
@@ -166,7 +153,6 @@ pub(crate) fn open_catalog<D: Depot>(
     ensures same_files { D.files depot.new ≡ D.files depot.old }
 {
     let schema = open_schema(alloc, depot, file)?;
-    check_built(alloc, file, &schema)?;
     let tables = open_tables(alloc, depot, &schema)?;
     Ok(build_catalog(alloc, schema, tables)?)
 }

@@ -2,6 +2,7 @@
 ghost use Rattle.std.specs.Prelude.{◌≡◌};
 ghost use Rattle.cache_opening.specs.declared.fault.OpenFault.TheVariants.{OutOfMemory as NoMemory};
 
+use agg_tables::AggFault;
 use cube_schema::SchemaFault;
 use dim_tables::TableFault;
 use fact_rows::BatchFault;
@@ -26,9 +27,9 @@ pub enum OpenFault {
     /// With the base batch of this file, and those before it, there would be `total` rows.
     #[error("with the batch {file} there are {total} rows, more than {limit}")]
     TooManyRows { file: Text, total: u64, limit: u32 },
-    /// The schema of this file has no fault, but an aggregate table, which is not opened yet.
-    #[error("the aggregate tables of {file} are not opened yet")]
-    Unbuilt { file: Text },
+    /// The file of an aggregate table has this fault.
+    #[error("the aggregate table {file} has a fault: {fault}")]
+    Aggregate { file: Text, fault: AggFault },
     /// A file could not be read.
     #[error("a file could not be read")]
     Source,

@@ -66,15 +66,11 @@ fn answer_to<L: Ledger>(
     desk: &mut ManagerDesk,
     cells: &[Cell],
     widener: &Widener,
-    blank: Blank,
+    steps: &mut Steps<L>,
 ) -> Result<Answer, OutOfMemory>
     requires cells { IsTrue (list_all (is_cell desk.old.setting.catalog) cells.now) }
-    requires name { blank.name ≡ L.name }
-    requires parts { blank.parts ≡ L.parts }
-    requires one { blank.parts ≡ 1 }
 {
-    let mut steps: Steps<L> = Steps::new(blank);
-    desk.ask(alloc, cells, widener, &mut steps)
+    desk.ask(alloc, cells, widener, steps)
 }
 
 // What an answer tells of each of its cells.
@@ -90,7 +86,7 @@ fn told(alloc: Global, answer: &Answer) -> Result<String, Failure> {
     Ok(text)
 }
 
-// Opens the cache, and asks.
+// Opens the cache, and asks. The rows that either reads are counted.
 fn run<D: Depot, L: Ledger>(
     alloc: Global,
     depot: &mut D,
@@ -101,9 +97,10 @@ fn run<D: Depot, L: Ledger>(
     requires parts { blank.parts ≡ L.parts }
     requires one { blank.parts ≡ 1 }
 {
-    let mut desk = ManagerDesk::new(open_cache(alloc, depot, SCHEMA)?);
+    let mut steps: Steps<L> = Steps::new(blank);
+    let mut desk = ManagerDesk::new(open_cache(alloc, depot, SCHEMA, &mut steps)?);
     let cells = cells_of(alloc, &desk)?;
-    let answer = answer_to::<L>(alloc, &mut desk, cells.as_slice(), widener, blank)?;
+    let answer = answer_to(alloc, &mut desk, cells.as_slice(), widener, &mut steps)?;
     told(alloc, &answer)
 }
 

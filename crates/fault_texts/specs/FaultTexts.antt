@@ -2,6 +2,8 @@
 use Rattle.std.specs.Prelude.{ℕ, List, ◌++◌, codes}
 use Rattle.std.specs.Fmt.{decimal}
 use Rattle.olap_meaning.specs.Texts.{line, name_text}
+use Rattle.agg_tables.specs.declared.fault.AggFault.{AggFault}
+use Rattle.agg_tables.specs.declared.fault.AggFault.TheVariants as aggregate
 use Rattle.cube_schema.specs.Places.{place_text}
 use Rattle.cube_schema.specs.declared.fault.SchemaFault.{SchemaFault}
 use Rattle.cube_schema.specs.declared.fault.SchemaFault.TheVariants as schema
@@ -93,6 +95,38 @@ batch_line file fault = fact_line file (batch_text fault)
 -- the line of a batch's file with more rows than fit
 abbrev pub rows_line : List ℕ → ℕ → ℕ → List ℕ
 rows_line file total limit = fact_line file (too_many_rows_text total limit)
+
+-- a record's field in a level's column is no value of the level
+abbrev pub unknown_value_text : ℕ → List ℕ → List ℕ
+unknown_value_text row column =
+    codes "UNKNOWN VALUE " ++ decimal row ++ codes " " ++ name_text column
+
+-- a record's field in a column is this, where the fact rows give that
+abbrev pub differs_text : ℕ → List ℕ → List ℕ → List ℕ → List ℕ
+differs_text row column stored computed =
+    codes "DIFFERS " ++ decimal row ++ codes " " ++ name_text column
+    ++ codes " " ++ name_text stored ++ codes " " ++ name_text computed
+
+-- a number, written as a name is
+abbrev pub number_text : ℕ → List ℕ
+number_text number = name_text (decimal number)
+
+-- what is told of a fault of an aggregate table's file
+abbrev pub aggregate_text : AggFault → List ℕ
+aggregate_text (aggregate.NotCsv row) = not_csv_text row
+aggregate_text (aggregate.NoColumn name) = no_column_text name
+aggregate_text (aggregate.UnknownValue row column) = unknown_value_text row column
+aggregate_text (aggregate.GroupTwice row) = codes "GROUP TWICE " ++ decimal row
+aggregate_text (aggregate.Differs row column stored computed) =
+    differs_text row column stored computed
+aggregate_text (aggregate.GroupMissing stored computed) =
+    codes "GROUP MISSING " ++ number_text stored ++ codes " " ++ number_text computed
+aggregate_text aggregate.OutOfMemory = codes "MEMORY"
+
+-- the line of a fault of an aggregate table's file
+abbrev pub aggregate_line : List ℕ → AggFault → List ℕ
+aggregate_line file fault =
+    line (codes "AGGREGATE " ++ name_text file ++ codes " " ++ aggregate_text fault)
 
 -- what a reply tells of a batch whose file has a fault
 abbrev pub refused_batch_text : BatchFault → List ℕ

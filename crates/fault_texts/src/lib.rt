@@ -2,12 +2,14 @@
 //! batch that is refused.
 #![tactic(auto)]
 
+mod aggregates;
 mod facts;
 mod refusals;
 mod schemas;
 mod shared;
 mod tables;
 
+pub use aggregates::aggregate_line;
 pub use facts::{batch_line, fact_line, rows_line};
 pub use refusals::{refused_append_text, refused_batch_text};
 pub use schemas::schema_line;

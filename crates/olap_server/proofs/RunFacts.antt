@@ -66,7 +66,7 @@ opening_told file files before after (fault.Schema reason) leads = (fault.Schema
 opening_told file files before after (fault.Table name reason) leads = (fault.Table name reason, refl, leads)
 opening_told file files before after (fault.Batch name reason) leads = (fault.Batch name reason, refl, leads)
 opening_told file files before after (fault.TooManyRows name total limit) leads = (fault.TooManyRows name total limit, refl, leads)
-opening_told file files before after (fault.Unbuilt name) leads = (fault.Unbuilt name, refl, leads)
+opening_told file files before after (fault.Aggregate name reason) leads = (fault.Aggregate name reason, refl, leads)
 opening_told file files before after fault.Source leads = (fault.Source, refl, leads)
 opening_told file files before after fault.OutOfMemory leads = (fault.OutOfMemory, (λ e. absurd (cc e)), leads, refl)
 

@@ -6,7 +6,7 @@ use Rattle.history_core.specs.Cache.{CacheOf}
 use Rattle.cache_opening.specs.declared.fault.OpenFault.{OpenFault}
 use Rattle.cache_opening.specs.declared.fault.OpenFault.TheVariants as fault
 use Rattle.cache_opening.specs.Asking.{Leads}
-use Rattle.cache_opening.specs.Opening.{IsOpened, opening_from}
+use Rattle.cache_opening.specs.Opening.{AddsFewSteps, IsOpened, opening_from}
 use Rattle.line_session.specs.declared.end.SessionEnd.{SessionEnd}
 use Rattle.line_session.specs.declared.end.SessionEnd.TheVariants as end
 use Rattle.line_session.specs.Desks.{DeskOf, costs_started}
@@ -259,13 +259,23 @@ IsWithin opened history before after =
 abbrev pub with_answers : Around → List Fetched → Around
 with_answers around answers = record around { answers = answers }
 
--- a run of the words opened a cache from their schema's file, and then served a session over it
+-- no cache was opened: no step was added, or the words ask for a schema's file, of which the catalog and the base batches
+-- were read, and at most the rows over which its aggregate tables are checked
+abbrev pub AddsFew : Words → Option Files → List Fetched → List Fetched → ℕ → ℕ → Type 0
+AddsFew words files before after steps_before steps_after =
+    (steps_after ≡ steps_before)
+    ⊎ ((file : List ℕ) × IsAsked words (Some (Run file))
+    × AddsFewSteps files before after file steps_before steps_after)
+
+-- a run of the words opened a cache from their schema's file, by so many steps, and then served a session over it
 pub record RunsSession (tools : ToolsOf) (words : Words) (files : Option Files) (start finish : Around)
     (steps_before steps_after : ℕ) (history : HistoryOf) (status : Status) : Type 0 where
   pub file : List ℕ
   pub command : IsAsked words (Some (Run file))
   pub cache : CacheOf
   pub answers : List Fetched
-  pub opened : IsOpened files start.answers answers file cache
+  pub middle : ℕ
+  pub rise : steps_before ≤ middle
+  pub opened : IsOpened files start.answers answers file cache steps_before middle
   pub ends : EndsRun tools files cache history (with_answers start answers) finish status
-  pub steps : IsWithin cache history steps_before steps_after
+  pub steps : IsWithin cache history middle steps_after

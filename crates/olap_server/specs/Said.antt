@@ -2,7 +2,7 @@
 use Rattle.std.specs.Prelude.{◌≡◌, ◌⊎◌, ℕ, List, codes}
 use Rattle.cache_opening.specs.declared.fault.OpenFault.{OpenFault}
 use Rattle.cache_opening.specs.declared.fault.OpenFault.TheVariants as fault
-use Rattle.fault_texts.specs.FaultTexts.{batch_line, rows_line, schema_line, table_line}
+use Rattle.fault_texts.specs.FaultTexts.{aggregate_line, batch_line, rows_line, schema_line, table_line}
 use Rattle.olap_meaning.specs.Texts.{line, named_line}
 use Rattle.olap_server.specs.declared.status.Status.{Status}
 use Rattle.olap_server.specs.declared.status.Status.TheVariants.{Schema, Source, Memory, NoFile}
@@ -32,10 +32,6 @@ budget_line = line (codes "INPUT 1099511627776")
 abbrev pub no_file_line : List ℕ → List ℕ
 no_file_line name = named_line (codes "NO FILE") name
 
--- the schema of a file has aggregate tables, which are not opened yet
-abbrev pub unbuilt_line : List ℕ → List ℕ
-unbuilt_line file = named_line (codes "UNBUILT") file
-
 -- there was no memory for what was to be said
 abbrev pub no_memory : Said
 no_memory = record { status = Memory; text = memory_line }
@@ -48,7 +44,8 @@ told_opening (fault.Table file reason) = record { status = Schema; text = table_
 told_opening (fault.Batch file reason) = record { status = Schema; text = batch_line file reason }
 told_opening (fault.TooManyRows file total limit) =
     record { status = Schema; text = rows_line file total limit }
-told_opening (fault.Unbuilt file) = record { status = Schema; text = unbuilt_line file }
+told_opening (fault.Aggregate file reason) =
+    record { status = Schema; text = aggregate_line file reason }
 told_opening fault.Source = record { status = Source; text = source_line }
 told_opening fault.OutOfMemory = no_memory
 

@@ -12,7 +12,7 @@ use crate::status::Status;
 use cache_manager::Manager;
 use cache_opening::OpenFault;
 use fact_versions::Steps;
-use fault_texts::{batch_line, rows_line, schema_line, table_line};
+use fault_texts::{aggregate_line, batch_line, rows_line, schema_line, table_line};
 use history_core::History;
 use line_session::{BYTE_LIMIT, SessionEnd, Tools, serve};
 use manager_desk::ManagerDesk;
@@ -47,7 +47,9 @@ pub(crate) fn reply_to_opening(alloc: Global, fault: &OpenFault) -> Reply
         OpenFault::TooManyRows { file, total, limit } => {
             refused(rows_line(alloc, file.as_str(), *total, *limit))
         }
-        OpenFault::Unbuilt { file } => refused(named_line(alloc, "UNBUILT", file.as_str())),
+        OpenFault::Aggregate { file, fault } => {
+            refused(aggregate_line(alloc, file.as_str(), fault))
+        }
         OpenFault::Source => Reply::fixed(Status::Source, "SOURCE\n"),
         OpenFault::OutOfMemory => Reply::no_memory(),
     }
@@ -153,6 +155,7 @@ pub(crate) fn serve_opened<D: Depot, K: Link, L: Ledger>(
     ensures there { result.history ≢ None }
     ensures legal { IfSome result.history (λ history. Legal history.setting history.entries) }
     ensures cost { IfSome result.history (λ history. IsWithin opened history steps.old steps.new) }
+    ensures at_least { steps.old ≤ steps.new }
 {
     let mut desk = ManagerDesk::new(opened);
     let status = serve_desk(alloc, &mut desk, depot, link, tools, steps);

@@ -1,8 +1,8 @@
 //! The top call: from the words of a command line to the bytes that are written.
-ghost use Rattle.std.specs.Prelude.{◌≡◌, ◌≢◌, ◌⊎◌, IfOk, IfSome, List, None};
+ghost use Rattle.std.specs.Prelude.{◌≡◌, ◌≢◌, ◌⊎◌, ◌≤◌, ℕ, IfOk, IfSome, List, None};
 ghost use Rattle.outside.specs.Fetched.{Fetched};
 ghost use Rattle.history_core.specs.Cache.{CacheOf};
-ghost use Rattle.cache_opening.specs.Opening.{IsOpened};
+ghost use Rattle.cache_opening.specs.Opening.{AddsFewSteps, IsOpened};
 ghost use Rattle.csv_records.specs.Files.{file_records};
 ghost use Rattle.fault_texts.specs.FaultTexts.{fact_line};
 ghost use Rattle.olap_meaning.specs.Texts.{line, plain_text};
@@ -10,7 +10,7 @@ ghost use Rattle.olap_meaning.specs.FileQuery.{answer_of};
 ghost use Rattle.olap_meaning.specs.Legal.{Legal};
 ghost use Rattle.olap_server.specs.Faults.{refusal_text};
 ghost use Rattle.olap_server.specs.Said.{IsSaid, Said, memory_line, no_memory};
-ghost use Rattle.olap_server.specs.Run.{AnswerTells, CellTells, EndsRun, IsCutOff, IsLastLine, IsTold, IsWithin, OpeningTells, RunsSession, around_of, with_answers};
+ghost use Rattle.olap_server.specs.Run.{AddsFew, AnswerTells, CellTells, EndsRun, IsCutOff, IsLastLine, IsTold, IsWithin, OpeningTells, RunsSession, around_of, with_answers};
 ghost use Rattle.line_session.specs.Tools.{tools_of};
 
 use crate::cell::cell_of_csv;
@@ -70,8 +70,11 @@ pub fn run<D: Depot, K: Link, L: Ledger>(
         (around_of D.answers K.talk K.left depot.old link.old)
         (around_of D.answers K.talk K.left depot.new link.new) }
 
-    // Then no row was read.
-    ensures no_step { result.history ≡ None → steps.new ≡ steps.old }
+    // Then no row was read, but by the check of an aggregate table's file.
+    ensures few { result.history ≡ None
+        → AddsFew words.now (D.files depot.old) (D.answers depot.old) (D.answers depot.new)
+        steps.old steps.new }
+    ensures at_least { steps.old ≤ steps.new }
 {
     match read_words(alloc, words) {
         Ok(Some(Command::Run(file))) => run_session(alloc, file, depot, link, tools, steps),
@@ -115,22 +118,27 @@ fn run_session<D: Depot, K: Link, L: Ledger>(
 ) -> Ended
     ensures session { IfSome result.history (λ history. (opened : CacheOf)
         × (answers : List Fetched)
+        × (middle : ℕ) × (steps.old ≤ middle)
         × IsOpened (D.files depot.old) (D.answers depot.old) answers file.now opened
+        steps.old middle
         × EndsRun (tools_of (⟦<Formatter as GivesTexts>⟧.answers tools.now.formatter)
         (⟦<Widener as AllowsValues>⟧.answers tools.now.widener))
         (D.files depot.old) opened history
         (with_answers (around_of D.answers K.talk K.left depot.old link.old) answers)
         (around_of D.answers K.talk K.left depot.new link.new) result.status
-        × IsWithin opened history steps.old steps.new) }
+        × IsWithin opened history middle steps.new) }
     ensures legal { IfSome result.history (λ history. Legal history.setting history.entries) }
     ensures told { result.history ≡ None → (said : Said)
         × OpeningTells file.now (D.files depot.old) (D.answers depot.old) (D.answers depot.new)
         said.status said.text
         × IsLastLine said.status said.text (K.talk link.old) (K.talk link.new) result.status }
     ensures unread { result.history ≡ None → K.left link.new ≡ K.left link.old }
-    ensures no_step { result.history ≡ None → steps.new ≡ steps.old }
+    ensures few { result.history ≡ None
+        → AddsFewSteps (D.files depot.old) (D.answers depot.old) (D.answers depot.new) file.now
+        steps.old steps.new }
+    ensures at_least { steps.old ≤ steps.new }
 {
-    match open_cache(alloc, depot, file) {
+    match open_cache(alloc, depot, file, steps) {
         Ok(manager) => serve_opened(alloc, manager, depot, link, tools, steps),
         Err(fault) => {
             let reply = reply_to_opening(alloc, &fault);

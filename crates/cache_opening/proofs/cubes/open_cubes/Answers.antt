@@ -1,6 +1,6 @@
 -- That `open_cubes` ensures `setting`, `ok`, `fault` and `same_files`, may call `open_cube`, and keeps what holds at
 -- each turn.
-use Rattle.std.proofs.Common.{◌≤◌, ◌<◌, ◌∙◌, ap, arith, length, refl}
+use Rattle.std.proofs.Common.{◌≡◌, ◌<◌, ◌∙◌, ap, arith, length, refl}
 use Rattle.std.proofs.lemmas.Result.{err_from_is_err_and}
 use Rattle.cache_opening.proofs.BatchSteps.{all_appended, batch_fails, more_appended, next_cube, none_appended}
 use Rattle.cache_opening.proofs.cubes.open_cubes.Goals as goal
@@ -45,8 +45,8 @@ returns-clause-setting g c = c.loop-cube.invariant.setting
 pub returns-clause-ok : goal.returns-clause-ok
 returns-clause-ok g c =
     let same = c.deref.ensures ∙ c.catalog.ensures in
-    let end : length c.args.manager.now.setting.catalog.cubes ≤ c.loop-cube.cube = omega (arith, c.loop-cube-test.false, c.cube_count-count.ensures.count, ap (λ k. length k.cubes) same) in
-    all_appended (g.D.Depot.files c.args.depot.now) (g.D.Depot.answers c.args.depot.now) (g.D.Depot.answers c.loop-cube.depot) c.args.manager.now.setting c.loop-cube.manager c.loop-cube.cube c.loop-cube.invariant.setting c.requires.whole c.loop-cube.invariant.are end
+    let all : c.loop-cube.cube ≡ length c.args.manager.now.setting.catalog.cubes = omega (arith, c.loop-cube-test.false, c.loop-cube.auto.cube-end, c.cube_count-count.ensures.count, ap (λ k. length k.cubes) same) in
+    all_appended (g.D.Depot.files c.args.depot.now) (g.D.Depot.answers c.args.depot.now) (g.D.Depot.answers c.loop-cube.depot) c.args.manager.now.setting c.loop-cube.manager c.loop-cube.cube c.loop-cube.invariant.setting c.requires.whole c.loop-cube.invariant.are all
 
 pub returns-clause-same_files : goal.returns-clause-same_files
 returns-clause-same_files g c = c.loop-cube.invariant.same

@@ -1,35 +1,54 @@
 -- The manager is what a schema's file opens, and a fault is that of the step that failed.
+use Rattle.std.proofs.Common.{inl, inr, refl}
 use Rattle.std.proofs.lemmas.Result.{err_from_is_err_and}
-use Rattle.cache_opening.proofs.BaseFacts.{base_idle, base_unused}
-use Rattle.cache_opening.proofs.OpenSteps.{batches_unread, begun, catalog_unread, is_opened, manager_stops}
+use Rattle.cache_opening.proofs.EntryFacts.{opened_idle, opened_unused}
+use Rattle.cache_opening.proofs.OpenSteps.{base_first, base_unread, checks_unread, few_steps, is_based, is_opened}
 use Rattle.cache_opening.proofs.opened.open_cache.Goals as goal
 
-pub open_cubes-requires : goal.open_cubes-requires
-open_cubes-requires g c = begun c.in_ok-catalog.catalog c.in_ok-manager.manager c.in_ok-catalog.ensures.whole c.in_ok-manager.ensures
-
-pub returns-in_err-catalog-clause-fault : goal.returns-in_err-catalog-clause-fault
-returns-in_err-catalog-clause-fault g c =
-    let p = err_from_is_err_and c.from_residual.result c.from_residual.ensures.1 in rw (p.1, p.2)
-    (catalog_unread c.args.file.now (g.D.Depot.files c.args.depot.now) (g.D.Depot.answers c.args.depot.now) (g.D.Depot.answers c.open_catalog.new.depot) c.in_err-catalog.field-0.0 c.in_err-catalog.ensures.read)
+pub install_tables-requires : goal.install_tables-requires
+install_tables-requires g c =
+    let just = c.in_ok-manager.ensures.base in
+    record {
+      based = is_based c.args.file.now (g.D.Depot.files c.args.depot.now) (g.D.Depot.answers c.args.depot.now) (g.D.Depot.answers c.open_base.new.depot) (g.D.Depot.answers c.open_base.new.depot) c.in_ok-manager.manager just;
+      first = base_first c.args.file.now (g.D.Depot.files c.args.depot.now) (g.D.Depot.answers c.args.depot.now) (g.D.Depot.answers c.open_base.new.depot) (g.D.Depot.answers c.open_base.new.depot) c.in_ok-manager.manager just;
+    }
 
 pub returns-in_err-manager-clause-fault : goal.returns-in_err-manager-clause-fault
 returns-in_err-manager-clause-fault g c =
-    let p = err_from_is_err_and c.from_residual-in_err-manager.result c.from_residual-in_err-manager.ensures.1 in rw (p.1, p.2)
-    (manager_stops c.args.file.now (g.D.Depot.files c.args.depot.now) (g.D.Depot.answers c.args.depot.now) (g.D.Depot.answers c.open_catalog.new.depot) c.in_ok-catalog.catalog c.in_ok-catalog.ensures.read)
+    let p = err_from_is_err_and c.from_residual.result c.from_residual.ensures.1 in rw (p.1, p.2)
+    (base_unread c.args.file.now (g.D.Depot.files c.args.depot.now) (g.D.Depot.answers c.args.depot.now) (g.D.Depot.answers c.open_base.new.depot) c.in_err-manager.field-0.0 c.in_err-manager.ensures.fault)
 
-pub returns-in_err-open_cubes-clause-fault : goal.returns-in_err-open_cubes-clause-fault
-returns-in_err-open_cubes-clause-fault g c =
-    let p = err_from_is_err_and c.from_residual-in_err-open_cubes.result c.from_residual-in_err-open_cubes.ensures.1 in rw (p.1, p.2)
-    (batches_unread c.args.file.now (g.D.Depot.files c.args.depot.now) (g.D.Depot.answers c.args.depot.now) (g.D.Depot.answers c.open_catalog.new.depot) (g.D.Depot.answers c.open_cubes.new.depot) c.in_ok-catalog.catalog c.in_ok-catalog.ensures.read c.in_ok-manager.manager c.in_ok-manager.ensures
-    c.in_err-open_cubes.field-0.0 (rw c.open_catalog.ensures.same_files at c.in_err-open_cubes.ensures.fault))
+pub returns-in_err-manager-clause-few : goal.returns-in_err-manager-clause-few
+returns-in_err-manager-clause-few g c =
+    let p = err_from_is_err_and c.from_residual.result c.from_residual.ensures.1 in rw (p.1) (inl refl)
+
+pub returns-in_err-install_tables-clause-fault : goal.returns-in_err-install_tables-clause-fault
+returns-in_err-install_tables-clause-fault g c =
+    let p = err_from_is_err_and c.from_residual-in_err-install_tables.result c.from_residual-in_err-install_tables.ensures.1 in rw (p.1, p.2)
+    (checks_unread c.args.file.now (g.D.Depot.files c.args.depot.now) (g.D.Depot.answers c.args.depot.now) (g.D.Depot.answers c.open_base.new.depot) (g.D.Depot.answers c.install_tables.new.depot) c.in_ok-manager.manager c.in_ok-manager.ensures.base c.args.steps.now c.install_tables.new.steps c.install_tables.ensures.at_most
+    c.in_err-install_tables.field-0.0 (rw c.open_base.ensures.same_files at c.in_err-install_tables.ensures.fault))
+
+pub returns-in_err-install_tables-clause-few : goal.returns-in_err-install_tables-clause-few
+returns-in_err-install_tables-clause-few g c =
+    let p = err_from_is_err_and c.from_residual-in_err-install_tables.result c.from_residual-in_err-install_tables.ensures.1 in rw (p.1)
+    (inr (few_steps c.args.file.now (g.D.Depot.files c.args.depot.now) (g.D.Depot.answers c.args.depot.now) (g.D.Depot.answers c.open_base.new.depot) (g.D.Depot.answers c.install_tables.new.depot) c.in_ok-manager.manager c.in_ok-manager.ensures.base c.args.steps.now c.install_tables.new.steps c.install_tables.ensures.at_most
+    c.in_err-install_tables.field-0.0 (rw c.open_base.ensures.same_files at c.in_err-install_tables.ensures.fault)))
 
 pub returns-clause-opened : goal.returns-clause-opened
 returns-clause-opened g c =
-    is_opened c.args.file.now (g.D.Depot.files c.args.depot.now) (g.D.Depot.answers c.args.depot.now) (g.D.Depot.answers c.open_catalog.new.depot) (g.D.Depot.answers c.open_cubes.new.depot) c.in_ok-catalog.catalog c.in_ok-catalog.ensures.read c.in_ok-manager.manager c.in_ok-manager.ensures
-    c.open_cubes.new.manager c.open_cubes.ensures.setting (rw c.open_catalog.ensures.same_files at c.in_ok-open_cubes.ensures.ok)
+    is_opened c.args.file.now (g.D.Depot.files c.args.depot.now) (g.D.Depot.answers c.args.depot.now) (g.D.Depot.answers c.open_base.new.depot) (g.D.Depot.answers c.install_tables.new.depot) c.in_ok-manager.manager c.in_ok-manager.ensures.base c.args.steps.now c.install_tables.new.steps c.install_tables.ensures.at_most
+    c.install_tables.new.manager c.install_tables.ensures.setting (rw c.open_base.ensures.same_files at c.in_ok-install_tables.ensures.ok)
 
 pub returns-clause-idle : goal.returns-clause-idle
-returns-clause-idle g c = let are = c.in_ok-open_cubes.ensures.ok in rw are.entries (base_idle are.batches)
+returns-clause-idle g c =
+    let opened =
+    is_opened c.args.file.now (g.D.Depot.files c.args.depot.now) (g.D.Depot.answers c.args.depot.now) (g.D.Depot.answers c.open_base.new.depot) (g.D.Depot.answers c.install_tables.new.depot) c.in_ok-manager.manager c.in_ok-manager.ensures.base c.args.steps.now c.install_tables.new.steps c.install_tables.ensures.at_most
+    c.install_tables.new.manager c.install_tables.ensures.setting (rw c.open_base.ensures.same_files at c.in_ok-install_tables.ensures.ok) in
+    rw opened.entries (opened_idle opened.opening.batches opened.opening.tables)
 
 pub returns-clause-unused : goal.returns-clause-unused
-returns-clause-unused g c = let are = c.in_ok-open_cubes.ensures.ok in rw are.entries (base_unused are.batches)
+returns-clause-unused g c =
+    let opened =
+    is_opened c.args.file.now (g.D.Depot.files c.args.depot.now) (g.D.Depot.answers c.args.depot.now) (g.D.Depot.answers c.open_base.new.depot) (g.D.Depot.answers c.install_tables.new.depot) c.in_ok-manager.manager c.in_ok-manager.ensures.base c.args.steps.now c.install_tables.new.steps c.install_tables.ensures.at_most
+    c.install_tables.new.manager c.install_tables.ensures.setting (rw c.open_base.ensures.same_files at c.in_ok-install_tables.ensures.ok) in
+    rw opened.entries (opened_unused opened.opening.batches opened.opening.tables)

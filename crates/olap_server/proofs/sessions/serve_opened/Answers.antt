@@ -1,6 +1,5 @@
 -- A session that was served over the desk of a cache.
-use Rattle.std.proofs.Common.{◌≤◌, ◌+◌, List, ap, ◌∙◌, subst}
-use Rattle.olap_meaning.specs.History.{Entry}
+use Rattle.std.proofs.Common.{◌≤◌, ◌+◌, ap, ◌∙◌, subst}
 use Rattle.line_session.specs.Desks.{costs_started}
 use Rattle.shown_values.specs.contracts.formatter.FormatterGivesTexts.TheImpl as formats
 use Rattle.segment_header.specs.contracts.widener.WidenerAllowsValues.TheImpl as widens

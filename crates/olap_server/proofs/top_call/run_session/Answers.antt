@@ -23,6 +23,8 @@ returns-in-Ok-clause-session g c =
     (λ history ends within. (
       c.in-Ok.manager,
       answers,
+      c.open_cache.new.steps,
+      c.open_cache.ensures.at_least,
       c.in-Ok.ensures.opened,
       subst (λ (files : Option Files). EndsRun tools files c.in-Ok.manager history (with_answers start answers) finish c.serve_opened.result.status) c.in-Ok.ensures.same_files ends,
       within,
