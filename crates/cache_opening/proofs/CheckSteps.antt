@@ -1,5 +1,5 @@
 -- The files of a schema's aggregate tables, one after another.
-use Rattle.std.proofs.Common.{◌≡◌, refl, sym, ap, ◌∙◌, subst, ℕ, suc, ◌+◌, ◌≤◌, List, [], ◌∷◌, ◌++◌, length, drop, map, Option, Some, None, Result, Ok, Err, arith, append-nil, append_assoc, slice_get, cond, is_some}
+use Rattle.std.proofs.Common.{◌≡◌, refl, sym, ap, ◌∙◌, subst, ℕ, suc, ◌+◌, ◌≤◌, List, [], ◌∷◌, ◌++◌, length, drop, map, Option, Some, None, Result, Ok, Err, arith, append-nil, append_assoc, slice_get}
 use Rattle.std.specs.Option.{IsSomeAnd}
 use Rattle.std.proofs.lemmas.List.{drop_all, length-map}
 use Rattle.olap_meaning.specs.declared.schema.TheConstants.{CUBE_LIMIT}
@@ -16,8 +16,9 @@ use Rattle.outside.specs.Told.{Files}
 use Rattle.cache_opening.specs.declared.fault.OpenFault.{OpenFault}
 use Rattle.cache_opening.specs.declared.fault.OpenFault.TheVariants.{OutOfMemory}
 use Rattle.cache_opening.specs.Asking.{Asking, made, ◌>>=◌, value, Leads}
-use Rattle.cache_opening.specs.Opening.{Base, agg_entries, base_entries, check_from, checked_from, checks_from, opened_entries, rows_checked, rows_for, rows_from}
-use Rattle.cache_opening.specs.Steps.{AreInstalled, IsBased, batches_in}
+use Rattle.cache_opening.specs.Opening.{Base, agg_entries, base_entries, check_from, checked_from, checks_from, files_came, opened_entries, rows_come, rows_for}
+use Rattle.cache_opening.specs.Steps.{AreInstalled, FilesCame, IsBased, ReadsCame, ReadsFew, batches_in, files_for}
+use Rattle.cache_opening.proofs.CameFacts.{came_more, reads_most, rows_fail, rows_on}
 use Rattle.cache_opening.proofs.EntryFacts.{base_length, opened_batches, opened_length, opened_more}
 use Rattle.cache_opening.proofs.LeadFacts.{leads_first, leads_here, leads_on, leads_short, leads_then}
 use Rattle.cache_opening.proofs.TableSteps.{behind, behind_none}
@@ -65,51 +66,59 @@ module _ (files : Option Files) (before : List Fetched) (base : Base) (table : �
     pub one_stops : (o : Option SchemaAggregate) → IsSomeAnd o (λ own. Some file ≡ own.file) → Leads files before after (check_from base table file) (Ok (table ∷ [])) → IsSomeAnd o (λ own. Leads files before after (checked_from base table own.file) (Err OutOfMemory))
     one_stops o is h = one_fails o OutOfMemory is (leads_short files before after (check_from base table file) (table ∷ []) h)
 
--- how many steps one adds
-pub some_rows : (o : Option SchemaAggregate) (file : List ℕ) (start steps rows : ℕ) → IsSomeAnd o (λ own. Some file ≡ own.file) → steps ≤ start + rows → IsSomeAnd o (λ own. steps ≤ start + cond (is_some own.file) rows 0)
-some_rows None file start steps rows is few = absurd is
-some_rows (Some own) file start steps rows is few = let P : Option (List ℕ) → Type 0 = λ f. steps ≤ start + cond (is_some f) rows 0 in subst P is few
-
-pub no_rows : (o : Option SchemaAggregate) (start rows : ℕ) → IsSomeAnd o (λ own. ◌≡◌ {A = Option (List ℕ)} None own.file) → IsSomeAnd o (λ own. start ≤ start + cond (is_some own.file) rows 0)
-no_rows None start rows is = absurd is
-no_rows (Some own) start rows is = let P : Option (List ℕ) → Type 0 = λ f. start ≤ start + cond (is_some f) rows 0 in subst P is (omega arith)
-
 -- the first aggregate tables are checked, and whatever those of the other places lead to, those of all lead to it, behind
--- the first ones; and the rows of the others may still be read
+-- the first ones; and for each file of the others that comes its rows may still be read
 pub record AreChecked (files : Option Files) (before now : List Fetched) (base : Base) (n : ℕ) (entries : List Entry) (start steps : ℕ) : Type 0 where
   pub tables : List ℕ
   pub entries_are : entries ≡ opened_entries base.batches tables
   pub read : (after : List Fetched) (outcome : Result (List ℕ) OpenFault) → Leads files now after (checks_from base n (drop n base.catalog.schema.aggregates)) outcome
       → Leads files before after (checks_from base 0 base.catalog.schema.aggregates) (behind tables outcome)
-  pub few : steps + rows_from base.catalog base.batches n (drop n base.catalog.schema.aggregates) ≤ start + rows_checked base.catalog base.batches
+  pub more : List Fetched
+  pub behind : now ≡ before ++ more
+  pub few : (came : ℕ) → steps + rows_come base.catalog base.batches n (drop n base.catalog.schema.aggregates) came ≤ start + rows_come base.catalog base.batches 0 base.catalog.schema.aggregates (files_came more + came)
 
 pub none_checked : (files : Option Files) (before : List Fetched) (base : Base) (entries : List Entry) (start : ℕ) → entries ≡ base_entries 0 base.batches → AreChecked files before before base 0 entries start start
 none_checked files before base entries start first = record {
   tables = [];
   entries_are = first ∙ sym (append-nil (base_entries 0 base.batches));
   read = λ after outcome h. rw (behind_none outcome) h;
-  few = omega arith;
+  more = [];
+  behind = sym (append-nil before);
+  few = λ came.
+      let P : ℕ → Type 0 = λ n. start + rows_come base.catalog base.batches 0 base.catalog.schema.aggregates came ≤ start + rows_come base.catalog base.batches 0 base.catalog.schema.aggregates n in
+      subst P (let none : came ≡ 0 + came = omega arith in none) (omega arith);
 }
 
 module _ (files : Option Files) (before now after : List Fetched) (base : Base) (n : ℕ) (entries : List Entry) (start steps : ℕ) (are : AreChecked files before now base n entries start steps) where
   abbrev others : List SchemaAggregate
   others = drop (n + 1) base.catalog.schema.aggregates
 
-  rows_left : (own : SchemaAggregate) → slice_get base.catalog.schema.aggregates n ≡ Some own
-      → rows_from base.catalog base.batches n (drop n base.catalog.schema.aggregates) ≡ rows_for base.catalog base.batches n own + rows_from base.catalog base.batches (n + 1) others
-  rows_left own at =
-      let next : suc n ≡ n + 1 = omega arith in
-      ap (rows_from base.catalog base.batches n) (drop_at base.catalog.schema.aggregates n own at) ∙ ap (λ (m : ℕ). rows_for base.catalog base.batches n own + rows_from base.catalog base.batches m others) next
+  -- how many rows all have, where so many files come
+  abbrev all_rows : ℕ → ℕ
+  all_rows came = rows_come base.catalog base.batches 0 base.catalog.schema.aggregates came
+
+  -- how many rows the next and the others have, where so many files come
+  abbrev rows_left : List SchemaAggregate → ℕ → ℕ
+  rows_left owns came = rows_come base.catalog base.batches n owns came
+
+  few_left : (own : SchemaAggregate) → slice_get base.catalog.schema.aggregates n ≡ Some own → (came : ℕ) → steps + rows_left (own ∷ others) came ≤ start + all_rows (files_came are.more + came)
+  few_left own at came =
+      let P : List SchemaAggregate → Type 0 = λ owns. steps + rows_left owns came ≤ start + all_rows (files_came are.more + came) in
+      subst P (drop_at base.catalog.schema.aggregates n own at) (are.few came)
+
+  behind_both : (more : List Fetched) → after ≡ now ++ more → after ≡ before ++ (are.more ++ more)
+  behind_both more added = added ∙ ap (λ (seen : List Fetched). seen ++ more) are.behind ∙ append_assoc before are.more more
 
   pub more_checked : (more : List Entry) (later : ℕ) → IsSomeAnd (slice_get base.catalog.schema.aggregates n) (λ own. AreInstalled files now after (checked_from base n own.file) entries more)
-      → IsSomeAnd (slice_get base.catalog.schema.aggregates n) (λ own. later ≤ steps + rows_for base.catalog base.batches n own) → AreChecked files before after base (n + 1) more start later
+      → IsSomeAnd (slice_get base.catalog.schema.aggregates n) (λ own. FilesCame now after (files_for own))
+      → IsSomeAnd (slice_get base.catalog.schema.aggregates n) (λ own. ReadsFew now after (rows_for base.catalog base.batches n own) steps later) → AreChecked files before after base (n + 1) more start later
   unfolding checks_from
-  more_checked more later one few = by (slice_get base.catalog.schema.aggregates n) refl one few
+  more_checked more later one came few = by (slice_get base.catalog.schema.aggregates n) refl one came few
     where
       by : (o : Option SchemaAggregate) → slice_get base.catalog.schema.aggregates n ≡ o → IsSomeAnd o (λ own. AreInstalled files now after (checked_from base n own.file) entries more)
-          → IsSomeAnd o (λ own. later ≤ steps + rows_for base.catalog base.batches n own) → AreChecked files before after base (n + 1) more start later
-      by None at k l = absurd k
-      by (Some own) at k l = record {
+          → IsSomeAnd o (λ own. FilesCame now after (files_for own)) → IsSomeAnd o (λ own. ReadsFew now after (rows_for base.catalog base.batches n own) steps later) → AreChecked files before after base (n + 1) more start later
+      by None at k f l = absurd k
+      by (Some own) at k f l = record {
         tables = are.tables ++ k.tables;
         entries_are = k.entry ∙ ap (λ (es : List Entry). es ++ agg_entries (length es) k.tables) are.entries_are ∙ opened_more base.batches are.tables k.tables;
         read = λ last outcome rest.
@@ -119,7 +128,17 @@ module _ (files : Option Files) (before now after : List Fetched) (base : Base) 
             let behind_it : R (suc n) = subst R (let next : n + 1 ≡ suc n = omega arith in next) rest in
             let both : Leads files now last (checks_from base n (own ∷ others)) (behind k.tables outcome) = leads_some (checked_from base n own.file) (checks_from base (suc n) others) files now after last k.tables outcome k.read behind_it in
             subst Q (behind_some are.tables k.tables outcome) (are.read last (behind k.tables outcome) (subst P (sym (drop_at base.catalog.schema.aggregates n own at)) both));
-        few = let left = rows_left own at in omega (arith, l, left, are.few);
+        more = are.more ++ f.more;
+        behind = behind_both f.more f.behind;
+        few = λ came.
+            let most = reads_most now after (rows_for base.catalog base.batches n own) steps later l in
+            let on = rows_on base.catalog base.batches n own others came in
+            let left = few_left own at (files_for own + came) in
+            let next : suc n ≡ n + 1 = omega arith in
+            let here = ap (λ (m : ℕ). rows_come base.catalog base.batches m others came) next in
+            let count : files_came are.more + (files_for own + came) ≡ files_came (are.more ++ f.more) + came = let both = came_more are.more f.more in let own_came = f.count in omega (arith, both, own_came) in
+            let all = ap all_rows count in
+            omega (arith, most, on, left, here, all);
       }
 
   -- the next aggregate table has failed
@@ -134,13 +153,22 @@ module _ (files : Option Files) (before now after : List Fetched) (base : Base) 
           let one : Leads files now after (checks_from base n (own ∷ others)) (Err fault) = leads_first (checked_from base n own.file) (λ xs. checks_from base (suc n) others >>= λ ys. made (xs ++ ys)) files now after fault k in
           are.read after (Err fault) (subst P (sym (drop_at base.catalog.schema.aggregates n own at)) one)
 
-  -- until then at most the rows of all were read
-  pub few_then : (later : ℕ) → IsSomeAnd (slice_get base.catalog.schema.aggregates n) (λ own. later ≤ steps + rows_for base.catalog base.batches n own) → later ≤ start + rows_checked base.catalog base.batches
+  -- until then at most the rows were read for which files came
+  pub few_then : (later : ℕ) → IsSomeAnd (slice_get base.catalog.schema.aggregates n) (λ own. ReadsFew now after (rows_for base.catalog base.batches n own) steps later) → ReadsCame before after base start later
   few_then later few = by (slice_get base.catalog.schema.aggregates n) refl few
     where
-      by : (o : Option SchemaAggregate) → slice_get base.catalog.schema.aggregates n ≡ o → IsSomeAnd o (λ own. later ≤ steps + rows_for base.catalog base.batches n own) → later ≤ start + rows_checked base.catalog base.batches
+      by : (o : Option SchemaAggregate) → slice_get base.catalog.schema.aggregates n ≡ o → IsSomeAnd o (λ own. ReadsFew now after (rows_for base.catalog base.batches n own) steps later) → ReadsCame before after base start later
       by None at k = absurd k
-      by (Some own) at k = let left = rows_left own at in omega (arith, k, left, are.few)
+      by (Some own) at k = record {
+        more = are.more ++ k.more;
+        behind = behind_both k.more k.behind;
+        steps =
+            let fails = rows_fail base.catalog base.batches n own others (files_came k.more) in
+            let left = few_left own at (files_came k.more) in
+            let all = ap all_rows (sym (came_more are.more k.more)) in
+            let few = k.steps in
+            omega (arith, few, fails, left, all);
+      }
 
 -- before the first one there are few entries
 pub few_first : (cache : CacheOf) (catalog : Catalog) → catalog ≡ cache.setting.catalog → IsBased cache → cache.entries ≡ base_entries 0 (batches_in cache.entries) → IsWhole catalog.schema → catalog.cubes ≡ map (cube_over catalog.schema.dimensions) catalog.schema.cubes
@@ -182,5 +210,14 @@ module _ (files : Option Files) (before now : List Fetched) (base : Base) (n : �
         entry = are.entries_are ∙ ap (λ (es : List Entry). es ++ agg_entries (length base.batches) are.tables) (sym is) ∙ ap (λ (m : ℕ). first ++ agg_entries m are.tables) (sym many);
       }
 
-  pub few_in_all : steps ≤ start + rows_checked base.catalog base.batches
-  few_in_all = omega (arith, are.few)
+  -- until now at most the rows were read for which files came
+  pub few_now : ReadsCame before now base start steps
+  few_now = record {
+    more = are.more;
+    behind = are.behind;
+    steps =
+        let few = are.few 0 in
+        let none : files_came are.more + 0 ≡ files_came are.more = omega arith in
+        let all = ap (rows_come base.catalog base.batches 0 base.catalog.schema.aggregates) none in
+        omega (arith, few, all);
+  }

@@ -6,6 +6,7 @@ pub mod CatalogSteps
 pub mod BaseFacts
 pub mod EntryFacts
 pub mod BatchSteps
+pub mod CameFacts
 pub mod CheckFacts
 pub mod CheckSteps
 pub mod OpenSteps

@@ -1,6 +1,6 @@
 -- The whole opening: first its base is asked for, the catalog and then the base batches; and then the files of the
 -- aggregate tables.
-use Rattle.std.proofs.Common.{◌≡◌, refl, sym, ap, subst, ◌∙◌, ◌+◌, ◌≤◌, ◌++◌, ℕ, List, [], Option, Ok, Err, append-nil, arith, length}
+use Rattle.std.proofs.Common.{◌≡◌, refl, sym, ap, subst, ◌∙◌, ◌++◌, ℕ, List, [], Option, Ok, Err, append-nil, arith, length}
 use Rattle.olap_meaning.specs.declared.tables.Catalog.{Catalog}
 use Rattle.olap_meaning.specs.declared.tables.Row.{Row}
 use Rattle.olap_meaning.specs.declared.tables.Setting.{Setting}
@@ -13,8 +13,9 @@ use Rattle.outside.specs.Told.{Files}
 use Rattle.cache_opening.specs.declared.fault.OpenFault.{OpenFault}
 use Rattle.cache_opening.specs.declared.fault.OpenFault.TheVariants.{OutOfMemory}
 use Rattle.cache_opening.specs.Asking.{Asking, made, ◌>>=◌, value, stopped, Leads}
-use Rattle.cache_opening.specs.Opening.{Base, HasBase, IsOpened, Opening, agg_entries, base_entries, base_from, batches_from, budget, catalog_from, checks_from, opened_entries, opening_from, rows_checked}
-use Rattle.cache_opening.specs.Steps.{AreInstalled, AreOpened, HasCubes, HasJustBase, IsBased, IsBegun, base_in, batches_in}
+use Rattle.cache_opening.specs.Opening.{Base, HasBase, IsOpened, Opening, agg_entries, base_entries, base_from, batches_from, budget, catalog_from, checks_from, files_came, opened_entries, opening_from}
+use Rattle.cache_opening.specs.Steps.{AreInstalled, AreOpened, HasCubes, HasJustBase, IsBased, IsBegun, ReadsCame, base_in, batches_in}
+use Rattle.cache_opening.proofs.CameFacts.{rows_most}
 use Rattle.cache_opening.proofs.EntryFacts.{opened_batches, opened_length}
 use Rattle.cache_opening.proofs.LeadFacts.{leads_first, leads_on, leads_then}
 
@@ -90,9 +91,9 @@ module _ (file : List ℕ) (files : Option Files) (before : List Fetched) where
     pub base_first : cache.entries ≡ base_entries 0 (batches_in cache.entries)
     base_first = just.entries ∙ ap (base_entries 0) (sym batches_are)
 
-    module _ (start steps : ℕ) (few : steps ≤ start + rows_checked cache.setting.catalog (batches_in cache.entries)) where
-      few_here : steps ≤ start + rows_checked just.base.catalog just.base.batches
-      few_here = let P : Base → Type 0 = λ base. steps ≤ start + rows_checked base.catalog base.batches in subst P base_is few
+    module _ (start steps : ℕ) (few : ReadsCame middle after (base_in cache) start steps) where
+      few_here : ReadsCame middle after just.base start steps
+      few_here = let P : Base → Type 0 = λ base. ReadsCame middle after base start steps in subst P base_is few
 
       pub checks_unread : (fault : OpenFault) → Leads files middle after (checks_from (base_in cache) 0 cache.setting.catalog.schema.aggregates) (Err fault) → Leads files before after (opening_from file) (Err fault)
       unfolding opening_from
@@ -101,14 +102,14 @@ module _ (file : List ℕ) (files : Option Files) (before : List Fetched) where
           leads_on (base_from file) then_checks files before middle after just.base (Err fault) just.read
           (leads_first (checks_from just.base 0 just.base.catalog.schema.aggregates) (λ tables. made (record { catalog = just.base.catalog; batches = just.base.batches; tables = tables })) files middle after fault (subst P base_is h))
 
-      pub few_steps : (fault : OpenFault) → Leads files middle after (checks_from (base_in cache) 0 cache.setting.catalog.schema.aggregates) (Err fault) → HasBase files before after file start steps
-      few_steps fault h = record {
+      pub few_steps : HasBase files before after file start steps
+      few_steps = record {
         base = just.base;
         middle = middle;
         read = just.read;
-        more = h.answers;
-        behind = h.added;
-        steps = few_here;
+        more = few_here.more;
+        behind = few_here.behind;
+        steps = few_here.steps;
       }
 
       pub is_opened : (done : CacheOf) → done.setting ≡ cache.setting → AreInstalled files middle after (checks_from (base_in cache) 0 cache.setting.catalog.schema.aggregates) cache.entries done.entries → IsOpened files before after file done start steps
@@ -118,7 +119,10 @@ module _ (file : List ℕ) (files : Option Files) (before : List Fetched) where
         read = leads_on (base_from file) then_checks files before middle after just.base (Ok opening) just.read (leads_then (checks_from just.base 0 just.base.catalog.schema.aggregates) (λ tables. made (record { catalog = just.base.catalog; batches = just.base.batches; tables = tables })) files middle after are.tables (Ok opening) here value);
         setting = kept ∙ just.setting;
         entries = entry;
-        steps = few_here;
+        steps =
+            let most = rows_most just.base.catalog just.base.batches 0 just.base.catalog.schema.aggregates (files_came few_here.more) in
+            let came = few_here.steps in
+            omega (arith, came, most);
       }
         where
           opening : Opening

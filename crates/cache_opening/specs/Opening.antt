@@ -1,6 +1,6 @@
 -- What the cache is that a schema's file opens, and which files it takes for that, or the first fault. (Schema Guide;
 -- Aggregate Tables)
-use Rattle.std.specs.Prelude.{ℕ, suc, ◌+◌, ◌≤◌, ◌≡◌, ◌⊎◌, List, [], ◌∷◌, ◌++◌, length, Option, Some, None, Result, Ok, Err, is_some, nat_lt, slice_index_or, if◌then◌else◌}
+use Rattle.std.specs.Prelude.{ℕ, zero, suc, ◌+◌, ◌≤◌, ◌≡◌, ◌⊎◌, List, [], ◌∷◌, ◌++◌, length, Option, Some, None, Result, Ok, Err, is_some, nat_lt, slice_index_or, if◌then◌else◌}
 use Rattle.std.specs.Option.{option_map_or}
 use Rattle.olap_meaning.specs.declared.schema.Schema.{Schema}
 use Rattle.olap_meaning.specs.declared.schema.SchemaAggregate.{SchemaAggregate}
@@ -199,6 +199,21 @@ rows_from catalog batches table (own ∷ owns) =
 abbrev pub rows_checked : Catalog → List (List Row) → ℕ
 rows_checked catalog batches = rows_from catalog batches 0 catalog.schema.aggregates
 
+-- how many files came among some answers
+abbrev pub files_came : List Fetched → ℕ
+files_came [] = 0
+files_came ((name, Ok bytes) ∷ answers) = suc (files_came answers)
+files_came ((name, Err refusal) ∷ answers) = files_came answers
+
+-- how many rows some aggregate tables are checked over, from this place of the schema on, where so many of their files
+-- came
+abbrev pub rows_come : Catalog → List (List Row) → ℕ → List SchemaAggregate → ℕ → ℕ
+rows_come catalog batches table [] came = 0
+rows_come catalog batches table (own ∷ owns) zero = 0
+rows_come catalog batches table (own ∷ owns) (suc came) =
+    rows_for catalog batches table own
+    + rows_come catalog batches (suc table) owns (if is_some own.file then came else suc came)
+
 -- a manager is opened from a schema's file: between two states of a depot just those answers came that lead to the
 -- opening, the manager has its catalog, and in its history just its base batches and its aggregate tables; and at most
 -- as many steps were added as there are rows that the tables are checked over
@@ -210,8 +225,8 @@ pub record IsOpened (files : Option Files) (before after : List Fetched) (file :
   pub entries : manager.entries ≡ opened_entries opening.batches opening.tables
   pub steps : steps_after ≤ steps_before + rows_checked opening.catalog opening.batches
 
--- the base of an opening was read, and behind it at most as many steps were added as there are rows that its aggregate
--- tables are checked over
+-- the base of an opening was read, and behind it at most as many steps were added as there are rows that those of its
+-- aggregate tables are checked over whose files came
 pub record HasBase (files : Option Files) (before after : List Fetched) (file : List ℕ)
     (steps_before steps_after : ℕ) : Type 0 where
   pub base : Base
@@ -219,7 +234,8 @@ pub record HasBase (files : Option Files) (before after : List Fetched) (file : 
   pub read : Leads files before middle (base_from file) (Ok base)
   pub more : List Fetched
   pub behind : after ≡ middle ++ more
-  pub steps : steps_after ≤ steps_before + rows_checked base.catalog base.batches
+  pub steps : steps_after ≤ steps_before
+      + rows_come base.catalog base.batches 0 base.catalog.schema.aggregates (files_came more)
 
 -- a refused opening adds few steps: none where its base was not read
 abbrev pub AddsFewSteps : Option Files → List Fetched → List Fetched → List ℕ → ℕ → ℕ → Type 0

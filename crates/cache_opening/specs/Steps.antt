@@ -1,5 +1,6 @@
 -- What the steps of an opening know of one another.
-use Rattle.std.specs.Prelude.{ℕ, ◌+◌, ◌<◌, ◌≡◌, ◌⊎◌, List, [], ◌∷◌, ◌++◌, length, filter_map, Option, Some, None, Ok, IsTrue}
+use Rattle.std.specs.Prelude.{ℕ, zero, suc, ◌+◌, ◌<◌, ◌≤◌, ◌≡◌, ◌⊎◌, List, [], ◌∷◌, ◌++◌, length, filter_map, Option, Some, None, Ok, IsTrue, is_some, if◌then◌else◌}
+use Rattle.olap_meaning.specs.declared.schema.SchemaAggregate.{SchemaAggregate}
 use Rattle.olap_meaning.specs.declared.tables.Catalog.{Catalog}
 use Rattle.olap_meaning.specs.declared.tables.Row.{Row}
 use Rattle.olap_meaning.specs.History.{Entry, Append, version}
@@ -14,7 +15,7 @@ use Rattle.outside.specs.Told.{Files}
 use Rattle.cache_opening.specs.declared.fault.OpenFault.{OpenFault}
 use Rattle.cache_opening.specs.declared.fault.OpenFault.TheVariants.{OutOfMemory}
 use Rattle.cache_opening.specs.Asking.{Asking, Leads}
-use Rattle.cache_opening.specs.Opening.{Base, agg_entries, base_entries, base_from, batches_from, budget, opened_entries}
+use Rattle.cache_opening.specs.Opening.{Base, agg_entries, base_entries, base_from, batches_from, budget, files_came, opened_entries, rows_come}
 
 -- this is answered, or want of memory
 abbrev pub IsOrMemory : OpenFault → OpenFault → Type 0
@@ -85,6 +86,36 @@ pub record AreInstalled (files : Option Files) (before after : List Fetched)
   pub tables : List ℕ
   pub read : Leads files before after asking (Ok tables)
   pub entry : more ≡ entries ++ agg_entries (length entries) tables
+
+-- so many rows, where a file came
+abbrev pub rows_where : ℕ → ℕ → ℕ
+rows_where rows zero = 0
+rows_where rows (suc came) = rows
+
+-- between two states of a depot at most so many steps were added: as many as there are rows, and none where no file
+-- came
+pub record ReadsFew (before after : List Fetched) (rows start later : ℕ) : Type 0 where
+  pub more : List Fetched
+  pub behind : after ≡ before ++ more
+  pub steps : later ≤ start + rows_where rows (files_came more)
+
+-- how many files an aggregate table has: one or none
+abbrev pub files_for : SchemaAggregate → ℕ
+files_for own = if is_some own.file then 1 else 0
+
+-- between two states of a depot so many files came
+pub record FilesCame (before after : List Fetched) (many : ℕ) : Type 0 where
+  pub more : List Fetched
+  pub behind : after ≡ before ++ more
+  pub count : files_came more ≡ many
+
+-- between two states of a depot the files of some aggregate tables were asked for, and at most as many steps were added
+-- as there are rows that those are checked over whose files came
+pub record ReadsCame (before after : List Fetched) (base : Base) (start later : ℕ) : Type 0 where
+  pub more : List Fetched
+  pub behind : after ≡ before ++ more
+  pub steps : later ≤ start
+      + rows_come base.catalog base.batches 0 base.catalog.schema.aggregates (files_came more)
 
 -- a manager has the base of a schema's file, and nothing more: just this was asked for
 pub record HasJustBase (files : Option Files) (before after : List Fetched) (file : List ℕ)

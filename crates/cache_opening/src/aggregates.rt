@@ -2,7 +2,7 @@
 ghost use Rattle.std.specs.Prelude.{◌≡◌, ◌+◌, ◌<◌, ◌≤◌, ◌∷◌, [], Err, IfErr, IfOk, IsSomeAnd, Ok, OnOk, length, option_copied, slice_get};
 ghost use Rattle.cache_opening.specs.Asking.{Comes, Leads, read_by};
 ghost use Rattle.cache_opening.specs.Opening.{base_rows, check_from, table_in};
-ghost use Rattle.cache_opening.specs.Steps.{IsBaseTable, IsBased, IsOrMemory, base_in, batches_in};
+ghost use Rattle.cache_opening.specs.Steps.{FilesCame, IsBaseTable, IsBased, IsOrMemory, ReadsFew, base_in, batches_in};
 
 use crate::fault::OpenFault;
 use crate::files::fetch;
@@ -82,9 +82,11 @@ pub(crate) fn open_aggregate<D: Depot, L: Ledger>(
     ensures fault { IfErr result (λ fault.
         Leads (D.files depot.old) (D.answers depot.old) (D.answers depot.new)
         (check_from (base_in manager.now) table file.now) (Err fault)) }
+    ensures came { OnOk result (FilesCame (D.answers depot.old) (D.answers depot.new) 1) }
     ensures at_least { steps.old ≤ steps.new }
-    ensures at_most { steps.new ≤ steps.old
-        + length (base_rows manager.now.setting.catalog (batches_in manager.now.entries) table) }
+    ensures at_most { ReadsFew (D.answers depot.old) (D.answers depot.new)
+        (length (base_rows manager.now.setting.catalog (batches_in manager.now.entries) table))
+        steps.old steps.new }
     ensures same_files { D.files depot.new ≡ D.files depot.old }
 {
     let bytes = fetch(alloc, depot, file)?;

@@ -260,7 +260,7 @@ abbrev pub with_answers : Around → List Fetched → Around
 with_answers around answers = record around { answers = answers }
 
 -- no cache was opened: no step was added, or the words ask for a schema's file, of which the catalog and the base batches
--- were read, and at most the rows over which its aggregate tables are checked
+-- were read, and at most the rows over which those of its aggregate tables are checked whose files came
 abbrev pub AddsFew : Words → Option Files → List Fetched → List Fetched → ℕ → ℕ → Type 0
 AddsFew words files before after steps_before steps_after =
     (steps_after ≡ steps_before)

@@ -1,7 +1,9 @@
 -- The aggregate table is what its file is read as, and it is installed; without a file nothing is.
-use Rattle.std.proofs.Common.{◌∙◌, slice_get}
+use Rattle.std.proofs.Common.{◌∙◌, length, slice_get}
 use Rattle.std.proofs.lemmas.Result.{err_from_is_err_and}
+use Rattle.cache_opening.specs.Opening.{base_rows}
 use Rattle.cache_opening.specs.Steps.{base_in, batches_in}
+use Rattle.cache_opening.proofs.CameFacts.{none_came, none_read, some_came, some_read}
 use Rattle.cache_opening.proofs.CheckSteps.{none_installed, one_stops}
 use Rattle.cache_opening.proofs.EntryFacts.{opened_next}
 use Rattle.cache_opening.proofs.installs.install_table.Goals as goal
@@ -18,4 +20,34 @@ returns-in_err-install-in-Some-clause-fault g c =
 pub returns-in-None-clause-ok : goal.returns-in-None-clause-ok
 returns-in-None-clause-ok g c =
     none_installed (g.D.Depot.files c.args.depot.now) (g.D.Depot.answers c.args.depot.now) (base_in c.args.manager.now) c.args.table c.args.manager.now.entries (slice_get c.args.manager.now.setting.catalog.schema.aggregates c.args.table)
+    (rw (c.deref.ensures ∙ c.catalog.ensures) at c.in-None.ensures)
+
+pub returns-in_err-made-in-Some-clause-at_most : goal.returns-in_err-made-in-Some-clause-at_most
+returns-in_err-made-in-Some-clause-at_most g c =
+    some_read (slice_get c.args.manager.now.setting.catalog.schema.aggregates c.args.table) c.in-Some.file.now (g.D.Depot.answers c.args.depot.now) (g.D.Depot.answers c.open_aggregate.new.depot) c.args.steps.now c.open_aggregate.new.steps (length (base_rows c.args.manager.now.setting.catalog (batches_in c.args.manager.now.entries) c.args.table))
+    (rw (c.deref.ensures ∙ c.catalog.ensures) at c.in-Some.ensures) c.open_aggregate.ensures.at_most
+
+pub returns-in_err-install-in-Some-clause-at_most : goal.returns-in_err-install-in-Some-clause-at_most
+returns-in_err-install-in-Some-clause-at_most g c =
+    some_read (slice_get c.args.manager.now.setting.catalog.schema.aggregates c.args.table) c.in-Some.file.now (g.D.Depot.answers c.args.depot.now) (g.D.Depot.answers c.open_aggregate.new.depot) c.args.steps.now c.open_aggregate.new.steps (length (base_rows c.args.manager.now.setting.catalog (batches_in c.args.manager.now.entries) c.args.table))
+    (rw (c.deref.ensures ∙ c.catalog.ensures) at c.in-Some.ensures) c.open_aggregate.ensures.at_most
+
+pub returns-in_ok-install-in-Some-clause-at_most : goal.returns-in_ok-install-in-Some-clause-at_most
+returns-in_ok-install-in-Some-clause-at_most g c =
+    some_read (slice_get c.args.manager.now.setting.catalog.schema.aggregates c.args.table) c.in-Some.file.now (g.D.Depot.answers c.args.depot.now) (g.D.Depot.answers c.open_aggregate.new.depot) c.args.steps.now c.open_aggregate.new.steps (length (base_rows c.args.manager.now.setting.catalog (batches_in c.args.manager.now.entries) c.args.table))
+    (rw (c.deref.ensures ∙ c.catalog.ensures) at c.in-Some.ensures) c.open_aggregate.ensures.at_most
+
+pub returns-in_ok-install-in-Some-clause-came : goal.returns-in_ok-install-in-Some-clause-came
+returns-in_ok-install-in-Some-clause-came g c =
+    some_came (slice_get c.args.manager.now.setting.catalog.schema.aggregates c.args.table) c.in-Some.file.now (g.D.Depot.answers c.args.depot.now) (g.D.Depot.answers c.open_aggregate.new.depot)
+    (rw (c.deref.ensures ∙ c.catalog.ensures) at c.in-Some.ensures) c.in_ok-made-in-Some.ensures.came
+
+pub returns-in-None-clause-at_most : goal.returns-in-None-clause-at_most
+returns-in-None-clause-at_most g c =
+    none_read (slice_get c.args.manager.now.setting.catalog.schema.aggregates c.args.table) (g.D.Depot.answers c.args.depot.now) c.args.steps.now (length (base_rows c.args.manager.now.setting.catalog (batches_in c.args.manager.now.entries) c.args.table))
+    (rw (c.deref.ensures ∙ c.catalog.ensures) at c.in-None.ensures)
+
+pub returns-in-None-clause-came : goal.returns-in-None-clause-came
+returns-in-None-clause-came g c =
+    none_came (slice_get c.args.manager.now.setting.catalog.schema.aggregates c.args.table) (g.D.Depot.answers c.args.depot.now)
     (rw (c.deref.ensures ∙ c.catalog.ensures) at c.in-None.ensures)

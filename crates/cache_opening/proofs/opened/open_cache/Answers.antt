@@ -31,8 +31,7 @@ returns-in_err-install_tables-clause-fault g c =
 pub returns-in_err-install_tables-clause-few : goal.returns-in_err-install_tables-clause-few
 returns-in_err-install_tables-clause-few g c =
     let p = err_from_is_err_and c.from_residual-in_err-install_tables.result c.from_residual-in_err-install_tables.ensures.1 in rw (p.1)
-    (inr (few_steps c.args.file.now (g.D.Depot.files c.args.depot.now) (g.D.Depot.answers c.args.depot.now) (g.D.Depot.answers c.open_base.new.depot) (g.D.Depot.answers c.install_tables.new.depot) c.in_ok-manager.manager c.in_ok-manager.ensures.base c.args.steps.now c.install_tables.new.steps c.install_tables.ensures.at_most
-    c.in_err-install_tables.field-0.0 (rw c.open_base.ensures.same_files at c.in_err-install_tables.ensures.fault)))
+    (inr (few_steps c.args.file.now (g.D.Depot.files c.args.depot.now) (g.D.Depot.answers c.args.depot.now) (g.D.Depot.answers c.open_base.new.depot) (g.D.Depot.answers c.install_tables.new.depot) c.in_ok-manager.manager c.in_ok-manager.ensures.base c.args.steps.now c.install_tables.new.steps c.install_tables.ensures.at_most))
 
 pub returns-clause-opened : goal.returns-clause-opened
 returns-clause-opened g c =
