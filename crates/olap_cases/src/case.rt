@@ -4,8 +4,8 @@
 //! a content; `cuts`, each the most bytes that a read gives, 0 for no limit: the case is carried out once for each; the
 //! `room` of the output in bytes; and the numbers, from 0, of a `fetch`, a `read` and a `write` that fails. It wants a
 //! `status`, 0 where none is named; what is `written`, a content; and where a history is there, how many `entries` it has
-//! and how many `rows` its Starts cost, 0 where they are not named. Words are a text that is parted at white space, or a
-//! list of texts, one for each word.
+//! and how many `rows` the versions of its Starts have, 0 where they are not named. Words are a text that is parted at
+//! white space, or a list of texts, one for each word.
 use crate::content::bytes_of;
 use crate::fields::{field, items, number, number_at, text};
 use crate::outcome::Outcome;

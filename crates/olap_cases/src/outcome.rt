@@ -3,7 +3,8 @@ use history_core::{Entry, History};
 use olap_meaning::{CubeId, Version};
 use olap_server::Ended;
 
-/// How a run ended. Where a cache was opened, its history has so many entries, and its Starts cost so many rows.
+/// How a run ended. Where a cache was opened, its history has so many entries, and the versions of its Starts have so
+/// many rows.
 #[derive(Clone, Copy, PartialEq, Eq)]
 pub(crate) struct Outcome {
     pub status: u64,
@@ -34,8 +35,8 @@ fn rows_of(history: &History, cube: CubeId, version: Version) -> u64 {
     rows
 }
 
-/// What the Starts of a history cost: each the rows of its version.
-fn cost(history: &History) -> u64 {
+/// How many rows the versions of a history's Starts have: what these cost where no aggregate table is read.
+fn rows_started(history: &History) -> u64 {
     let mut rows: u64 = 0;
     for before in 0..history.len() {
         if let Some(
@@ -60,6 +61,6 @@ pub(crate) fn outcome_of(ended: &Ended) -> Outcome {
         history: ended
             .history
             .as_ref()
-            .map(|history| (history.len(), cost(history))),
+            .map(|history| (history.len(), rows_started(history))),
     }
 }
