@@ -1,14 +1,14 @@
 -- What the entries of an opened cache say: those of its base batches, and behind them those of its aggregate tables.
-use Rattle.std.proofs.Common.{◌≡◌, refl, sym, ap, ◌∙◌, ℕ, zero, suc, ◌+◌, ◌<◌, List, [], ◌∷◌, ◌++◌, length, length-append, append-nil, append_assoc, add-zero, true, false, cond, Option, None, Some, arith, filter, filter_map, flat_map, take, get_or, slice_get, is_some, nat_lt, nat_eq, option_and_then}
+use Rattle.std.proofs.Common.{◌≡◌, refl, sym, ap, ◌∙◌, ℕ, zero, suc, ◌+◌, ◌<◌, List, [], ◌∷◌, ◌++◌, length, length-append, append-nil, append_assoc, add-zero, true, false, None, arith, filter, filter_map, flat_map, take, get_or, slice_get, nat_lt, nat_eq, option_and_then}
 use Rattle.std.specs.Prelude.{IsTrue}
 use Rattle.std.specs.List.{list_all}
 use Rattle.std.proofs.lemmas.List.Elements.{filter-append, filter_map-append}
 use Rattle.std.proofs.lemmas.List.Folds.{list_all-append}
-use Rattle.std.proofs.lemmas.List.Recursion.{is_count_by}
 use Rattle.olap_meaning.specs.declared.tables.Row.{Row}
 use Rattle.olap_meaning.specs.History.{Entry, Agg, appended, rows_of, started, version}
 use Rattle.olap_meaning.specs.Legal.{is_call_below, is_call_of, is_next_call}
 use Rattle.history_core.specs.Seats.{NoneFlies, entries_of, is_of_seat}
+use Rattle.cache_manager.proofs.Pushes.{version-length}
 use Rattle.cache_opening.specs.Opening.{agg_entries, base_entries, opened_entries}
 use Rattle.cache_opening.specs.Steps.{batches_in}
 use Rattle.cache_opening.proofs.BaseFacts.{calls_below, no_entry}
@@ -119,17 +119,6 @@ opened_appends cube batches tables known =
     let place : 0 + cube ≡ cube = omega arith in
     let own : filter_map (appended cube) (base_entries 0 batches) ≡ get_or batches cube [] ∷ [] = ap (λ (c : ℕ). filter_map (appended c) (base_entries 0 batches)) (sym place) ∙ own_batch 0 cube batches known in
     filter_map-append (appended cube) (base_entries 0 batches) (agg_entries (length batches) tables) ∙ rw (own, no_append cube (length batches) tables) refl
-
--- the version is the number of the cube's appends
-version-length : (history : List Entry) (cube : ℕ) → version history cube ≡ length (filter_map (appended cube) history)
-version-length history cube = sym (is_count_by (λ (entries : List Entry). length (filter_map (appended cube) entries)) (λ entry. is_some (appended cube entry)) refl step history)
-  where
-    step : (entry : Entry) (entries : List Entry) → length (filter_map (appended cube) (entry ∷ entries)) ≡ cond (is_some (appended cube entry)) (1 + length (filter_map (appended cube) entries)) (length (filter_map (appended cube) entries))
-    step entry entries = by (appended cube entry) refl
-      where
-        by : (o : Option (List Row)) → appended cube entry ≡ o → length (filter_map (appended cube) (entry ∷ entries)) ≡ cond (is_some (appended cube entry)) (1 + length (filter_map (appended cube) entries)) (length (filter_map (appended cube) entries))
-        by None e = rw e refl
-        by (Some rows) e = rw e (omega arith)
 
 -- a cube has version 1
 pub opened_version : (cube : ℕ) (batches : List (List Row)) (tables : List ℕ) → cube < length batches → version (opened_entries batches tables) cube ≡ 1
