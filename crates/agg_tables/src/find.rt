@@ -1,12 +1,12 @@
 //! Finding what a schema's aggregate table is in its catalog.
 ghost use Rattle.std.specs.Prelude.{◌≡◌, ◌<◌, ◌≤◌, IfOk, IsTrue, OnOk, Some, bytes_eq, find, length, option_map, position, slice_get};
-ghost use Rattle.olap_meaning.specs.Catalog.{table_cube};
 ghost use Rattle.olap_meaning.specs.Covering.{among};
 ghost use Rattle.olap_catalog.specs.Parts.{has_levels};
 ghost use Rattle.agg_tables.specs.Bound.{IsPlaced, with_level};
 ghost use Rattle.agg_tables.specs.Declarations.{declared_table, measure_with};
 ghost use Rattle.agg_tables.specs.Declarations as meaning;
 
+use crate::cube::cube_of;
 use crate::declared::{Declared, TableLevel, TableMeasure};
 use olap_catalog::Catalog;
 use olap_meaning::schema::{AggregateLevel, AggregateMeasure, MEASURE_LIMIT};
@@ -35,17 +35,6 @@ pub(crate) fn find_table(
         levels: levels_of(alloc, catalog, parts, own.levels.as_slice())?,
         measures: measures_of(alloc, parts, own.measures.as_slice())?,
     })
-}
-
-// The cube of a table.
-fn cube_of(catalog: &Catalog, table: u32) -> CubeId
-    requires known { table < length catalog.now.schema.aggregates }
-    ensures cube { table_cube catalog.now table ≡ Some result }
-    ensures within { result < length catalog.now.cubes }
-{
-    catalog.is_whole();
-    let own = &catalog.schema().aggregates.as_slice()[table as usize];
-    catalog.find_cube(own.cube.as_str()).unwrap()
 }
 
 // The levels of a cube's table, each column of the catalog once.

@@ -5,6 +5,7 @@
 mod checker;
 mod checking;
 mod columns;
+mod cube;
 mod declared;
 mod fault;
 mod fields;
@@ -17,6 +18,7 @@ mod shared;
 mod table;
 
 pub use checking::check;
+pub use cube::cube_of;
 pub use declared::{Declared, FileColumn, Fold, TableLevel, TableMeasure};
 pub use fault::AggFault;
 pub use table::{AggTable, build};

@@ -2,7 +2,7 @@
 use Rattle.std.proofs.Common.{◌≡◌, ◌∙◌, ◌≤◌, ℕ, List, [], ◌∷◌, ◌++◌, Some, length, refl, sym, ap, subst, take, true, arith}
 use Rattle.std.specs.Prelude.{IsTrue, filter_map}
 use Rattle.std.specs.List.{range_with_len}
-use Rattle.load_costs.specs.Costs.{table_built, tables_built}
+use Rattle.load_costs.specs.Costs.{table_built, tables_built, version_rows}
 use Rattle.olap_meaning.specs.declared.cells.Who.{Who}
 use Rattle.olap_meaning.specs.declared.tables.Catalog.{Catalog}
 use Rattle.olap_meaning.specs.Catalog.{table_cube}
@@ -14,7 +14,7 @@ use Rattle.fact_reader.specs.BodyRows.{are_batches, rows_in}
 use Rattle.agg_tables.specs.Declarations.{declared_table}
 use Rattle.agg_tables.specs.Tables.{TableOf, built, built_over, groups_in, table_over}
 use Rattle.agg_tables.proofs.FindFacts.{mapped_there}
-use Rattle.installed_tables.specs.Installed.{groups_built, present_version, version_rows}
+use Rattle.installed_tables.specs.Installed.{groups_built, present_version}
 use Rattle.installed_tables.proofs.BuiltFacts.{built_last}
 use Rattle.history_core.specs.Cache.{CacheOf}
 use Rattle.history_core.specs.History.{HistoryOf}

@@ -9,8 +9,8 @@ use Rattle.olap_meaning.specs.Covering.{among}
 use Rattle.olap_meaning.specs.History as history
 use Rattle.olap_meaning.specs.History.{Entry, load_at, version}
 use Rattle.olap_meaning.specs.Legal.{caller, is_cell, is_flushable}
-use Rattle.installed_tables.specs.Installed.{groups_built, present_rows, present_version, version_rows}
-use Rattle.load_costs.specs.Costs.{cost}
+use Rattle.installed_tables.specs.Installed.{groups_built, present_rows, present_version}
+use Rattle.load_costs.specs.Costs.{cost, version_rows}
 use Rattle.fact_versions.specs.Facts.{append_fault}
 use Rattle.fact_versions.specs.declared.faults.AppendFault.TheVariants as fault
 use Rattle.fact_reader.specs.BodyRows.{is_batch}

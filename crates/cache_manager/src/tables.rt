@@ -3,15 +3,15 @@
 ghost use Rattle.std.specs.Prelude.{◌≡◌, ◌<◌, ◌≤◌, ◌+◌, ◌++◌, ◌∷◌, [], IfOk, IsTrue, OnErr, OnOk, length};
 ghost use Rattle.olap_meaning.specs.History.{Agg};
 ghost use Rattle.olap_meaning.specs.Legal.{is_next_call};
-ghost use Rattle.installed_tables.specs.Installed.{groups_built, present_rows, present_version, version_rows};
+ghost use Rattle.load_costs.specs.Costs.{version_rows};
+ghost use Rattle.installed_tables.specs.Installed.{groups_built, present_rows, present_version};
 ghost use Rattle.cache_manager.specs.Tables.{IsOwnTable};
 
 use crate::look::sum;
 use crate::manager::Manager;
-use agg_tables::{AggTable, build};
+use agg_tables::{AggTable, build, cube_of};
 use fact_versions::Steps;
 use history_core::{AggBuilt, Entry};
-use installed_tables::cube_of;
 use olap_meaning::{OutOfMemory, Version, Who};
 use std::sync::ledger::Ledger;
 

@@ -6,10 +6,9 @@ ghost use Rattle.cache_opening.specs.Steps.{FilesCame, IsBaseTable, IsBased, IsO
 
 use crate::fault::OpenFault;
 use crate::files::fetch;
-use agg_tables::{AggFault, AggTable, check};
+use agg_tables::{AggFault, AggTable, check, cube_of};
 use cache_manager::Manager;
 use fact_versions::Steps;
-use installed_tables::cube_of;
 use olap_catalog::Catalog;
 use olap_meaning::{OutOfMemory, Text};
 use outside::Depot;

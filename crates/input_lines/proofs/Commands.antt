@@ -5,7 +5,7 @@ use Rattle.std.specs.List.{list_all, position_or_len}
 use Rattle.std.specs.Option.{option_map_or}
 use Rattle.std.proofs.lemmas.Bool.{and_parts}
 use Rattle.std.proofs.lemmas.Slice.Eq.{bytes_eq-Decides}
-use Rattle.query_meaning.specs.Requests.{after_white, argument_behind, argument_of, behind_word, commands, first_word, has_one_of, is_blank, is_quit, is_show, unbuilt_commands}
+use Rattle.query_meaning.specs.Requests.{after_white, argument_behind, argument_of, behind_word, commands, first_word, has_one_of, is_blank, is_show}
 use Rattle.query_meaning.specs.Tokens.{in_capitals, is_white}
 
 none_other : (p : ℕ → Bool) (text : List ℕ) → list_all p text ≡ true → position_or_len (λ c. not (p c)) text ≡ length text
@@ -51,36 +51,25 @@ pub record HasNone (line : List ℕ) : Type 0 where
   pub mdx : is_some (argument_of (codes "MDX") line) ≡ false
   pub append : is_some (argument_of (codes "APPEND") line) ≡ false
   pub flush : is_some (argument_of (codes "FLUSH") line) ≡ false
+  pub agg : is_some (argument_of (codes "AGG") line) ≡ false
   pub cache : is_some (argument_of (codes "CACHE") line) ≡ false
   pub after : is_some (argument_of (codes "AFTER") line) ≡ false
   pub quit : is_some (argument_of (codes "QUIT") line) ≡ false
-  pub unbuilt : has_one_of unbuilt_commands line ≡ false
 
 pub has_none : (line : List ℕ) → has_one_of commands line ≡ false → HasNone line
 has_none line none =
     let first = or_parts (is_some (argument_of (codes "MDX") line)) _ none in
     let second = or_parts (is_some (argument_of (codes "APPEND") line)) _ first.1 in
     let third = or_parts (is_some (argument_of (codes "FLUSH") line)) _ second.1 in
-    let fourth = or_parts (is_some (argument_of (codes "CACHE") line)) _ third.1 in
-    let fifth = or_parts (is_some (argument_of (codes "AFTER") line)) _ fourth.1 in
-    let sixth = or_parts (is_some (argument_of (codes "QUIT") line)) _ fifth.1 in record { mdx = first.0; append = second.0; flush = third.0; cache = fourth.0; after = fifth.0; quit = sixth.0; unbuilt = sixth.1 }
-
--- a line with a command of which nothing is built has no other
-pub built_no : (word line : List ℕ) → bytes_eq (codes "AGG") word ≡ false → has_one_of unbuilt_commands line ≡ true → argument_of word line ≡ None
-built_no word line agg has = by (is_some (argument_of (codes "AGG") line)) refl has
-  where
-    by : (a : Bool) → is_some (argument_of (codes "AGG") line) ≡ a → (a || false) ≡ true → argument_of word line ≡ None
-    by true x h = no_other (codes "AGG") word line agg x
-    by false x h = absurd (let n : ⊥ = cc in n)
+    let fourth = or_parts (is_some (argument_of (codes "AGG") line)) _ third.1 in
+    let fifth = or_parts (is_some (argument_of (codes "CACHE") line)) _ fourth.1 in
+    let sixth = or_parts (is_some (argument_of (codes "AFTER") line)) _ fifth.1 in
+    let seventh = or_parts (is_some (argument_of (codes "QUIT") line)) _ sixth.1 in record { mdx = first.0; append = second.0; flush = third.0; agg = fourth.0; cache = fifth.0; after = sixth.0; quit = seventh.0 }
 
 -- where there is a white argument, there is an argument
 blank_some : (argument : Option (List ℕ)) → option_map_or is_blank argument false ≡ true → is_some argument ≡ true
 blank_some None h = absurd (let n : ⊥ = cc in n)
 blank_some (Some argument) h = refl
-
--- a line that ends the session has the command QUIT
-pub quit_has : (line : List ℕ) → is_quit line ≡ true → is_some (argument_of (codes "QUIT") line) ≡ true
-quit_has line quit = blank_some (argument_of (codes "QUIT") line) quit
 
 -- a line that asks for what is kept has the command CACHE
 pub show_has : (line : List ℕ) → is_show line ≡ true → is_some (argument_of (codes "CACHE") line) ≡ true

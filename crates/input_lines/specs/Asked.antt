@@ -4,7 +4,7 @@ use Rattle.std.specs.Str.{is_utf8}
 use Rattle.query_meaning.specs.Requests.{argument_of}
 use Rattle.input_lines.specs.Requests as meaning
 use Rattle.input_lines.specs.declared.request.Request.{Request}
-use Rattle.input_lines.specs.declared.request.Request.TheVariants.{NotText, Blank, NoCommand, Stops, Quit, After, Append, Ask, Flush, Show, Unbuilt}
+use Rattle.input_lines.specs.declared.request.Request.TheVariants.{NotText, Blank, NoCommand, Stops, Quit, After, Append, Ask, Flush, Agg, Show}
 
 -- what a request asks for
 abbrev pub asked : Request → meaning.Request
@@ -17,8 +17,8 @@ asked (After n) = meaning.After n
 asked (Append argument) = meaning.Append argument
 asked (Ask query) = meaning.Ask query
 asked (Flush text) = meaning.Flush text
+asked (Agg name) = meaning.Agg name
 asked Show = meaning.Show
-asked Unbuilt = meaning.Unbuilt
 
 -- each line of text that has this command, by its word, and this argument asks for this
 abbrev pub Asks : List ℕ → List ℕ → meaning.Request → Type 0

@@ -3,18 +3,19 @@ use Rattle.std.specs.Prelude.{ℕ, ◌≡◌, ◌⊎◌, List, true, false, Some
 use Rattle.std.specs.Str.{is_utf8}
 use Rattle.query_meaning.specs.declared.query.Query.{Query}
 use Rattle.query_meaning.specs.declared.region_text.RegionText.{RegionText}
-use Rattle.query_meaning.specs.Requests.{argument_of, commands, has_one_of, is_blank, is_quit, is_show, unbuilt_commands}
+use Rattle.query_meaning.specs.Requests.{argument_of, commands, has_one_of, is_blank, is_quit, is_show}
 use Rattle.query_meaning.specs.WholeFlushes.{WritesFlush}
 use Rattle.query_meaning.specs.WholeQueries.{WritesQuery}
 use Rattle.text_forms.specs.Forms.{StopsAt, Writes}
 use Rattle.command_arguments.specs.Append.{IsAppend}
 use Rattle.command_arguments.specs.Blank.{IsBlank}
+use Rattle.command_arguments.specs.Name.{IsName}
 use Rattle.command_arguments.specs.Position.{IsPosition}
 use Rattle.command_arguments.specs.declared.append.AppendArgument.{AppendArgument}
 
 -- what a line asks for: nothing, since it is no text, or blank, or has no command, or its argument is none of its
 -- command's form and stops at a byte; the end; that a cache has so many entries; an append; the answer to a query; a
--- flush; to be shown what is kept; or what is not built
+-- flush; that the aggregate table of a name is built; or to be shown what is kept
 pub data Request : Type 0 where
   NotText : Request
   Blank : Request
@@ -25,8 +26,8 @@ pub data Request : Type 0 where
   Append : AppendArgument → Request
   Ask : Query → Request
   Flush : RegionText → Request
+  Agg : List ℕ → Request
   Show : Request
-  Unbuilt : Request
 
 -- a line has a command, by its word, and an argument that writes this
 pub record HasArgument {Q : Type 0} (word : List ℕ) (W : List ℕ → Q → Type 0)
@@ -49,6 +50,7 @@ Stopped line byte =
     ArgumentStops (codes "MDX") WritesQuery line byte
     ⊎ ArgumentStops (codes "APPEND") (Writes IsAppend) line byte
     ⊎ ArgumentStops (codes "FLUSH") WritesFlush line byte
+    ⊎ ArgumentStops (codes "AGG") (Writes IsName) line byte
     ⊎ ArgumentStops (codes "CACHE") (Writes IsBlank) line byte
     ⊎ ArgumentStops (codes "AFTER") (Writes IsPosition) line byte
     ⊎ ArgumentStops (codes "QUIT") (Writes IsBlank) line byte
@@ -69,8 +71,9 @@ IsRequest line (Ask query) =
     (is_utf8 line ≡ true) × HasArgument (codes "MDX") WritesQuery line query
 IsRequest line (Flush text) =
     (is_utf8 line ≡ true) × HasArgument (codes "FLUSH") WritesFlush line text
+IsRequest line (Agg name) =
+    (is_utf8 line ≡ true) × HasArgument (codes "AGG") (Writes IsName) line name
 IsRequest line Show = (is_utf8 line ≡ true) × (is_show line ≡ true)
-IsRequest line Unbuilt = (is_utf8 line ≡ true) × (has_one_of unbuilt_commands line ≡ true)
 
 -- a line asks for nothing else
 abbrev pub IsOnly : List ℕ → Request → Type 0

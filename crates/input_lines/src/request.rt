@@ -1,14 +1,16 @@
 //! What a line asks for.
-ghost use Rattle.std.specs.Prelude.{◌≡◌, ◌<◌, ◌^◌, IfOk, MatchOption, OnErr, codes, false, is_some, length, true};
+ghost use Rattle.std.specs.Prelude.{◌≡◌, ◌<◌, ◌^◌, IfOk, MatchOption, OnErr, codes, false, length, true};
 ghost use Rattle.std.specs.Str.{is_utf8};
-ghost use Rattle.query_meaning.specs.Requests.{MayTakeMemory, argument_of, has_one_of, unbuilt_commands};
+ghost use Rattle.query_meaning.specs.Requests.{MayTakeMemory, argument_of};
 ghost use Rattle.input_lines.specs.Asked.{Asks, AsksOnly, asked};
 ghost use Rattle.input_lines.specs.Requests.{IsOnly, IsRequest};
 
 use crate::argument::{argument_of, is_blank};
-use command_arguments::{AppendArgument, ReadFault, read_append, read_blank, read_position};
+use command_arguments::{
+    AppendArgument, ReadFault, read_append, read_blank, read_name, read_position,
+};
 use mdx_reader::{Query, QueryFault, read_query};
-use olap_meaning::OutOfMemory;
+use olap_meaning::{OutOfMemory, Text};
 use region_reader::{RegionText, RegionTextFault, read_region};
 use std::alloc::Global;
 use std::str;
@@ -34,10 +36,10 @@ pub enum Request {
     Ask(Query),
     /// That a region of a cube is flushed.
     Flush(RegionText),
+    /// That the aggregate table of this name is built.
+    Agg(Text),
     /// To be shown what is kept.
     Show,
-    /// What is not built.
-    Unbuilt,
 }
 
 // A line as a text, where it is UTF-8.
@@ -49,20 +51,6 @@ fn text_of(line: &[u8]) -> Option<&str>
         Ok(text) => Some(text),
         Err(_) => None,
     }
-}
-
-// Whether a line has a command, by the command's word in capital letters.
-fn has_command(word: &str, line: &str) -> bool
-    ensures { result ≡ is_some (argument_of word.now line.now) }
-{
-    argument_of(word, line).is_some()
-}
-
-// Whether a line has a command of which nothing is built.
-fn has_unbuilt_command(line: &str) -> bool
-    ensures { result ≡ has_one_of unbuilt_commands line.now }
-{
-    has_command("AGG", line)
 }
 
 // What the command MDX with this argument asks for.
@@ -99,6 +87,18 @@ fn ask_flush(alloc: Global, argument: &str) -> Result<Request, OutOfMemory>
         Ok(flush) => Ok(Request::Flush(flush)),
         Err(RegionTextFault::SyntaxAt { byte }) => Ok(Request::Stops(byte)),
         Err(RegionTextFault::OutOfMemory) => Err(OutOfMemory),
+    }
+}
+
+// What the command AGG with this argument asks for.
+fn ask_agg(alloc: Global, argument: &str) -> Result<Request, OutOfMemory>
+    ensures request { IfOk result (λ request. Asks (codes "AGG") argument.now (asked request)) }
+    ensures one { IfOk result (λ request. AsksOnly (codes "AGG") argument.now (asked request)) }
+{
+    match read_name(alloc, argument) {
+        Ok(name) => Ok(Request::Agg(name)),
+        Err(ReadFault::StopsAt { byte }) => Ok(Request::Stops(byte)),
+        Err(ReadFault::OutOfMemory) => Err(OutOfMemory),
     }
 }
 
@@ -141,7 +141,7 @@ fn ask_quit(alloc: Global, argument: &str) -> Result<Request, OutOfMemory>
     }
 }
 
-/// The one thing that a line asks for. Only a line with the command MDX, APPEND or FLUSH takes memory.
+/// The one thing that a line asks for. Only a line with the command MDX, APPEND, FLUSH or AGG takes memory.
 pub fn read_request(alloc: Global, line: &[u8]) -> Result<Request, OutOfMemory>
     requires { length line.now < 2 ^ 32 }
     ensures request { IfOk result (λ request. IsRequest line.now (asked request)) }
@@ -163,6 +163,9 @@ pub fn read_request(alloc: Global, line: &[u8]) -> Result<Request, OutOfMemory>
     if let Some(argument) = argument_of("FLUSH", text) {
         return ask_flush(alloc, argument);
     }
+    if let Some(argument) = argument_of("AGG", text) {
+        return ask_agg(alloc, argument);
+    }
     if let Some(argument) = argument_of("CACHE", text) {
         return ask_show(alloc, argument);
     }
@@ -171,9 +174,6 @@ pub fn read_request(alloc: Global, line: &[u8]) -> Result<Request, OutOfMemory>
     }
     if let Some(argument) = argument_of("QUIT", text) {
         return ask_quit(alloc, argument);
-    }
-    if has_unbuilt_command(text) {
-        return Ok(Request::Unbuilt);
     }
     Ok(Request::NoCommand)
 }

@@ -4,9 +4,9 @@ use Rattle.std.specs.Prelude.{ℕ, ◌==◌, List, [], ◌∷◌, length, nat_lt
 use Rattle.std.specs.Option.{option_map_or}
 use Rattle.olap_meaning.specs.declared.tables.Catalog.{Catalog}
 use Rattle.olap_meaning.specs.Catalog.{table_cube}
-use Rattle.olap_meaning.specs.History.{Entry, rows_of, version}
+use Rattle.olap_meaning.specs.History.{Entry, version}
 use Rattle.agg_tables.specs.Tables.{TableOf, groups_in}
-use Rattle.load_costs.specs.Costs.{table_built}
+use Rattle.load_costs.specs.Costs.{table_built, version_rows}
 
 -- a table among others that stand in the order of the schema: it stands in the place of its declaration, and an earlier one
 -- of its declaration gives way
@@ -26,11 +26,6 @@ groups_built catalog history table =
 abbrev pub present_version : Catalog → List Entry → ℕ → ℕ
 present_version catalog history table =
     option_map_or (version history) (table_cube catalog table) 0
-
--- how many rows a version of the cube of a table has
-abbrev pub version_rows : Catalog → List Entry → ℕ → ℕ → ℕ
-version_rows catalog history table v =
-    option_map_or (λ cube. length (rows_of history cube v)) (table_cube catalog table) 0
 
 -- how many rows the present version has
 abbrev pub present_rows : Catalog → List Entry → ℕ → ℕ

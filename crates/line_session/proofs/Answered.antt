@@ -1,22 +1,23 @@
--- A query that means axes is answered by the grid of an answer to their cells, a flush by what it means, and a look by
--- what is kept.
-use Rattle.std.proofs.Common.{◌≡◌, ◌≢◌, refl, sym, ap, subst, ◌⊎◌, ℕ, List, true, false, codes, bytes_eq, is_some, Option, None, Result, Ok, Err, inl, inr, arith}
+-- A query that means axes is answered by the grid of an answer to their cells, a flush by what it means, an AGG by the
+-- table of its name, and a look by what is kept.
+use Rattle.std.proofs.Common.{◌≡◌, ◌≢◌, refl, sym, ap, subst, ◌⊎◌, ℕ, List, true, false, codes, bytes_eq, is_some, Option, Some, None, Result, Ok, Err, inl, inr, arith}
 use Rattle.std.specs.Option.{option_map_or}
 use Rattle.olap_meaning.specs.declared.regions.Region.{Region}
+use Rattle.olap_meaning.specs.Catalog.{find_agg}
 use Rattle.query_meaning.specs.declared.axes.Axes.{Axes}
 use Rattle.query_meaning.specs.declared.query.Query.{Query}
 use Rattle.query_meaning.specs.AxisCells.{cells_of}
 use Rattle.query_meaning.specs.RegionMeaning.{RegionRefusal, flush_meant}
 use Rattle.query_meaning.specs.RegionReplies.{cube_named}
-use Rattle.query_meaning.specs.Replies.{flushed_reply, no_memory_reply}
+use Rattle.query_meaning.specs.Replies.{built_reply, flushed_reply, no_memory_reply}
 use Rattle.query_meaning.specs.Requests.{MayTakeMemory, argument_of, is_blank, is_show}
 use Rattle.query_meaning.specs.Resolution.{Refusal, axes_meant}
 use Rattle.history_core.specs.declared.answers.Answer.{Answer}
-use Rattle.input_lines.specs.Requests.{Request, Ask, Flush, Show}
+use Rattle.input_lines.specs.Requests.{Request, Ask, Flush, Agg, Show}
 use Rattle.input_lines.proofs.Commands.{no_other}
-use Rattle.line_session.specs.Answered.{FlushesAreAnswered, LooksAreAnswered, QueriesAreAnswered}
+use Rattle.line_session.specs.Answered.{AggsAreAnswered, FlushesAreAnswered, LooksAreAnswered, QueriesAreAnswered}
 use Rattle.line_session.specs.Desks.{AddsNone, HasAsked}
-use Rattle.line_session.specs.Replies.{AnswersFlush, AnswersLine, AnswersMeaning, AnswersRequest, AnswersShow, Dealing, IsGridOf, LeavesUnread, StandsStill, catalog_of}
+use Rattle.line_session.specs.Replies.{AnswersAgg, AnswersFlush, AnswersLine, AnswersMeaning, AnswersRequest, AnswersShow, Dealing, IsGridOf, LeavesUnread, StandsStill, catalog_of}
 use Rattle.line_session.specs.Tools.{ToolsOf}
 use Rattle.line_session.proofs.GoingOn.{adds_none}
 use Rattle.line_session.proofs.Wanting.{differ}
@@ -75,6 +76,32 @@ flushes_answered tools dealing handled argument text handles utf8 command writes
     answers : AnswersFlush dealing cube meant handled.position handled.reply
     answers = by handles.answers
 
+-- an AGG that was not read: nothing was added
+unread_agg : (dealing : Dealing) (name : List ℕ) (table : Option ℕ) (position : Option ℕ) (reply : List ℕ) → StandsStill dealing position → reply ≡ no_memory_reply → AnswersAgg dealing name table position reply
+unread_agg dealing name (Some table) position reply still told =
+    (still.unasked, inr (record { adds = subst (AddsNone dealing.before) (sym still.same) (adds_none dealing.before); none = still.none; no_memory = told }))
+unread_agg dealing name None position reply still told = (still, inr told)
+
+-- where want of memory is replied to an AGG, no entry was made
+lacks_table : (dealing : Dealing) (name : List ℕ) (table : Option ℕ) (position : Option ℕ) (reply : List ℕ) → AnswersAgg dealing name table position reply → reply ≡ no_memory_reply → AddsNone dealing.before dealing.after × (position ≡ None)
+lacks_table dealing name (Some table) position reply (unasked, inl gives) told = absurd (differ 0 (built_reply gives.built.position gives.built.version gives.built.groups) no_memory_reply (λ same. omega arith) reply gives.text told)
+lacks_table dealing name (Some table) position reply (unasked, inr lacks) told = (lacks.adds, lacks.none)
+lacks_table dealing name None position reply (still, refuses) told = (subst (AddsNone dealing.before) (sym still.same) (adds_none dealing.before), still.none)
+
+pub aggs_answered : (tools : ToolsOf) → AggsAreAnswered tools
+aggs_answered tools dealing handled argument name handles utf8 command writes =
+    record { answers = answers; lack = lacks_table dealing name table handled.position handled.reply answers }
+  where
+    table : Option ℕ
+    table = find_agg (catalog_of dealing.before) name
+
+    by : AnswersLine tools dealing handled ⊎ LeavesUnread dealing handled → AnswersAgg dealing name table handled.position handled.reply
+    by (inl line) = subst (λ (r : Request). AnswersRequest tools dealing r handled.position handled.reply) (sym (line.only (Agg name) (utf8, record { argument = argument; command = command; writes = writes }))) line.answers
+    by (inr unread) = unread_agg dealing name table handled.position handled.reply unread.nothing unread.no_memory
+
+    answers : AnswersAgg dealing name table handled.position handled.reply
+    answers = by handles.answers
+
 -- a line that asks for what is kept has none of the commands whose argument may take memory
 shown_without : (word line : List ℕ) → bytes_eq word (codes "CACHE") ≡ false → is_some (argument_of word line) ≡ true → is_show line ≡ true → ⊥
 shown_without word line other has show =
@@ -83,7 +110,8 @@ shown_without word line other has show =
 takes_none : (line : List ℕ) → MayTakeMemory line → is_show line ≡ true → ⊥
 takes_none line (utf8, inl mdx) show = shown_without (codes "MDX") line refl mdx show
 takes_none line (utf8, inr (inl append)) show = shown_without (codes "APPEND") line refl append show
-takes_none line (utf8, inr (inr flush)) show = shown_without (codes "FLUSH") line refl flush show
+takes_none line (utf8, inr (inr (inl flush))) show = shown_without (codes "FLUSH") line refl flush show
+takes_none line (utf8, inr (inr (inr agg))) show = shown_without (codes "AGG") line refl agg show
 
 pub looks_answered : (tools : ToolsOf) → LooksAreAnswered tools
 looks_answered tools dealing handled handles utf8 show = by handles.answers

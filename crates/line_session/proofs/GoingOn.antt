@@ -1,7 +1,7 @@
 -- What is seen goes on, whatever is replied.
 use Rattle.std.proofs.Common.{◌≡◌, refl, sym, ap, subst, ℕ, List, [], append-nil, Option, Some, None, Result, Ok, Err, inl, inr}
 use Rattle.olap_meaning.specs.declared.regions.Region.{Region}
-use Rattle.olap_meaning.specs.Catalog.{find_cube}
+use Rattle.olap_meaning.specs.Catalog.{find_agg, find_cube}
 use Rattle.olap_meaning.specs.History.{Entry}
 use Rattle.query_meaning.specs.declared.axes.Axes.{Axes}
 use Rattle.query_meaning.specs.RegionMeaning.{RegionRefusal, flush_meant}
@@ -10,13 +10,13 @@ use Rattle.query_meaning.specs.Resolution.{Refusal, axes_meant}
 use Rattle.outside.specs.declared.depot.DepotRefusal.{DepotRefusal}
 use Rattle.outside.specs.declared.depot.DepotRefusal.TheVariants as depot
 use Rattle.command_arguments.specs.declared.append.AppendArgument.{AppendArgument}
-use Rattle.input_lines.specs.Requests.{Request, NotText, Blank, NoCommand, Stops, Quit, After, Append, Ask, Flush, Show, Unbuilt}
+use Rattle.input_lines.specs.Requests.{Request, NotText, Blank, NoCommand, Stops, Quit, After, Append, Ask, Flush, Agg, Show}
 use Rattle.fact_rows.specs.BatchFiles.{batch_of}
 use Rattle.fact_rows.specs.declared.fault.BatchFault.{BatchFault}
 use Rattle.fact_versions.specs.FactRows.{FactRows}
 use Rattle.history_core.specs.Cache.{CacheOf}
 use Rattle.line_session.specs.Desks.{AddsNone, DeskOf, GoesOn, GoesOnBy}
-use Rattle.line_session.specs.Replies.{AnswersAppend, AnswersFlush, AnswersMeaning, AnswersRequest, AnswersShow, AppendsFile, AppendsRows, Dealing, catalog_of}
+use Rattle.line_session.specs.Replies.{AnswersAgg, AnswersAppend, AnswersFlush, AnswersMeaning, AnswersRequest, AnswersShow, AppendsFile, AppendsRows, Dealing, catalog_of}
 use Rattle.line_session.specs.Tools.{ToolsOf}
 
 -- a desk that was not asked goes on by nothing
@@ -31,7 +31,7 @@ stands desk = record {
 pub adds_none : (desk : DeskOf) → AddsNone desk desk
 adds_none desk = record { more = []; goes_on = stands desk; none = refl; fronts = refl }
 
-same_goes_on : (before after : DeskOf) → after ≡ before → GoesOn before after
+pub same_goes_on : (before after : DeskOf) → after ≡ before → GoesOn before after
 same_goes_on before after same = subst (GoesOn before) (sym same) ([], stands before)
 
 none_goes_on : (before after : DeskOf) → AddsNone before after → GoesOn before after
@@ -66,6 +66,11 @@ flush_goes_on around cube (Ok region) position reply (inl gives) = (_, gives.flu
 flush_goes_on around cube (Ok region) position reply (inr lacks) = none_goes_on around.before around.after lacks.0.adds
 flush_goes_on around cube (Err refused) position reply is = same_goes_on around.before around.after is.0.same
 
+agg_goes_on : (around : Dealing) (name : List ℕ) (table : Option ℕ) (position : Option ℕ) (reply : List ℕ) → AnswersAgg around name table position reply → GoesOn around.before around.after
+agg_goes_on around name (Some table) position reply (unasked, inl gives) = (_, gives.builds.adds.goes_on)
+agg_goes_on around name (Some table) position reply (unasked, inr lacks) = none_goes_on around.before around.after lacks.adds
+agg_goes_on around name None position reply is = same_goes_on around.before around.after is.0.same
+
 show_goes_on : (around : Dealing) (position : Option ℕ) (reply : List ℕ) → AnswersShow around position reply → GoesOn around.before around.after
 show_goes_on around position reply (unasked, inl gives) = (_, gives.shows.adds.goes_on)
 show_goes_on around position reply (unasked, inr lacks) = none_goes_on around.before around.after lacks.adds
@@ -82,9 +87,5 @@ request_goes_on tools around (Append argument) position reply is = append_goes_o
 request_goes_on tools around (Ask query) position reply is = meaning_goes_on tools around (axes_meant (catalog_of around.before) query) position reply is.1
 request_goes_on tools around (Flush text) position reply is =
     flush_goes_on around (cube_named (catalog_of around.before) text) (flush_meant (catalog_of around.before) text) position reply is
+request_goes_on tools around (Agg name) position reply is = agg_goes_on around name (find_agg (catalog_of around.before) name) position reply is
 request_goes_on tools around Show position reply is = show_goes_on around position reply is
-request_goes_on tools around Unbuilt position reply is = same_goes_on around.before around.after is.0.same
-
--- and where nothing of it was read
-pub still_goes_on : (desk : DeskOf) → GoesOn desk desk
-still_goes_on desk = ([], stands desk)

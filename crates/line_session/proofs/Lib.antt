@@ -3,12 +3,14 @@ pub mod LineEnds
 pub mod Replying
 pub mod Appending
 pub mod Flushing
+pub mod Building
 pub mod Wanting
 pub mod Handling
 pub mod Taking
+pub mod TurnLines
 pub mod Conversing
+pub mod SessionReads
 pub mod Sending
 pub mod Serving
 pub mod Rows
 pub mod Answered
-pub mod Unbuilt

@@ -2,15 +2,15 @@
 use Rattle.std.proofs.Common.{◌≡◌, refl, ◌∙◌, ap, ℕ, List, Bool, true, false, ◌&&◌, codes, bytes_eq, is_some, Option, Some, None, inl, inr}
 use Rattle.std.specs.Option.{option_map_or}
 use Rattle.std.specs.Str.{is_utf8}
-use Rattle.query_meaning.specs.Requests.{MayTakeMemory, argument_of, has_one_of, commands, is_blank, is_quit, unbuilt_commands}
+use Rattle.query_meaning.specs.Requests.{MayTakeMemory, argument_of, has_one_of, commands, is_blank, is_quit}
 use Rattle.text_forms.specs.Forms.{Writes}
 use Rattle.command_arguments.specs.Blank.{IsBlank}
 use Rattle.input_lines.specs.Asked.{asked}
 use Rattle.input_lines.specs.declared.request.Request.{Request as Read}
 use Rattle.input_lines.specs.declared.request.Request.TheVariants as read
-use Rattle.input_lines.specs.Requests.{Request, NotText, Blank, NoCommand, Stops, Quit, After, Append, Ask, Flush, Show, Unbuilt, IsRequest, Stopped}
+use Rattle.input_lines.specs.Requests.{Request, NotText, Blank, NoCommand, Stops, Quit, After, Append, Ask, Flush, Agg, Show, IsRequest, Stopped}
 use Rattle.input_lines.proofs.Arguments.{writes_blank}
-use Rattle.input_lines.proofs.Commands.{built_no, has_none, has_some, no_other, none_in_blank, show_has}
+use Rattle.input_lines.proofs.Commands.{has_none, has_some, no_other, none_in_blank, show_has}
 use Rattle.line_session.specs.Sessions.{ends_session}
 
 -- a blank line is no QUIT
@@ -41,12 +41,10 @@ stopped : (line : List ℕ) (byte : ℕ) → Stopped line byte → is_quit line 
 stopped line byte (inl mdx) = other_command (codes "MDX") line refl (has_some _ mdx.argument mdx.command)
 stopped line byte (inr (inl append)) = other_command (codes "APPEND") line refl (has_some _ append.argument append.command)
 stopped line byte (inr (inr (inl flush))) = other_command (codes "FLUSH") line refl (has_some _ flush.argument flush.command)
-stopped line byte (inr (inr (inr (inl show)))) = other_command (codes "CACHE") line refl (has_some _ show.argument show.command)
-stopped line byte (inr (inr (inr (inr (inl after))))) = other_command (codes "AFTER") line refl (has_some _ after.argument after.command)
-stopped line byte (inr (inr (inr (inr (inr quit))))) = not_blank line quit.argument quit.command (quit.stops.none tt)
-
-unbuilt : (line : List ℕ) → has_one_of unbuilt_commands line ≡ true → is_quit line ≡ false
-unbuilt line has = ap (λ o. option_map_or is_blank o false) (built_no (codes "QUIT") line refl has)
+stopped line byte (inr (inr (inr (inl agg)))) = other_command (codes "AGG") line refl (has_some _ agg.argument agg.command)
+stopped line byte (inr (inr (inr (inr (inl show))))) = other_command (codes "CACHE") line refl (has_some _ show.argument show.command)
+stopped line byte (inr (inr (inr (inr (inr (inl after)))))) = other_command (codes "AFTER") line refl (has_some _ after.argument after.command)
+stopped line byte (inr (inr (inr (inr (inr (inr quit)))))) = not_blank line quit.argument quit.command (quit.stops.none tt)
 
 no_end : (line : List ℕ) → is_quit line ≡ false → ends_session line ≡ false
 no_end line none = by (is_utf8 line) (is_quit line) none
@@ -70,14 +68,15 @@ goes_on line (After n) is other = no_end line (other_command (codes "AFTER") lin
 goes_on line (Append argument) is other = no_end line (other_command (codes "APPEND") line refl (has_some _ is.1.argument is.1.command))
 goes_on line (Ask query) is other = no_end line (other_command (codes "MDX") line refl (has_some _ is.1.argument is.1.command))
 goes_on line (Flush text) is other = no_end line (other_command (codes "FLUSH") line refl (has_some _ is.1.argument is.1.command))
+goes_on line (Agg name) is other = no_end line (other_command (codes "AGG") line refl (has_some _ is.1.argument is.1.command))
 goes_on line Show is other = no_end line (other_command (codes "CACHE") line refl (show_has line is.1))
-goes_on line Unbuilt is other = no_end line (unbuilt line is.1)
 
 -- a line that may take memory to read does not
 pub lacking : (line : List ℕ) → MayTakeMemory line → ends_session line ≡ false
 lacking line (utf8, inl mdx) = no_end line (other_command (codes "MDX") line refl mdx)
 lacking line (utf8, inr (inl append)) = no_end line (other_command (codes "APPEND") line refl append)
-lacking line (utf8, inr (inr flush)) = no_end line (other_command (codes "FLUSH") line refl flush)
+lacking line (utf8, inr (inr (inl flush))) = no_end line (other_command (codes "FLUSH") line refl flush)
+lacking line (utf8, inr (inr (inr agg))) = no_end line (other_command (codes "AGG") line refl agg)
 
 -- what was read asks for the end only where it is that
 pub asks_for_end : (request : Read) → asked request ≡ Quit → request ≡ read.Quit
@@ -90,5 +89,5 @@ asks_for_end (read.After n) is = absurd (let n : ⊥ = cc in n)
 asks_for_end (read.Append argument) is = absurd (let n : ⊥ = cc in n)
 asks_for_end (read.Ask query) is = absurd (let n : ⊥ = cc in n)
 asks_for_end (read.Flush text) is = absurd (let n : ⊥ = cc in n)
+asks_for_end (read.Agg name) is = absurd (let n : ⊥ = cc in n)
 asks_for_end read.Show is = absurd (let n : ⊥ = cc in n)
-asks_for_end read.Unbuilt is = absurd (let n : ⊥ = cc in n)

@@ -1,5 +1,5 @@
 -- The reply to a query is the grid of its answer, its refusal, or that there was no memory.
-use Rattle.std.proofs.Common.{◌≡◌, refl, sym, subst, ℕ, ◌⊎◌, List, [], Option, Some, None, Result, Ok, Err, inl, inr}
+use Rattle.std.proofs.Common.{◌≡◌, refl, sym, subst, ℕ, ◌⊎◌, List, [], Option, Some, None, Result, Ok, Err, inl, inr, arith}
 use Rattle.std.specs.Prelude.{IfOk, MatchResult}
 use Rattle.std.specs.Option.{IsSomeAnd}
 use Rattle.std.proofs.lemmas.List.Elements.{All-nil}
@@ -20,7 +20,7 @@ use Rattle.result_layout.specs.Axes.{values_of}
 use Rattle.outside.specs.Fetched.{Fetched}
 use Rattle.outside.specs.Told.{AreTheirs, Files, IsOf}
 use Rattle.line_session.specs.Desks.{DeskOf, HasAsked, HasNotAsked}
-use Rattle.line_session.specs.Replies.{AnswersMeaning, Dealing, GivesGrid, IsGridOf, StandsStill}
+use Rattle.line_session.specs.Replies.{AnswersMeaning, AreCosts, Dealing, GivesGrid, IsGridOf, StandsStill}
 use Rattle.line_session.specs.Tools.{ToolsOf}
 
 abbrev pub between : DeskOf → DeskOf → List Fetched → Dealing
@@ -28,6 +28,10 @@ between before after asked = record { before = before; after = after; asked = as
 
 pub stands_still : (desk : DeskOf) → StandsStill (between desk desk []) None
 stands_still desk = record { same = refl; unasked = refl; none = refl }
+
+-- where nothing was read, at most what the entries cost was
+pub costs_nothing : (desk : DeskOf) → AreCosts (between desk desk []) None 0
+costs_nothing desk = ((λ some. absurd (cc some)), omega arith)
 
 -- a text that was made is written so, and has the form
 grid_whole : (tools : ToolsOf) (catalog : Catalog) (axes : Axes) (answer : Answer) (made : Result (List ℕ) OutOfMemory) → IfOk made (IsGridText tools.texts (grid_of catalog axes answer.position (values_of answer.cells)))

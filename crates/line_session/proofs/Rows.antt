@@ -1,5 +1,5 @@
--- What the loads cost that a seat has started: first, and then.
-use Rattle.std.proofs.Common.{◌≡◌, refl, sym, ◌∙◌, ap, ℕ, ◌+◌, List, [], ◌∷◌, ◌++◌, append_assoc, append-nil, drop, length}
+-- What entries cost a seat: first, and then.
+use Rattle.std.proofs.Common.{◌≡◌, sym, ◌∙◌, ap, ℕ, ◌+◌, List, ◌++◌, append_assoc, drop, length}
 use Rattle.std.proofs.lemmas.List.Elements.{filter-append}
 use Rattle.std.proofs.Math.Seq.{drop-append_seam}
 use Rattle.olap_meaning.specs.declared.tables.Catalog.{Catalog}
@@ -9,27 +9,11 @@ use Rattle.load_costs.specs.Costs.{seat_costs}
 use Rattle.load_costs.proofs.CostFacts.{costs-append}
 use Rattle.history_core.specs.Seats.{entries_of}
 use Rattle.history_core.specs.Cache.{CacheOf}
-use Rattle.line_session.specs.Desks.{DeskOf, GoesOn, costs_between, costs_started, with_more}
+use Rattle.line_session.specs.Desks.{DeskOf, GoesOn, costs_between, costs_behind, with_more}
 
--- what a seat's loads cost that were started behind a history
-pub started_are : (catalog : Catalog) (seat : ℕ) (before final more : List Entry) → final ≡ before ++ more → costs_started catalog seat before final ≡ seat_costs catalog seat before more
+-- what the entries behind a history cost a seat
+pub started_are : (catalog : Catalog) (seat : ℕ) (before final more : List Entry) → final ≡ before ++ more → costs_behind catalog seat before final ≡ seat_costs catalog seat before more
 started_are catalog seat before final more grown = ap (seat_costs catalog seat before) (ap (drop (length before)) grown ∙ drop-append_seam before more)
-
--- nothing is read where nothing is added
-pub costs_none : (desk : DeskOf) → costs_between desk desk ≡ 0
-costs_none desk = started_are desk.cache.setting.catalog desk.seat desk.cache.entries desk.cache.entries [] (sym (append-nil desk.cache.entries))
-
--- what is seen goes on by nothing
-pub goes_on_none : (desk : DeskOf) → GoesOn desk desk
-goes_on_none desk = (
-  [],
-  record {
-    cache = ap (λ (es : List Entry). record desk.cache { entries = es }) (sym (append-nil desk.cache.entries));
-    seat = refl;
-    alone = refl;
-    own = λ alone. refl;
-  },
-)
 
 -- from one to the next, and on
 pub on_and_on : (before middle after : DeskOf) → GoesOn before middle → GoesOn middle after → GoesOn before after
@@ -51,7 +35,7 @@ on_and_on before middle after (first, one) (then, two) = (
 pub same_setting : (before after : DeskOf) → GoesOn before after → after.cache.setting ≡ before.cache.setting
 same_setting before after (more, by) = ap (λ (cache : CacheOf). cache.setting) by.cache
 
--- what the loads cost that were started, first and then
+-- what entries cost, first and then
 pub costs_joined : (before middle after : DeskOf) → GoesOn before middle → GoesOn middle after → costs_between before after ≡ costs_between before middle + costs_between middle after
 costs_joined before middle after (first, one) (then, two) =
     started_are catalog before.seat before.cache.entries after.cache.entries (first ++ then) whole

@@ -1,9 +1,9 @@
--- That there was no memory is replied to four commands alone.
+-- That there was no memory is replied to five commands alone.
 use Rattle.std.proofs.Common.{◌≡◌, sym, ◌∙◌, ap, ℕ, List, [], Bool, true, false, Option, get_or, inl, inr, nat_le, arith, if◌then◌else◌}
 use Rattle.std.specs.Option.{is_some}
-use Rattle.query_meaning.specs.Replies.{no_command_reply, no_memory_reply, not_text_reply, not_yet_reply, quit_reply, seen_reply, syntax_reply, unbuilt_reply}
+use Rattle.query_meaning.specs.Replies.{no_command_reply, no_memory_reply, not_text_reply, not_yet_reply, quit_reply, seen_reply, syntax_reply}
 use Rattle.query_meaning.specs.Requests.{MayFindNoMemory}
-use Rattle.input_lines.specs.Requests.{Request, NotText, Blank, NoCommand, Stops, Quit, After, Append, Ask, Flush, Show, Unbuilt, IsRequest}
+use Rattle.input_lines.specs.Requests.{Request, NotText, Blank, NoCommand, Stops, Quit, After, Append, Ask, Flush, Agg, Show, IsRequest}
 use Rattle.line_session.specs.Replies.{AnswersRequest, Dealing, front_reply}
 use Rattle.line_session.specs.Tools.{ToolsOf}
 
@@ -27,6 +27,6 @@ lack tools around line Quit position reply asks is told = absurd (differ 0 quit_
 lack tools around line (After n) position reply asks is told = absurd (told_front n is.front reply is.text told)
 lack tools around line (Append argument) position reply asks is told = inl (asks.0, inr (inl (ap is_some asks.1.command)))
 lack tools around line (Ask query) position reply asks is told = inl (asks.0, inl (ap is_some asks.1.command))
-lack tools around line (Flush text) position reply asks is told = inl (asks.0, inr (inr (ap is_some asks.1.command)))
+lack tools around line (Flush text) position reply asks is told = inl (asks.0, inr (inr (inl (ap is_some asks.1.command))))
+lack tools around line (Agg name) position reply asks is told = inl (asks.0, inr (inr (inr (ap is_some asks.1.command))))
 lack tools around line Show position reply asks is told = inr asks
-lack tools around line Unbuilt position reply asks is told = absurd (differ 5 unbuilt_reply no_memory_reply (λ same. omega arith) reply is.1 told)

@@ -1,20 +1,23 @@
--- What follows for a query, a flush, a look and what is not built from what a session replies to a line.
-use Rattle.std.specs.Prelude.{ℕ, ◌≡◌, ◌≢◌, ◌↔◌, List, true, Some, None, Ok, codes}
+-- What follows for a query, a flush, a look and an aggregate table from what a session replies to a line.
+use Rattle.std.specs.Prelude.{ℕ, ◌≡◌, ◌≢◌, List, true, Some, None, Ok, codes}
 use Rattle.std.specs.Str.{is_utf8}
+use Rattle.olap_meaning.specs.Catalog.{find_agg}
 use Rattle.query_meaning.specs.declared.axes.Axes.{Axes}
 use Rattle.query_meaning.specs.declared.query.Query.{Query}
 use Rattle.query_meaning.specs.declared.region_text.RegionText.{RegionText}
 use Rattle.query_meaning.specs.AxisCells.{cells_of}
 use Rattle.query_meaning.specs.RegionMeaning.{flush_meant}
 use Rattle.query_meaning.specs.RegionReplies.{cube_named}
-use Rattle.query_meaning.specs.Replies.{no_memory_reply, unbuilt_reply}
-use Rattle.query_meaning.specs.Requests.{argument_of, has_one_of, is_show, unbuilt_commands}
+use Rattle.query_meaning.specs.Replies.{no_memory_reply}
+use Rattle.query_meaning.specs.Requests.{argument_of, is_show}
 use Rattle.query_meaning.specs.Resolution.{axes_meant}
 use Rattle.query_meaning.specs.WholeFlushes.{WritesFlush}
 use Rattle.query_meaning.specs.WholeQueries.{WritesQuery}
+use Rattle.text_forms.specs.Forms.{Writes}
+use Rattle.command_arguments.specs.Name.{IsName}
 use Rattle.history_core.specs.declared.answers.Answer.{Answer}
 use Rattle.line_session.specs.Desks.{AddsNone, HasAsked}
-use Rattle.line_session.specs.Replies.{AnswersFlush, AnswersShow, Dealing, Handled, Handles, IsGridOf, catalog_of}
+use Rattle.line_session.specs.Replies.{AnswersAgg, AnswersFlush, AnswersShow, Dealing, Handled, Handles, IsGridOf, catalog_of}
 use Rattle.line_session.specs.Tools.{ToolsOf}
 
 -- where a line of text is a query that means axes, and no want of memory is replied, the reply is the grid of an answer to
@@ -57,9 +60,19 @@ LooksAreAnswered tools =
     → is_utf8 handled.line ≡ true → is_show handled.line ≡ true
     → AnswersShow dealing handled.position handled.reply
 
--- that something is not built is replied to just the lines of text with a command of which nothing is
-abbrev pub UnbuiltIsReplied : ToolsOf → Type 0
-UnbuiltIsReplied tools =
-    (dealing : Dealing) (handled : Handled) → Handles tools dealing handled
-    → (handled.reply ≡ unbuilt_reply)
-    ↔ ((is_utf8 handled.line ≡ true) × (has_one_of unbuilt_commands handled.line ≡ true))
+-- a line that is an AGG of this name was answered by the table that the name means: where it means one, this is built, and the
+-- reply tells the position of the entry, the version and the groups; where it means none, nothing is added, and the reply
+-- tells the name; and where want of memory is replied, no entry was made
+pub record AggIsAnswered (dealing : Dealing) (name : List ℕ) (handled : Handled) : Type 0 where
+  pub answers : AnswersAgg dealing name (find_agg (catalog_of dealing.before) name)
+      handled.position handled.reply
+  pub lack : handled.reply ≡ no_memory_reply
+      → AddsNone dealing.before dealing.after × (handled.position ≡ None)
+
+-- a line of text that is an AGG is answered by the table that its name means
+abbrev pub AggsAreAnswered : ToolsOf → Type 0
+AggsAreAnswered tools =
+    (dealing : Dealing) (handled : Handled) (argument name : List ℕ)
+    → Handles tools dealing handled
+    → is_utf8 handled.line ≡ true → argument_of (codes "AGG") handled.line ≡ Some argument
+    → Writes IsName argument name → AggIsAnswered dealing name handled

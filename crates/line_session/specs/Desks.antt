@@ -11,6 +11,7 @@ use Rattle.olap_meaning.specs.History as history
 use Rattle.olap_meaning.specs.History.{Entry, Start, Done, Drop, Load, awaited_load, flying, load_at, version}
 use Rattle.olap_meaning.specs.Legal.{is_next_call}
 use Rattle.load_costs.specs.Costs.{seat_costs}
+use Rattle.installed_tables.specs.Installed.{groups_built, present_version}
 use Rattle.fact_versions.specs.Facts.{append_fault}
 use Rattle.fact_versions.specs.declared.faults.AppendFault.{AppendFault}
 use Rattle.fact_versions.specs.declared.faults.AppendFault.TheVariants as fault
@@ -21,6 +22,7 @@ use Rattle.history_core.specs.Groups.{AreHeadersFor, IsHeaderFor, alike, firsts,
 use Rattle.segment_header.specs.Widening.{Allowing}
 use Rattle.history_core.specs.Seats.{actor, entries_of}
 use Rattle.history_core.specs.Shown.{cache_lines}
+use Rattle.history_core.specs.declared.answers.AggBuilt.{AggBuilt}
 use Rattle.history_core.specs.declared.answers.Answer.{Answer}
 use Rattle.history_core.specs.declared.answers.Appended.{Appended}
 use Rattle.history_core.specs.declared.answers.CacheView.{CacheView}
@@ -227,6 +229,20 @@ pub record HasFlushed (before after : DeskOf) (region : Region) (position : ℕ)
   pub adds : AddsCall before after more (history.Flush who region)
   pub position_is : position ≡ length after.cache.entries
 
+-- an aggregate table of the schema was built: as the last entry, by the seat, of the version that its cube had then, and it has
+-- so many groups; none of the seat's loads was started or ended for it
+pub record HasBuilt (before after : DeskOf) (table : ℕ) (built : AggBuilt) : Type 0 where
+  pub who : Who
+  pub own : who.seat ≡ before.seat
+  pub more : List Entry
+  pub others : entries_of more before.seat ≡ []
+  pub adds : AddsCall before after more (history.Agg who table built.version)
+  pub version_is : built.version
+      ≡ present_version before.cache.setting.catalog (with_more before.cache more).entries table
+  pub position_is : built.position ≡ length after.cache.entries
+  pub groups_are : built.groups
+      ≡ groups_built before.cache.setting.catalog after.cache.entries table
+
 -- what is kept was shown: the look is the last entry, by the seat, and the lines are those of the entries before it
 pub record HasShown (before after : DeskOf) (view : CacheView) : Type 0 where
   pub who : Who
@@ -245,12 +261,12 @@ pub record HasReadFront (before after : DeskOf) (front : ℕ) : Type 0 where
   pub front_is : front ≡ length after.cache.entries
   pub fronts : after.fronts ≡ option_map (λ fronts. fronts ++ front ∷ []) before.fronts
 
--- what the loads cost that a seat has started behind a history, each by the entries before its Start
-abbrev pub costs_started : Catalog → ℕ → List Entry → List Entry → ℕ
-costs_started catalog seat before after =
+-- what the entries behind a history cost a seat: its loads, and the tables that it has built, each by the entries before it
+abbrev pub costs_behind : Catalog → ℕ → List Entry → List Entry → ℕ
+costs_behind catalog seat before after =
     seat_costs catalog seat before (drop (length before) after)
 
--- what the loads cost that a desk's seat has started between two states
+-- what the entries between two states cost a desk's seat
 abbrev pub costs_between : DeskOf → DeskOf → ℕ
 costs_between before after =
-    costs_started before.cache.setting.catalog before.seat before.cache.entries after.cache.entries
+    costs_behind before.cache.setting.catalog before.seat before.cache.entries after.cache.entries

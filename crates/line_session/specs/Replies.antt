@@ -1,7 +1,8 @@
 -- What a session replies to a line, and what the line adds to what is seen of a history.
-use Rattle.std.specs.Prelude.{ℕ, ◌≡◌, ◌⊎◌, ◌+◌, List, [], ◌∷◌, Option, Some, None, Result, Ok, Err, length, nat_le, if◌then◌else◌}
+use Rattle.std.specs.Prelude.{ℕ, ◌≡◌, ◌⊎◌, ◌+◌, ◌≤◌, List, [], ◌∷◌, Option, Some, None, Result, Ok, Err, length, nat_le, if◌then◌else◌}
+use Rattle.std.specs.Option.{IsSome, option_map_or}
 use Rattle.olap_meaning.specs.declared.tables.Catalog.{Catalog}
-use Rattle.olap_meaning.specs.Catalog.{find_cube}
+use Rattle.olap_meaning.specs.Catalog.{find_agg, find_cube}
 use Rattle.olap_meaning.specs.declared.regions.Region.{Region}
 use Rattle.olap_meaning.specs.History.{Entry}
 use Rattle.query_meaning.specs.declared.axes.Axes.{Axes}
@@ -10,35 +11,39 @@ use Rattle.query_meaning.specs.GridForm.{IsGridText, IsOfGrid}
 use Rattle.query_meaning.specs.Grids.{grid_of}
 use Rattle.query_meaning.specs.RegionMeaning.{RegionRefusal, flush_meant}
 use Rattle.query_meaning.specs.RegionReplies.{cube_named, flush_refusal_reply}
-use Rattle.query_meaning.specs.Replies.{flushed_reply, no_command_reply, no_cube_reply, no_file_reply, no_memory_reply, not_text_reply, not_yet_reply, quit_reply, refusal_reply, refused_batch_reply, seen_reply, source_reply, syntax_reply, unbuilt_reply, version_reply}
+use Rattle.query_meaning.specs.Replies.{built_reply, flushed_reply, no_command_reply, no_cube_reply, no_file_reply, no_memory_reply, no_table_reply, not_text_reply, not_yet_reply, quit_reply, refusal_reply, refused_batch_reply, seen_reply, source_reply, syntax_reply, version_reply}
 use Rattle.query_meaning.specs.Resolution.{Refusal, axes_meant}
 use Rattle.query_meaning.specs.Requests.{MayFindNoMemory, MayTakeMemory}
 use Rattle.outside.specs.Fetched.{Fetched}
 use Rattle.outside.specs.declared.depot.DepotRefusal.{DepotRefusal}
 use Rattle.outside.specs.declared.depot.DepotRefusal.TheVariants as depot
 use Rattle.command_arguments.specs.declared.append.AppendArgument.{AppendArgument}
-use Rattle.input_lines.specs.Requests.{Request, NotText, Blank, NoCommand, Stops, Quit, After, Append, Ask, Flush, Show, Unbuilt, IsRequest}
+use Rattle.input_lines.specs.Requests.{Request, NotText, Blank, NoCommand, Stops, Quit, After, Append, Ask, Flush, Agg, Show, IsRequest}
 use Rattle.fact_rows.specs.BatchFiles.{batch_of}
 use Rattle.fact_rows.specs.declared.fault.BatchFault.{BatchFault}
 use Rattle.fact_versions.specs.FactRows.{FactRows}
 use Rattle.fact_versions.specs.Facts.{append_fault}
 use Rattle.fact_versions.specs.declared.faults.AppendFault.{AppendFault}
 use Rattle.fault_texts.specs.FaultTexts.{refused_append_text, refused_batch_text}
+use Rattle.installed_tables.specs.Installed.{present_rows}
 use Rattle.history_core.specs.Arrivals.{arrival_in}
 use Rattle.history_core.specs.Shown.{cache_lines}
+use Rattle.history_core.specs.declared.answers.AggBuilt.{AggBuilt}
 use Rattle.history_core.specs.declared.answers.Answer.{Answer}
 use Rattle.history_core.specs.declared.answers.Appended.{Appended}
 use Rattle.history_core.specs.declared.answers.CacheView.{CacheView}
 use Rattle.result_layout.specs.Axes.{values_of}
 use Rattle.result_layout.specs.CacheTexts.{cache_text}
 use Rattle.line_session.specs.Tools.{ToolsOf}
-use Rattle.line_session.specs.Desks.{AddsNone, DeskOf, HasAppended, HasAsked, HasFlushed, HasReadFront, HasNotAsked, HasShown, with_more}
+use Rattle.line_session.specs.Desks.{AddsNone, DeskOf, HasAppended, HasAsked, HasBuilt, HasFlushed, HasReadFront, HasNotAsked, HasShown, costs_between, with_more}
 
--- a line that was handled: the line, the position of its entry, where it has one, and its reply
+-- a line that was handled: the line, the position of its entry, where it has one, its reply, and how many rows and groups
+-- were read for it
 pub record Handled : Type 0 where
   pub line : List ℕ
   pub position : Option ℕ
   pub reply : List ℕ
+  pub read : ℕ
 
 -- what is seen of a cache, and what a depot was asked for, around the handling of a line
 pub record Dealing : Type 0 where
@@ -188,6 +193,24 @@ AnswersFlush dealing cube (Err refused) position reply =
     × ((reply ≡ flush_refusal_reply (catalog_of dealing.before) cube refused)
     ⊎ (reply ≡ no_memory_reply))
 
+-- an aggregate table was built, and the reply tells the position of the entry, the version and the groups
+pub record GivesTable (dealing : Dealing) (table : ℕ) (position : Option ℕ)
+    (reply : List ℕ) : Type 0 where
+  pub built : AggBuilt
+  pub builds : HasBuilt dealing.before dealing.after table built
+  pub position_is : position ≡ Some built.position
+  pub text : reply ≡ built_reply built.position built.version built.groups
+
+-- the reply to an AGG, by the table of its name: it is built; or there was no memory for that, and no entry was made; and
+-- where no table has the name, nothing is built
+abbrev pub AnswersAgg : Dealing → List ℕ → Option ℕ → Option ℕ → List ℕ → Type 0
+AnswersAgg dealing name (Some table) position reply =
+    (dealing.asked ≡ [])
+    × (GivesTable dealing table position reply ⊎ LacksMemory dealing position reply)
+AnswersAgg dealing name None position reply =
+    StandsStill dealing position
+    × ((reply ≡ no_table_reply name) ⊎ (reply ≡ no_memory_reply))
+
 -- the text of what is kept at the end of a history, as the look that is its next entry finds it
 abbrev pub kept_text : Catalog → List Entry → List ℕ
 kept_text catalog history =
@@ -229,9 +252,35 @@ AnswersRequest tools dealing (Ask query) position reply =
 AnswersRequest tools dealing (Flush text) position reply =
     AnswersFlush dealing (cube_named (catalog_of dealing.before) text)
     (flush_meant (catalog_of dealing.before) text) position reply
+AnswersRequest tools dealing (Agg name) position reply =
+    AnswersAgg dealing name (find_agg (catalog_of dealing.before) name) position reply
 AnswersRequest tools dealing Show position reply = AnswersShow dealing position reply
-AnswersRequest tools dealing Unbuilt position reply =
-    StandsStill dealing position × (reply ≡ unbuilt_reply)
+
+-- what the entries cost its seat that are added around the handling of a line
+abbrev pub costs_of : Dealing → ℕ
+costs_of dealing = costs_between dealing.before dealing.after
+
+-- so many rows and groups were read: where a line has an entry, just what its entries cost; else at most that
+abbrev pub AreCosts : Dealing → Option ℕ → ℕ → Type 0
+AreCosts dealing position read =
+    (IsSome position → read ≡ costs_of dealing) × (read ≤ costs_of dealing)
+
+-- how many rows the version has that the cube of the table of a name has when a line has been handled; 0 where no table has
+-- the name
+abbrev pub rows_to_build : Dealing → List ℕ → ℕ
+rows_to_build dealing name =
+    option_map_or
+    (present_rows (catalog_of dealing.before) dealing.after.cache.entries)
+    (find_agg (catalog_of dealing.before) name) 0
+
+-- so many rows and groups were read for a line that asks for this: where it has an entry, what its entries cost; else at most
+-- that, and for a table that was not built at most the rows of its version. Nothing is read but for a query and an AGG
+abbrev pub IsRead : Dealing → Request → Option ℕ → ℕ → Type 0
+IsRead dealing (Ask query) position read = AreCosts dealing position read
+IsRead dealing (Agg name) position read =
+    (IsSome position → read ≡ costs_of dealing)
+    × (read ≤ costs_of dealing + rows_to_build dealing name)
+IsRead dealing request position read = read ≡ 0
 
 -- a line was read, which asks for this and for nothing else, and answered
 pub record AnswersLine (tools : ToolsOf) (dealing : Dealing) (handled : Handled) : Type 0 where
@@ -239,14 +288,16 @@ pub record AnswersLine (tools : ToolsOf) (dealing : Dealing) (handled : Handled)
   pub asks : IsRequest handled.line request
   pub only : (other : Request) → IsRequest handled.line other → other ≡ request
   pub answers : AnswersRequest tools dealing request handled.position handled.reply
+  pub reads : IsRead dealing request handled.position handled.read
 
--- there was no memory to read a line, whose command has an argument that may take memory; it added nothing
+-- there was no memory to read a line, whose command has an argument that may take memory; it added nothing, and read nothing
 pub record LeavesUnread (dealing : Dealing) (handled : Handled) : Type 0 where
   pub takes : MayTakeMemory handled.line
   pub nothing : StandsStill dealing handled.position
   pub no_memory : handled.reply ≡ no_memory_reply
+  pub unread : handled.read ≡ 0
 
--- a line was handled. That there was no memory is replied to four commands alone, and to one of them only where its
+-- a line was handled. That there was no memory is replied to five commands alone, and to one of them only where its
 -- argument is of its form
 pub record Handles (tools : ToolsOf) (dealing : Dealing) (handled : Handled) : Type 0 where
   pub answers : AnswersLine tools dealing handled ⊎ LeavesUnread dealing handled

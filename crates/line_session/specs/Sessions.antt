@@ -1,15 +1,16 @@
 -- A session: the lines of an input, one after another, each with its reply.
-use Rattle.std.specs.Prelude.{ℕ, ◌≡◌, ◌⊎◌, ◌++◌, ◌+◌, ◌-◌, ◌≤◌, ◌&&◌, List, [], ◌∷◌, Bool, true, not, Option, IfSome, flat_map, length, map, take}
+use Rattle.std.specs.Prelude.{ℕ, ◌≡◌, ◌⊎◌, ◌++◌, ◌+◌, ◌-◌, ◌≤◌, ◌&&◌, List, [], ◌∷◌, All, Bool, true, not, Option, IfSome, bytes_eq, codes, filter, flat_map, is_some, length, map, sum, sum_by, take}
 use Rattle.std.specs.List.{list_all}
 use Rattle.std.specs.Str.{is_utf8}
 use Rattle.query_meaning.specs.Lines.{Begins, FirstLine, TooMany}
-use Rattle.query_meaning.specs.Replies.{too_long_reply}
-use Rattle.query_meaning.specs.Requests.{is_quit}
+use Rattle.query_meaning.specs.Replies.{no_memory_reply, too_long_reply}
+use Rattle.query_meaning.specs.Requests.{argument_of, is_quit}
 use Rattle.outside.specs.Fetched.{Fetched}
 use Rattle.outside.specs.Told.{TakesFront}
 use Rattle.input_lines.specs.Reader.{IsSpent}
+use Rattle.installed_tables.specs.Installed.{present_rows}
 use Rattle.line_session.specs.Desks.{DeskOf}
-use Rattle.line_session.specs.Replies.{Dealing, Handled, Handles}
+use Rattle.line_session.specs.Replies.{Dealing, Handled, Handles, catalog_of, costs_of}
 use Rattle.line_session.specs.Tools.{ToolsOf}
 use Rattle.line_session.specs.declared.end.SessionEnd.{SessionEnd}
 use Rattle.line_session.specs.declared.end.SessionEnd.TheVariants.{Quit, EndOfInput, LongLine, Budget, ReceiveFault, SendFault, Memory}
@@ -98,9 +99,32 @@ AreSent most end left lines before after text = after ≡ before ++ text
 -- a session was served: the lines that were handled are those of the input, each with its reply, and the replies were
 -- sent. At most so many bytes of the input may be taken, and one more
 pub record IsServed (tools : ToolsOf) (most : ℕ) (end : SessionEnd) (dealing : Dealing) (left : Option (List ℕ))
-    (sent_before sent_after : List ℕ) : Type 0 where
-  pub handled : List Handled
+    (sent_before sent_after : List ℕ) (handled : List Handled) : Type 0 where
   pub session : IsSession tools dealing.before dealing.asked handled dealing.after
   pub lines : IfSome left (AreHandled most end (map (λ one. one.line) handled))
   pub sent : AreSent most end left (map (λ one. one.line) handled) sent_before sent_after
       (flat_map (λ one. one.reply) handled)
+
+-- how many rows and groups were read for some lines
+abbrev pub all_read : List Handled → ℕ
+all_read handled = sum_by (λ one. one.read) handled
+
+-- a line has the command AGG, and its reply says that there was no memory
+abbrev pub is_agg_without_memory : Handled → Bool
+is_agg_without_memory handled =
+    is_some (argument_of (codes "AGG") handled.line) && bytes_eq handled.reply no_memory_reply
+
+-- so many rows has the version of the cube of some aggregate table that was the present one at some place of the history,
+-- at the session's begin or behind it
+abbrev pub AreOfVersion : Dealing → ℕ → Type 0
+AreOfVersion dealing rows =
+    (table : ℕ) × (front : ℕ) × (length dealing.before.cache.entries ≤ front)
+    × (rows ≡ present_rows (catalog_of dealing.before) (take front dealing.after.cache.entries) table)
+
+-- for the lines of a session at most so much was read as its entries cost its seat, and for each AGG that found no memory the
+-- rows of one version
+pub record ReadsFew (dealing : Dealing) (handled : List Handled) : Type 0 where
+  pub unbuilt : List ℕ
+  pub each : length unbuilt ≤ length (filter is_agg_without_memory handled)
+  pub versions : All (AreOfVersion dealing) unbuilt
+  pub at_most : all_read handled ≤ costs_of dealing + sum unbuilt

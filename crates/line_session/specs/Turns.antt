@@ -30,33 +30,42 @@ EndsReply line reply events (Some Quit) = (ends_session line ≡ true) × (event
 EndsReply line reply events (Some SendFault) = IsCutOff reply events
 EndsReply line reply events (Some end) = ⊥
 
--- a line was handled, and this has passed of its reply; the session goes on, or ends there
-pub record Replies (tools : ToolsOf) (dealing : Dealing) (line : List ℕ) (events : List Event)
-    (end : Option SessionEnd) : Type 0 where
+-- a line was handled, for which so many rows and groups were read, and this has passed of its reply; the session goes on, or
+-- ends there
+pub record Replies (tools : ToolsOf) (dealing : Dealing) (line : List ℕ) (read : ℕ)
+    (events : List Event) (end : Option SessionEnd) : Type 0 where
   pub position : Option ℕ
   pub reply : List ℕ
-  pub handles : Handles tools dealing (record { line = line; position = position; reply = reply })
+  pub handles : Handles tools dealing
+      (record { line = line; position = position; reply = reply; read = read })
   pub ends : EndsReply line reply events end
 
--- nothing was asked of the desk or of the depot
-abbrev pub IsStill : Dealing → Type 0
-IsStill dealing = (dealing.after ≡ dealing.before) × (dealing.asked ≡ [])
+-- nothing was asked of the desk or of the depot, and nothing was read
+abbrev pub IsStill : Dealing → ℕ → Type 0
+IsStill dealing read = (dealing.after ≡ dealing.before) × (dealing.asked ≡ []) × (read ≡ 0)
 
--- what comes next of an input was answered, and this has passed of the answer; the session goes on, or ends there
-abbrev pub Answers : ToolsOf → Result Next Failed → Dealing → List ℕ → List Event → Option SessionEnd → Type 0
-Answers tools (Ok next.Line) dealing line events end = Replies tools dealing line events end
-Answers tools (Ok next.TooLong) dealing line events (Some LongLine) =
-    IsStill dealing × (events ≡ took too_long_reply ∷ [])
-Answers tools (Ok next.TooLong) dealing line events (Some SendFault) =
-    IsStill dealing × IsCutOff too_long_reply events
-Answers tools (Ok next.End) dealing line events (Some EndOfInput) = IsStill dealing × (events ≡ [])
-Answers tools (Ok next.Spent) dealing line events (Some Budget) = IsStill dealing × (events ≡ [])
-Answers tools (Err e) dealing line events (Some ReceiveFault) = IsStill dealing × (events ≡ [])
-Answers tools told dealing line events end = ⊥
+-- what comes next of an input was answered, for which so many rows and groups were read, and this has passed of the answer; the
+-- session goes on, or ends there
+abbrev pub Answers : ToolsOf → Result Next Failed → Dealing → List ℕ → ℕ → List Event
+    → Option SessionEnd → Type 0
+Answers tools (Ok next.Line) dealing line read events end = Replies tools dealing line read events end
+Answers tools (Ok next.TooLong) dealing line read events (Some LongLine) =
+    IsStill dealing read × (events ≡ took too_long_reply ∷ [])
+Answers tools (Ok next.TooLong) dealing line read events (Some SendFault) =
+    IsStill dealing read × IsCutOff too_long_reply events
+Answers tools (Ok next.End) dealing line read events (Some EndOfInput) =
+    IsStill dealing read × (events ≡ [])
+Answers tools (Ok next.Spent) dealing line read events (Some Budget) =
+    IsStill dealing read × (events ≡ [])
+Answers tools (Err e) dealing line read events (Some ReceiveFault) =
+    IsStill dealing read × (events ≡ [])
+Answers tools told dealing line read events end = ⊥
 
--- a turn: what comes next is heard and answered. Where the link tells what is left, it is what that begins with
-pub record Turn (tools : ToolsOf) (reading then : Reading) (dealing : Dealing) (events : List Event)
-    (left_before left_after : Option (List ℕ)) (end : Option SessionEnd) : Type 0 where
+-- a turn: what comes next is heard and answered, for which so many rows and groups are read. Where the link tells what is left,
+-- it is what that begins with
+pub record Turn (tools : ToolsOf) (reading then : Reading) (dealing : Dealing) (read : ℕ)
+    (events : List Event) (left_before left_after : Option (List ℕ))
+    (end : Option SessionEnd) : Type 0 where
   pub told : Result Next Failed
   pub heard : List Event
   pub last : List Event
@@ -65,4 +74,4 @@ pub record Turn (tools : ToolsOf) (reading then : Reading) (dealing : Dealing) (
       → TellsFront (not_given reading left_before) (allowed reading) next then.line
       (not_given then left_after) (allowed then))
   pub events_are : events ≡ heard ++ last
-  pub answers : Answers tools told dealing then.line last end
+  pub answers : Answers tools told dealing then.line read last end

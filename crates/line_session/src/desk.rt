@@ -4,10 +4,11 @@ ghost use Rattle.std.specs.List.{list_all};
 ghost use Rattle.olap_meaning.specs.Legal.{Legal, is_cell, is_flushable};
 ghost use Rattle.fact_reader.specs.BodyRows.{is_batch};
 ghost use Rattle.segment_header.specs.Widening.{Widened};
-ghost use Rattle.line_session.specs.Desks.{AddsNone, DeskOf, HasAppended, HasAsked, HasFlushed, HasReadFront, HasNotAppended, HasNotAsked, HasShown, IsIdle, costs_between};
+ghost use Rattle.installed_tables.specs.Installed.{present_rows};
+ghost use Rattle.line_session.specs.Desks.{AddsNone, DeskOf, HasAppended, HasAsked, HasBuilt, HasFlushed, HasReadFront, HasNotAppended, HasNotAsked, HasShown, IsIdle, costs_between};
 
 use fact_versions::{AppendFault, Batch, Steps};
-use history_core::{Answer, Appended, CacheView, NotYet};
+use history_core::{AggBuilt, Answer, Appended, CacheView, NotYet};
 use olap_meaning::{Cell, CubeId, OutOfMemory, Region};
 use segment_header::{AllowsValues, Widener};
 use std::alloc::Global;
@@ -24,9 +25,8 @@ pub trait Desk {
         ensures idle { IsIdle (seen self.now) };
 
     /// Answers cells, in their order. The loads that are missing, which allow what the widener answers, are run and
-    /// delivered first; where memory is wanting,
-    /// those that were started are given up. It adds as many steps as the loads that it has started have rows, and at most
-    /// as many where memory is wanting.
+    /// delivered first; where memory is wanting, those that were started are given up. It adds as many steps as the loads cost
+    /// that it has started, and at most as many where memory is wanting.
     fn ask<L: Ledger>(
         &mut self,
         alloc: Global,
@@ -63,6 +63,24 @@ pub trait Desk {
             (is_flushable (seen self.old).cache.setting.catalog region) }
         ensures flushed { IfOk result (HasFlushed (seen self.old) (seen self.new) region) }
         ensures refused { OnErr result (AddsNone (seen self.old) (seen self.new)) };
+
+    /// Builds an aggregate table of the schema from the present version of its cube, for the loads that are started from then
+    /// on, in place of an earlier one of its declaration. It adds as many steps as that version has rows, and at most as many
+    /// where memory is wanting; then nothing is built.
+    fn build_agg<L: Ledger>(
+        &mut self,
+        table: u32,
+        steps: &mut Steps<L>,
+    ) -> Result<AggBuilt, OutOfMemory>
+        requires declared { table
+            < length (seen self.old).cache.setting.catalog.schema.aggregates }
+        ensures built { IfOk result (HasBuilt (seen self.old) (seen self.new) table) }
+        ensures refused { OnErr result (AddsNone (seen self.old) (seen self.new)) }
+        ensures cost { OnOk result
+            (steps.new ≡ steps.old + costs_between (seen self.old) (seen self.new)) }
+        ensures at_least { steps.old ≤ steps.new }
+        ensures at_most { OnErr result (steps.new ≤ steps.old
+            + present_rows (seen self.old).cache.setting.catalog (seen self.new).cache.entries table) };
 
     /// Shows what is kept, as the look finds it: a line for each kept load, by rising number.
     fn show(&mut self) -> Result<CacheView, OutOfMemory>

@@ -1,14 +1,15 @@
 //! What is replied to a line.
-ghost use Rattle.std.specs.Prelude.{◌≡◌, ◌<◌, ◌≤◌, ◌^◌, ◌+◌, ◌++◌, [], List, Option, ℕ, length};
+ghost use Rattle.std.specs.Prelude.{◌≡◌, ◌<◌, ◌^◌, ◌+◌, ◌++◌, [], List, Option, ℕ, length};
 ghost use Rattle.input_lines.specs.Asked.{asked};
 ghost use Rattle.input_lines.specs.Requests.{IsRequest};
 ghost use Rattle.outside.specs.Fetched.{Fetched};
 ghost use Rattle.outside.specs.Told.{AreTheirs};
-ghost use Rattle.line_session.specs.Desks.{GoesOn, costs_between};
-ghost use Rattle.line_session.specs.Replies.{AnswersRequest, Handles, TellsWhatIsSeen};
+ghost use Rattle.line_session.specs.Desks.{GoesOn};
+ghost use Rattle.line_session.specs.Replies.{AnswersRequest, Dealing, Handles, IsRead, TellsWhatIsSeen};
 ghost use Rattle.line_session.specs.Sessions.{ends_session};
 ghost use Rattle.line_session.specs.Tools.{tools_of};
 
+use crate::agg::reply_to_agg;
 use crate::append::reply_to_append;
 use crate::desk::Desk;
 use crate::flush::reply_to_flush;
@@ -50,16 +51,19 @@ fn reply_to_request<P: Desk, D: Depot, L: Ledger>(
 ) -> Reply
     requires catalog { catalog.now ≡ (P.seen desk.old).cache.setting.catalog }
     requires meant { (line : List ℕ) × IsRequest line (asked request.now) }
-    ensures answered { (position : Option ℕ) × (fetched : List Fetched)
+    ensures answered { (position : Option ℕ) × (fetched : List Fetched) × (read : ℕ)
+        × (steps.new ≡ steps.old + read)
         × (D.answers depot.new ≡ D.answers depot.old ++ fetched)
         × AreTheirs (D.files depot.old) fetched
-        × AnswersRequest (tools_of (⟦<Formatter as GivesTexts>⟧.answers tools.now.formatter)
+        × (let around : Dealing = record {
+          before = P.seen desk.old;
+          after = P.seen desk.new;
+          asked = fetched;
+        } in AnswersRequest (tools_of (⟦<Formatter as GivesTexts>⟧.answers tools.now.formatter)
         (⟦<Widener as AllowsValues>⟧.answers tools.now.widener))
-        (record { before = P.seen desk.old; after = P.seen desk.new; asked = fetched })
-        (asked request.now) position result }
+        around (asked request.now) position result
+        × IsRead around (asked request.now) position read) }
     ensures files { D.files depot.new ≡ D.files depot.old }
-    ensures at_least { steps.old ≤ steps.new }
-    ensures at_most { steps.new ≤ steps.old + costs_between (P.seen desk.old) (P.seen desk.new) }
 {
     match request {
         Request::NotText => Reply::fixed("ERR 2 UTF8\n"),
@@ -71,8 +75,8 @@ fn reply_to_request<P: Desk, D: Depot, L: Ledger>(
         Request::Append(argument) => reply_to_append(alloc, desk, depot, catalog, argument),
         Request::Ask(query) => reply_to_query(alloc, desk, catalog, tools, query, steps),
         Request::Flush(text) => reply_to_flush(alloc, desk, catalog, text),
+        Request::Agg(name) => reply_to_agg(alloc, desk, catalog, name.as_str(), steps),
         Request::Show => reply_to_show(alloc, desk, catalog),
-        Request::Unbuilt => Reply::fixed("ERR 17 UNBUILT\n"),
     }
 }
 
@@ -95,18 +99,17 @@ pub(crate) fn reply_to_line<P: Desk, D: Depot, L: Ledger>(
 ) -> (Reply, bool)
     requires catalog { catalog.now ≡ (P.seen desk.old).cache.setting.catalog }
     requires line { length line.now < 2 ^ 32 }
-    ensures handled { (position : Option ℕ) × (asked : List Fetched)
+    ensures handled { (position : Option ℕ) × (asked : List Fetched) × (read : ℕ)
+        × (steps.new ≡ steps.old + read)
         × (D.answers depot.new ≡ D.answers depot.old ++ asked)
         × AreTheirs (D.files depot.old) asked
         × Handles (tools_of (⟦<Formatter as GivesTexts>⟧.answers tools.now.formatter)
         (⟦<Widener as AllowsValues>⟧.answers tools.now.widener))
         (record { before = P.seen desk.old; after = P.seen desk.new; asked = asked })
-        (record { line = line.now; position = position; reply = result.0 }) }
+        (record { line = line.now; position = position; reply = result.0; read = read }) }
     ensures files { D.files depot.new ≡ D.files depot.old }
     ensures ends { result.1 ≡ ends_session line.now }
     ensures grown { GoesOn (P.seen desk.old) (P.seen desk.new) }
-    ensures at_least { steps.old ≤ steps.new }
-    ensures at_most { steps.new ≤ steps.old + costs_between (P.seen desk.old) (P.seen desk.new) }
 {
     match read_request(alloc, line) {
         Ok(request) => {

@@ -1,5 +1,5 @@
 //! What follows of sessions from their definition alone. Each function does nothing: its contract is the law.
-ghost use Rattle.line_session.specs.Answered.{FlushesAreAnswered, LooksAreAnswered, QueriesAreAnswered, UnbuiltIsReplied};
+ghost use Rattle.line_session.specs.Answered.{AggsAreAnswered, FlushesAreAnswered, LooksAreAnswered, QueriesAreAnswered};
 ghost use Rattle.line_session.specs.Tools.{tools_of};
 
 use crate::tools::Tools;
@@ -37,9 +37,11 @@ pub fn looks_are_answered(tools: &Tools)
     let _ = &tools.widener;
 }
 
-/// With these tools: that something is not built is replied to just the lines of text with a command of which nothing is.
-pub fn unbuilt_is_replied(tools: &Tools)
-    ensures { UnbuiltIsReplied (tools_of (⟦<Formatter as GivesTexts>⟧.answers tools.now.formatter)
+/// With these tools: a line of text that is an AGG is answered by the table that its name means. Where it means one, this is
+/// built, and the reply tells the position of the entry, the version and the groups; else nothing is added, and the reply
+/// tells the name; or there was no memory, and no entry was made.
+pub fn aggs_are_answered(tools: &Tools)
+    ensures { AggsAreAnswered (tools_of (⟦<Formatter as GivesTexts>⟧.answers tools.now.formatter)
         (⟦<Widener as AllowsValues>⟧.answers tools.now.widener)) }
 {
     let _ = &tools.formatter;

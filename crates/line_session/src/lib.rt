@@ -4,6 +4,7 @@
 //! line (`Replies`), which lines of an input are handled (`Sessions`), and what passes over the link (`Conversations`).
 #![tactic(auto)]
 
+mod agg;
 mod append;
 mod desk;
 mod end;

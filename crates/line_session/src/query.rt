@@ -1,5 +1,5 @@
 //! What is replied to a query.
-ghost use Rattle.std.specs.Prelude.{◌≡◌, ◌≤◌, ◌+◌, ◌*◌, ◌⊎◌, ℕ, [], Ok, IsSomeAnd, IsTrue, length, Option};
+ghost use Rattle.std.specs.Prelude.{◌≡◌, ◌+◌, ◌*◌, ◌⊎◌, ℕ, [], Ok, IsSomeAnd, IsTrue, length, Option};
 ghost use Rattle.std.specs.List.{list_all};
 ghost use Rattle.cell_request.specs.Faults.{refusal_of};
 ghost use Rattle.olap_meaning.specs.Legal.{is_cell};
@@ -8,8 +8,7 @@ ghost use Rattle.query_meaning.specs.Grids.{row_tuples};
 ghost use Rattle.query_meaning.specs.OwnAxes.{AreAxesOf};
 ghost use Rattle.query_meaning.specs.Replies.{no_memory_reply, refusal_reply};
 ghost use Rattle.query_meaning.specs.Resolution.{axes_meant};
-ghost use Rattle.line_session.specs.Desks.{costs_between};
-ghost use Rattle.line_session.specs.Replies.{AnswersMeaning};
+ghost use Rattle.line_session.specs.Replies.{AnswersMeaning, AreCosts};
 ghost use Rattle.line_session.specs.Tools.{tools_of};
 
 use crate::desk::Desk;
@@ -65,13 +64,13 @@ fn reply_to_cells<P: Desk, L: Ledger>(
     requires count { length cells.now
         ≡ length (row_tuples axes.now) * length axes.now.columns.tuples }
     requires known { IsTrue (list_all (is_cell catalog.now) cells.now) }
-    ensures reply { (position : Option ℕ)
+    ensures reply { (position : Option ℕ) × (read : ℕ) × (steps.new ≡ steps.old + read)
+        × AreCosts (record { before = P.seen desk.old; after = P.seen desk.new; asked = [] })
+        position read
         × AnswersMeaning (tools_of (⟦<Formatter as GivesTexts>⟧.answers tools.now.formatter)
         (⟦<Widener as AllowsValues>⟧.answers tools.now.widener))
         (record { before = P.seen desk.old; after = P.seen desk.new; asked = [] })
         (Ok axes.now) position result }
-    ensures at_least { steps.old ≤ steps.new }
-    ensures at_most { steps.new ≤ steps.old + costs_between (P.seen desk.old) (P.seen desk.new) }
 {
     match desk.ask(alloc, cells, &tools.widener, steps) {
         Ok(answer) => Reply::made(grid(alloc, catalog, axes, &answer, &tools.formatter)),
@@ -90,13 +89,13 @@ fn reply_to_axes<P: Desk, L: Ledger>(
 ) -> Reply
     requires catalog { catalog.now ≡ (P.seen desk.old).cache.setting.catalog }
     requires own { AreAxesOf catalog.now axes.now }
-    ensures reply { (position : Option ℕ)
+    ensures reply { (position : Option ℕ) × (read : ℕ) × (steps.new ≡ steps.old + read)
+        × AreCosts (record { before = P.seen desk.old; after = P.seen desk.new; asked = [] })
+        position read
         × AnswersMeaning (tools_of (⟦<Formatter as GivesTexts>⟧.answers tools.now.formatter)
         (⟦<Widener as AllowsValues>⟧.answers tools.now.widener))
         (record { before = P.seen desk.old; after = P.seen desk.new; asked = [] })
         (Ok axes.now) position result }
-    ensures at_least { steps.old ≤ steps.new }
-    ensures at_most { steps.new ≤ steps.old + costs_between (P.seen desk.old) (P.seen desk.new) }
 {
     match cells(alloc, catalog, axes) {
         Ok(cells) => reply_to_cells(alloc, desk, catalog, tools, axes, cells.as_slice(), steps),
@@ -114,13 +113,13 @@ pub(crate) fn reply_to_query<P: Desk, L: Ledger>(
     steps: &mut Steps<L>,
 ) -> Reply
     requires catalog { catalog.now ≡ (P.seen desk.old).cache.setting.catalog }
-    ensures reply { (position : Option ℕ)
+    ensures reply { (position : Option ℕ) × (read : ℕ) × (steps.new ≡ steps.old + read)
+        × AreCosts (record { before = P.seen desk.old; after = P.seen desk.new; asked = [] })
+        position read
         × AnswersMeaning (tools_of (⟦<Formatter as GivesTexts>⟧.answers tools.now.formatter)
         (⟦<Widener as AllowsValues>⟧.answers tools.now.widener))
         (record { before = P.seen desk.old; after = P.seen desk.new; asked = [] })
         (axes_meant catalog.now query.now) position result }
-    ensures at_least { steps.old ≤ steps.new }
-    ensures at_most { steps.new ≤ steps.old + costs_between (P.seen desk.old) (P.seen desk.new) }
 {
     match resolve(alloc, catalog, query) {
         Ok(axes) => reply_to_axes(alloc, desk, catalog, tools, &axes, steps),

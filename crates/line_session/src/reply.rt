@@ -9,8 +9,8 @@ use itoa::Buffer;
 use olap_meaning::{OutOfMemory, Text};
 use std::marker::Model;
 
-// The longest line of a label and two numbers, in bytes: a label of 20, two numbers of 20 digits, a space and the end.
-const LINE_SIZE: usize = 62;
+// The longest line of a label and three numbers, in bytes: a label of 20, three numbers of 20 digits, two spaces and the end.
+const LINE_SIZE: usize = 83;
 
 // Where the bytes of a reply stand.
 #[derive(Drop)]
@@ -88,6 +88,25 @@ impl Reply {
         text.push_str(Buffer::new().format(first));
         text.push_str(" ");
         text.push_str(Buffer::new().format(second));
+        text.push_str("\n");
+        Reply {
+            bytes: Bytes::Short(text),
+        }
+    }
+
+    /// A line of a label and three numbers, with a space between each two.
+    pub(crate) fn three_numbers(label: &'static str, first: u64, second: u64, third: u64) -> Reply
+        requires { length label.now ≤ 20 }
+        ensures { result ≡ line
+            (label.now ++ decimal first ++ codes " " ++ decimal second ++ codes " " ++ decimal third) }
+    {
+        let mut text = ArrayString::new();
+        text.push_str(label);
+        text.push_str(Buffer::new().format(first));
+        text.push_str(" ");
+        text.push_str(Buffer::new().format(second));
+        text.push_str(" ");
+        text.push_str(Buffer::new().format(third));
         text.push_str("\n");
         Reply {
             bytes: Bytes::Short(text),

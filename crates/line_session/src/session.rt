@@ -1,13 +1,14 @@
 //! A session: the lines of an input, one after another, each with its reply.
-ghost use Rattle.std.specs.Prelude.{◌≡◌, ◌≢◌, ◌<◌, ◌≤◌, ◌+◌, ◌^◌, ◌++◌, ◌∷◌, ◌⊎◌, [], List, OnErr, OnOk, length};
+ghost use Rattle.std.specs.Prelude.{◌≡◌, ◌≢◌, ◌<◌, ◌≤◌, ◌+◌, ◌^◌, ◌++◌, ◌∷◌, ◌⊎◌, [], List, ℕ, OnErr, OnOk, length};
 ghost use Rattle.query_meaning.specs.Replies.{too_long_reply};
 ghost use Rattle.outside.specs.Event.{Event, took};
 ghost use Rattle.outside.specs.Fetched.{Fetched};
 ghost use Rattle.outside.specs.Talks.{taken};
 ghost use Rattle.input_lines.specs.Reader.{IsAtEnd};
-ghost use Rattle.line_session.specs.Desks.{GoesOn, IsIdle, costs_between};
+ghost use Rattle.line_session.specs.Desks.{GoesOn, IsIdle};
 ghost use Rattle.line_session.specs.Conversations.{HasConversed, IsCutOff, fresh, sent};
-ghost use Rattle.line_session.specs.Sessions.{IsServed, byte_limit};
+ghost use Rattle.line_session.specs.Replies.{Handled};
+ghost use Rattle.line_session.specs.Sessions.{IsServed, ReadsFew, all_read, byte_limit};
 ghost use Rattle.line_session.specs.Turns.{HasPassed, Replies, Turn};
 ghost use Rattle.line_session.specs.Tools.{tools_of};
 
@@ -50,18 +51,17 @@ fn answer_line<P: Desk, K: Link, D: Depot, L: Ledger>(
 ) -> Option<SessionEnd>
     requires catalog { catalog.now ≡ (P.seen desk.old).cache.setting.catalog }
     requires line { length line.now < 2 ^ 32 }
-    ensures answered { (events : List Event) × (asked : List Fetched)
+    ensures answered { (events : List Event) × (asked : List Fetched) × (read : ℕ)
+        × (steps.new ≡ steps.old + read)
         × HasPassed (K.talk link.old) (K.talk link.new) (D.answers depot.old) (D.answers depot.new)
         (D.files depot.old) events asked
         × Replies (tools_of (⟦<Formatter as GivesTexts>⟧.answers tools.now.formatter)
         (⟦<Widener as AllowsValues>⟧.answers tools.now.widener))
         (record { before = P.seen desk.old; after = P.seen desk.new; asked = asked })
-        line.now events result }
+        line.now read events result }
     ensures unread { K.left link.new ≡ K.left link.old }
     ensures grown { GoesOn (P.seen desk.old) (P.seen desk.new) }
     ensures files { D.files depot.new ≡ D.files depot.old }
-    ensures at_least { steps.old ≤ steps.new }
-    ensures at_most { steps.new ≤ steps.old + costs_between (P.seen desk.old) (P.seen desk.new) }
 {
     let (reply, ends) = reply_to_line(alloc, desk, depot, catalog, tools, line, steps);
     match send(link, reply.as_str()) {
@@ -98,19 +98,18 @@ fn take_turn<P: Desk, K: Link, D: Depot, L: Ledger>(
     steps: &mut Steps<L>,
 ) -> Option<SessionEnd>
     requires catalog { catalog.now ≡ (P.seen desk.old).cache.setting.catalog }
-    ensures turn { (events : List Event) × (asked : List Fetched)
+    ensures turn { (events : List Event) × (asked : List Fetched) × (read : ℕ)
+        × (steps.new ≡ steps.old + read)
         × HasPassed (K.talk link.old) (K.talk link.new) (D.answers depot.old) (D.answers depot.new)
         (D.files depot.old) events asked
         × Turn (tools_of (⟦<Formatter as GivesTexts>⟧.answers tools.now.formatter)
         (⟦<Widener as AllowsValues>⟧.answers tools.now.widener)) reader.old reader.new
         (record { before = P.seen desk.old; after = P.seen desk.new; asked = asked })
-        events (K.left link.old) (K.left link.new) result }
+        read events (K.left link.old) (K.left link.new) result }
     ensures end { IsAtEnd reader.old.ended (K.left link.old)
         → IsAtEnd reader.new.ended (K.left link.new) }
     ensures grown { GoesOn (P.seen desk.old) (P.seen desk.new) }
     ensures files { D.files depot.new ≡ D.files depot.old }
-    ensures at_least { steps.old ≤ steps.new }
-    ensures at_most { steps.new ≤ steps.old + costs_between (P.seen desk.old) (P.seen desk.new) }
 {
     match reader.next(link) {
         Ok(Next::Line) => answer_line(
@@ -136,7 +135,8 @@ fn take_turn<P: Desk, K: Link, D: Depot, L: Ledger>(
 /// the depot.
 ///
 /// It ends for want of memory only before anything is received. The lines are those of the bytes that come, however they
-/// come in pieces. As many steps are added at most as the loads that the desk's seat has started have rows.
+/// come in pieces. As many steps are added at most as the loads cost that the desk's seat has started, and as the versions have
+/// rows over which it has built a table, or found no memory for one.
 pub fn serve<P: Desk, K: Link, D: Depot, L: Ledger>(
     alloc: Global,
     desk: &mut P,
@@ -149,30 +149,31 @@ pub fn serve<P: Desk, K: Link, D: Depot, L: Ledger>(
 ) -> SessionEnd
     requires catalog { catalog.now ≡ (P.seen desk.old).cache.setting.catalog }
     requires most { most ≤ byte_limit }
-    // What has passed is a conversation, of every link and every depot.
-    ensures conversed { result ≢ SessionEnd.Memory → HasConversed
-        (tools_of (⟦<Formatter as GivesTexts>⟧.answers tools.now.formatter)
+    // What has passed is a conversation, of every link and every depot. Where the link tells what is left, the lines that were
+    // handled in it are those of that. The steps that are added are what was read for them.
+    ensures served { result ≢ SessionEnd.Memory → (asked : List Fetched) × (handled : List Handled)
+        × (D.answers depot.new ≡ D.answers depot.old ++ asked)
+        × HasConversed (tools_of (⟦<Formatter as GivesTexts>⟧.answers tools.now.formatter)
         (⟦<Widener as AllowsValues>⟧.answers tools.now.widener))
         (K.talk link.old) (K.talk link.new)
         (D.answers depot.old) (D.answers depot.new) (D.files depot.old) (fresh most)
-        (P.seen desk.old) (P.seen desk.new) result }
-
-    // Where the link tells what is left, the lines that were handled are those of it.
-    ensures served { result ≢ SessionEnd.Memory → (asked : List Fetched)
-        × (D.answers depot.new ≡ D.answers depot.old ++ asked)
+        (P.seen desk.old) (P.seen desk.new) result handled
         × IsServed (tools_of (⟦<Formatter as GivesTexts>⟧.answers tools.now.formatter)
         (⟦<Widener as AllowsValues>⟧.answers tools.now.widener)) most result
         (record { before = P.seen desk.old; after = P.seen desk.new; asked = asked })
-        (K.left link.old) (taken (K.talk link.old)) (taken (K.talk link.new)) }
+        (K.left link.old) (taken (K.talk link.old)) (taken (K.talk link.new)) handled
+        × (steps.new ≡ steps.old + all_read handled)
+        × ReadsFew (record { before = P.seen desk.old; after = P.seen desk.new; asked = asked })
+        handled }
 
     // Where there was no memory to begin, nothing has passed.
     ensures unserved { result ≡ SessionEnd.Memory
-        → (P.seen desk.new ≡ P.seen desk.old) × (link.new ≡ link.old) × (depot.new ≡ depot.old) }
+        → (P.seen desk.new ≡ P.seen desk.old) × (link.new ≡ link.old) × (depot.new ≡ depot.old)
+        × (steps.new ≡ steps.old) }
     ensures grown { GoesOn (P.seen desk.old) (P.seen desk.new) }
     ensures idle { IsIdle (P.seen desk.new) }
     ensures files { D.files depot.new ≡ D.files depot.old }
     ensures at_least { steps.old ≤ steps.new }
-    ensures at_most { steps.new ≤ steps.old + costs_between (P.seen desk.old) (P.seen desk.new) }
 {
     desk.seen_is_legal();
     let Ok(mut reader) = LineReader::new(alloc, most) else {

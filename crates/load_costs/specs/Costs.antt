@@ -62,13 +62,21 @@ cost catalog history (suc before) =
     option_map_or
     (start_cost catalog (take before history)) (load_at history (suc before)) 0
 
--- what an entry costs that comes behind others: where a seat starts a load by it, what that costs
+-- how many rows a version of the cube of a table has
+abbrev pub version_rows : Catalog → List Entry → ℕ → ℕ → ℕ
+version_rows catalog history table v =
+    option_map_or (λ cube. length (rows_of history cube v)) (table_cube catalog table) 0
+
+-- what an entry costs a seat that comes behind others: where the seat starts a load by it, what that costs; and where the
+-- seat builds a table by it, the rows of the table's version
 abbrev pub seat_cost : Catalog → ℕ → List Entry → Entry → ℕ
 seat_cost catalog seat before (Start load) =
     if load.who.seat == seat then start_cost catalog before load else 0
+seat_cost catalog seat before (Agg who table v) =
+    if who.seat == seat then version_rows catalog before table v else 0
 seat_cost catalog seat before _ = 0
 
--- what the loads cost that a seat starts by some entries behind others, each by the entries before it
+-- what some entries behind others cost a seat, each by the entries before it
 abbrev pub seat_costs : Catalog → ℕ → List Entry → List Entry → ℕ
 seat_costs catalog seat before [] = 0
 seat_costs catalog seat before (entry ∷ entries) =

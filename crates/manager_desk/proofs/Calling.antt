@@ -1,5 +1,5 @@
 -- What seat 1 has done at its manager, as a desk alone.
-use Rattle.std.proofs.Common.{◌≡◌, refl, sym, ◌∙◌, ap, subst, ℕ, ◌+◌, ◌≤◌, List, [], ◌∷◌, ◌++◌, append_assoc, length, map, filter, Bool, true, false, ◌==◌, inl, inr, Some, None, Result, Ok, Err, arith, All}
+use Rattle.std.proofs.Common.{◌≡◌, refl, sym, ◌∙◌, ap, subst, ℕ, ◌+◌, ◌≤◌, List, [], ◌∷◌, ◌++◌, append_assoc, length, map, filter, Bool, true, false, ◌==◌, inl, inr, Some, None, Result, Ok, Err, arith, All, if◌then◌else◌}
 use Rattle.std.specs.Prelude.{OnErr, nat_lt}
 use Rattle.std.specs.List.{list_all}
 use Rattle.std.proofs.lemmas.Bool.{and_from, and_parts, eq-eqb, lt-ltb, ltb-true}
@@ -12,9 +12,11 @@ use Rattle.olap_meaning.specs.declared.cells.Who.{Who}
 use Rattle.olap_meaning.specs.declared.regions.Region.{Region}
 use Rattle.olap_meaning.specs.declared.tables.Catalog.{Catalog}
 use Rattle.olap_meaning.specs.declared.tables.Row.{Row}
+use Rattle.olap_meaning.specs.declared.tables.Setting.{Setting}
 use Rattle.olap_meaning.specs.History.{Entry, Append, Agg, Flush, Start, Done, Drop, Evict, Answer, Saw, is_some_and, started, version}
 use Rattle.olap_meaning.specs.Legal.{caller, is_call_below, is_call_of, is_next_call, Legal}
 use Rattle.fact_versions.specs.Facts.{append_fault}
+use Rattle.history_core.specs.declared.answers.AggBuilt.{AggBuilt}
 use Rattle.history_core.specs.declared.answers.Answer.{Answer as Told}
 use Rattle.history_core.specs.declared.answers.Appended.{Appended}
 use Rattle.history_core.specs.declared.answers.CacheView.{CacheView}
@@ -24,7 +26,10 @@ use Rattle.history_core.specs.Groups.{loads_with}
 use Rattle.segment_header.specs.Widening.{Allowing}
 use Rattle.history_core.specs.Seats.{NoneFlies, is_of_seat, entries_of}
 use Rattle.history_core.specs.Shown.{cache_lines}
-use Rattle.line_session.specs.Desks.{AddsCall, AreLoadsFor, DeskOf, GoesOnBy, HasAppended, HasAsked, HasFlushed, HasNotAsked, HasShown, delivered_with, is_start_or_done, load_numbers, none_behind_drops, with_more}
+use Rattle.load_costs.specs.Costs.{seat_costs, version_rows}
+use Rattle.installed_tables.specs.Installed.{groups_built, present_rows, present_version}
+use Rattle.line_session.specs.Desks.{AddsCall, AreLoadsFor, DeskOf, GoesOnBy, HasAppended, HasAsked, HasBuilt, HasFlushed, HasNotAsked, HasShown, costs_between, delivered_with, is_start_or_done, load_numbers, none_behind_drops, with_more}
+use Rattle.line_session.proofs.Rows.{started_are}
 use Rattle.manager_desk.specs.Delivered.{cost_by}
 use Rattle.manager_desk.specs.Ends.{AddsAnswer, AddsEnded}
 use Rattle.manager_desk.specs.Keeping.{IsDesk}
@@ -216,7 +221,7 @@ desk_called before after who call last read calls starts none legal grown is des
       count = count_one before.setting before.entries after call read legal none grown desk.count;
     }
 
--- as an append, a flush and a look are
+-- as an append, a flush, a table that is built and a look are
 pub desk_appended :
     (before : CacheOf) (after : List Entry) (who : Who) (cube v : ℕ) (rows : List Row) (last read : ℕ) → Legal before.setting before.entries → after ≡ before.entries ++ Append who cube v rows ∷ [] → who ≡ record { seat = 1; call = last + 1 } → IsDesk before.setting.catalog before.entries last read
     → IsDesk before.setting.catalog after who.call read
@@ -224,6 +229,9 @@ desk_appended before after who cube v rows last read legal grown is desk = desk_
 
 pub desk_flushed : (before : CacheOf) (after : List Entry) (who : Who) (region : Region) (last read : ℕ) → Legal before.setting before.entries → after ≡ before.entries ++ Flush who region ∷ [] → who ≡ record { seat = 1; call = last + 1 } → IsDesk before.setting.catalog before.entries last read → IsDesk before.setting.catalog after who.call read
 desk_flushed before after who region last read legal grown is desk = desk_called before after who (Flush who region) last read refl refl refl legal grown is desk
+
+pub desk_built : (before : CacheOf) (after : List Entry) (who : Who) (table v last read : ℕ) → Legal before.setting before.entries → after ≡ before.entries ++ Agg who table v ∷ [] → who ≡ record { seat = 1; call = last + 1 } → IsDesk before.setting.catalog before.entries last read → IsDesk before.setting.catalog after who.call read
+desk_built before after who table v last read legal grown is desk = desk_called before after who (Agg who table v) last read refl refl refl legal grown is desk
 
 pub desk_shown : (before : CacheOf) (after : List Entry) (who : Who) (last read : ℕ) → Legal before.setting before.entries → after ≡ before.entries ++ Saw who ∷ [] → who ≡ record { seat = 1; call = last + 1 } → IsDesk before.setting.catalog before.entries last read → IsDesk before.setting.catalog after who.call read
 desk_shown before after who last read legal grown is desk = desk_called before after who (Saw who) last read refl refl refl legal grown is desk
@@ -263,6 +271,37 @@ has_flushed before after who region position seat setting grown is = record {
   adds = adds_one before after (Flush who region) setting grown (eq-eqb who.seat 1 seat);
   position_is = is;
 }
+
+-- a table that was built
+pub has_built :
+    (before after : CacheOf) (who : Who) (table : ℕ) (built : AggBuilt) → who.seat ≡ 1 → after.setting ≡ before.setting → after.entries ≡ before.entries ++ Agg who table built.version ∷ [] → built.position ≡ length after.entries → built.version ≡ present_version before.setting.catalog before.entries table
+    → built.groups ≡ groups_built after.setting.catalog after.entries table → HasBuilt (desk_of before) (desk_of after) table built
+has_built before after who table built seat setting grown is version groups = record {
+  who = who;
+  own = seat;
+  more = [];
+  others = refl;
+  adds = adds_one before after (Agg who table built.version) setting grown (eq-eqb who.seat 1 seat);
+  version_is = version ∙ ap (λ (es : List Entry). present_version before.setting.catalog es table) (sym (append-nil before.entries));
+  position_is = is;
+  groups_are = groups ∙ ap (λ (s : Setting). groups_built s.catalog after.entries table) setting;
+}
+
+-- what that cost: the rows of the version
+pub cost_built :
+    (before after : CacheOf) (who : Who) (table v : ℕ) → who.seat ≡ 1 → after.entries ≡ before.entries ++ Agg who table v ∷ [] → v ≡ present_version before.setting.catalog before.entries table
+    → costs_between (desk_of before) (desk_of after) ≡ present_rows before.setting.catalog before.entries table
+cost_built before after who table v seat grown version =
+    started_are catalog 1 before.entries after.entries (Agg who table v ∷ []) grown
+    ∙ ap (λ (b : Bool). (if b then version_rows catalog before.entries table v else 0) + seat_costs catalog 1 (before.entries ++ Agg who table v ∷ []) []) (eq-eqb who.seat 1 seat)
+    ∙ nothing_more (version_rows catalog before.entries table v)
+    ∙ ap (version_rows catalog before.entries table) version
+  where
+    catalog : Catalog
+    catalog = before.setting.catalog
+
+    nothing_more : (n : ℕ) → n + 0 ≡ n
+    nothing_more n = omega arith
 
 -- what is kept was shown
 pub has_shown :

@@ -25,7 +25,7 @@ use Rattle.history_core.specs.Seats.{NoneFlies}
 use Rattle.cache_manager.specs.Jobs.{IsJobOf}
 use Rattle.cache_manager.proofs.Pushes.{flying_back}
 use Rattle.cache_manager.proofs.Ready.{delivered_looks_are_ready, serving_headers}
-use Rattle.line_session.specs.Desks.{AreEnds, AreHeadersOf, delivered_with, is_of_load, load_numbers, costs_started, with_more}
+use Rattle.line_session.specs.Desks.{AreEnds, AreHeadersOf, delivered_with, is_of_load, load_numbers, costs_behind, with_more}
 use Rattle.manager_desk.specs.Ends.{AddsAnswer, AddsEnded, AreOut, EndsJobs, done_of}
 use Rattle.manager_desk.proofs.Looks.{look_parts}
 use Rattle.manager_desk.proofs.Own.{dones_of_call, ends_of_call, loads_counted, loads_own, parts_all}
@@ -217,7 +217,7 @@ module _ (allowing : Allowing) (before middle : CacheOf) (who : Who) (cells : Li
   -- what the jobs cost, beside what came after the Starts
   cost_by_starts :
       (after rest : List Entry) → after ≡ middle.entries ++ rest → who.seat ≡ 1
-      → costs_started before.setting.catalog 1 before.entries after ≡ sum_by job_cost jobs + seat_costs before.setting.catalog 1 middle.entries rest
+      → costs_behind before.setting.catalog 1 before.entries after ≡ sum_by job_cost jobs + seat_costs before.setting.catalog 1 middle.entries rest
   cost_by_starts after rest grown seat =
       let starts = map Start (loads_with before who cells headers) in
       let catalog = before.setting.catalog in
@@ -227,13 +227,13 @@ module _ (allowing : Allowing) (before middle : CacheOf) (who : Who) (cells : Li
       ∙ ap (λ (m : ℕ). m + seat_costs catalog 1 (before.entries ++ starts) rest) (ap (λ (s : Setting). seat_costs s.catalog 1 before.entries starts) (sym look.setting) ∙ sym (whole_jobs.1 seat))
       ∙ ap (λ (es : List Entry). sum_by job_cost jobs + seat_costs catalog 1 es rest) (sym look.entries)
 
-  pub cost_ended : (after : List Entry) (ended : EndsJobs middle.entries after jobs) → who.seat ≡ 1 → costs_started before.setting.catalog 1 before.entries after ≡ sum_by job_cost jobs + seat_costs before.setting.catalog 1 middle.entries ended.ends
+  pub cost_ended : (after : List Entry) (ended : EndsJobs middle.entries after jobs) → who.seat ≡ 1 → costs_behind before.setting.catalog 1 before.entries after ≡ sum_by job_cost jobs + seat_costs before.setting.catalog 1 middle.entries ended.ends
   cost_ended after ended seat = cost_by_starts after ended.ends ended.entries seat
 
   -- where they were all delivered and the cells were answered, it is just what the jobs cost
   pub cost_in_all :
       (after : List Entry) (answer : Entry) → who.seat ≡ 1 → ((es : List Entry) → seat_cost before.setting.catalog 1 es answer ≡ 0) → after ≡ (middle.entries ++ map done_of jobs) ++ answer ∷ []
-      → costs_started before.setting.catalog 1 before.entries after ≡ sum_by job_cost jobs
+      → costs_behind before.setting.catalog 1 before.entries after ≡ sum_by job_cost jobs
   cost_in_all after answer seat none grown =
       let catalog = before.setting.catalog in
       let all = cost_by_starts after (map done_of jobs ++ answer ∷ []) (grown ∙ append_assoc middle.entries (map done_of jobs) (answer ∷ [])) seat in

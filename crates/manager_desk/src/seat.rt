@@ -3,14 +3,15 @@ ghost use Rattle.std.specs.Prelude.{◌≡◌, ◌≤◌, ◌<◌, ◌+◌, [], 
 ghost use Rattle.std.specs.List.{list_all};
 ghost use Rattle.olap_meaning.specs.Legal.{Legal, is_cell, is_flushable};
 ghost use Rattle.fact_reader.specs.BodyRows.{is_batch};
+ghost use Rattle.installed_tables.specs.Installed.{present_rows};
 ghost use Rattle.history_core.specs.Seats.{NoneFlies, entries_of};
-ghost use Rattle.line_session.specs.Desks.{AddsNone, HasAppended, HasAsked, HasFlushed, HasReadFront, HasNotAppended, HasNotAsked, HasShown, IsIdle, costs_between};
+ghost use Rattle.line_session.specs.Desks.{AddsNone, HasAppended, HasAsked, HasBuilt, HasFlushed, HasReadFront, HasNotAppended, HasNotAsked, HasShown, IsIdle, costs_between};
 ghost use Rattle.manager_desk.specs.Delivered.{costs_delivered};
 
 use crate::asking::ask;
 use cache_manager::Manager;
 use fact_versions::{AppendFault, Batch, Steps};
-use history_core::{Answer, Appended, CacheView, NotYet};
+use history_core::{AggBuilt, Answer, Appended, CacheView, NotYet};
 use line_session::Desk;
 use olap_catalog::Catalog;
 use olap_meaning::{Cell, CubeId, OutOfMemory, Region, Who};
@@ -134,6 +135,20 @@ impl Desk for ManagerDesk {
         self.manager.steps_are_legal();
         let position = self.manager.flush(who, region)?;
         Ok(position)
+    }
+
+    fn build_agg<L: Ledger>(
+        &mut self,
+        table: u32,
+        steps: &mut Steps<L>,
+    ) -> Result<AggBuilt, OutOfMemory> {
+        let Some(who) = next_call(self.last) else {
+            return Err(OutOfMemory);
+        };
+        self.last = who.call;
+        self.manager.steps_are_legal();
+        let built = self.manager.build_agg(who, table, steps)?;
+        Ok(built)
     }
 
     fn show(&mut self) -> Result<CacheView, OutOfMemory> {

@@ -11,7 +11,7 @@ use Rattle.olap_meaning.specs.declared.cells.CellSource.{CellSource}
 use Rattle.olap_meaning.specs.declared.tables.Row.{Row}
 use Rattle.olap_meaning.specs.Values.{aggregate}
 use Rattle.olap_meaning.specs.Catalog.{fact_columns, leaf_value}
-use Rattle.olap_meaning.specs.History.{Entry, Load, load_at, rows_of, load_version, is_some_and}
+use Rattle.olap_meaning.specs.History.{Entry, Load, rows_of, load_version, is_some_and}
 
 -- the measure of a cell, in its cube
 abbrev pub measure_of : Catalog → Cell → Option Measure
@@ -73,8 +73,3 @@ worth catalog history answered =
 -- how many rows the version of a load has
 abbrev pub load_rows : List Entry → Load → ℕ
 load_rows history load = length (rows_of history load.header.cube load.version)
-
--- the cost of the load that is started at a position: the rows of its version, and 0 where none is (and, once there are
--- aggregate tables, the least with the costs of those that serve it)
-abbrev pub cost : Catalog → List Entry → ℕ → ℕ
-cost catalog history j = option_map_or (load_rows history) (load_at history j) 0

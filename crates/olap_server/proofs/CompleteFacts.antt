@@ -16,6 +16,7 @@ use Rattle.line_session.specs.Conversations.{Converses, HasConversed, fresh, sen
 use Rattle.line_session.specs.Desks.{DeskOf}
 use Rattle.line_session.specs.declared.end.SessionEnd.{SessionEnd}
 use Rattle.line_session.specs.declared.end.SessionEnd.TheVariants as end
+use Rattle.line_session.specs.Replies.{Handled}
 use Rattle.line_session.specs.Tools.{ToolsOf}
 use Rattle.line_session.specs.Sessions.{byte_limit}
 use Rattle.olap_server.specs.Complete.{IsComplete, status_by_itself}
@@ -67,10 +68,10 @@ later_failure end.Memory es fs h = tt
 cut_failure : (reply : List ℕ) (events : List Event) → talk.IsCutOff reply events → 1 ≤ failures events
 cut_failure reply events is = rw is.events_are (omega arith)
 
-ended_failure : {tools : ToolsOf} {reading : Reading} {before after : DeskOf} {events : List Event} {asked : List Fetched} {e : SessionEnd} → Converses tools reading before events asked after e → HasFailed e events
-ended_failure (talk.turn {end = e} heard more asked later position reply tells handles goes rest) = later_failure e (heard ++ sent reply) more (ended_failure rest)
-ended_failure (talk.quits heard asked position reply tells handles quitting) = tt
-ended_failure (talk.cut_off heard last asked position reply tells handles cut) = last_failure heard last (cut_failure reply last cut)
+ended_failure : {tools : ToolsOf} {reading : Reading} {before after : DeskOf} {events : List Event} {asked : List Fetched} {handled : List Handled} {e : SessionEnd} → Converses tools reading before events asked handled after e → HasFailed e events
+ended_failure (talk.turn {end = e} heard more asked later position reply read lines tells handles goes rest) = later_failure e (heard ++ sent reply) more (ended_failure rest)
+ended_failure (talk.quits heard asked position reply read tells handles quitting) = tt
+ended_failure (talk.cut_off heard last asked position reply read tells handles cut) = last_failure heard last (cut_failure reply last cut)
 ended_failure (talk.too_long heard tells) = tt
 ended_failure (talk.too_long_cut_off heard last tells cut) = last_failure heard last (cut_failure too_long_reply last cut)
 ended_failure (talk.ends heard tells) = tt
@@ -90,13 +91,13 @@ line_whole last text before after status (inr (is, front)) none = absurd (omega 
 more_than : (before middle after : List Event) (events : List Event) → middle ≡ before ++ events → 1 ≤ failures events → failures middle ≤ failures after → failures after ≡ failures before → ⊥
 more_than before middle after events passed some grown none = omega (arith, ap failures passed, failures-append before events, some, grown, none)
 
-served_complete : (tools : ToolsOf) (files : Option Files) (opened cache : CacheOf) (start finish : Around) (status : Status) → HasServed tools files opened cache start finish status → failures finish.talk ≡ failures start.talk → status ≢ Memory → IsComplete tools files opened cache start finish status
-served_complete tools files opened cache start finish status served none memory = by served.end refl served.conversed served.last
+served_complete : (tools : ToolsOf) (files : Option Files) (opened cache : CacheOf) (start finish : Around) (status : Status) (read : ℕ) → HasServed tools files opened cache start finish status read → failures finish.talk ≡ failures start.talk → status ≢ Memory → IsComplete tools files opened cache start finish status
+served_complete tools files opened cache start finish status read served none memory = by served.end refl served.conversed served.last
   where
     complete : (e : SessionEnd) → served.end ≡ e → status_by_itself e ≡ Some status → IsComplete tools files opened cache start finish status
-    complete e is itself = record { end = served.end; by_itself = rw is itself; talk = served.talk; conversed = served.conversed; last = served.last }
+    complete e is itself = record { end = served.end; by_itself = rw is itself; talk = served.talk; handled = served.handled; conversed = served.conversed; last = served.last }
 
-    by : (e : SessionEnd) → served.end ≡ e → HasConversed tools start.talk served.talk start.answers finish.answers files (fresh byte_limit) (desk_over opened) (desk_over cache) e → IsLast e served.talk finish.talk status → IsComplete tools files opened cache start finish status
+    by : (e : SessionEnd) → served.end ≡ e → HasConversed tools start.talk served.talk start.answers finish.answers files (fresh byte_limit) (desk_over opened) (desk_over cache) e served.handled → IsLast e served.talk finish.talk status → IsComplete tools files opened cache start finish status
     by end.Quit is conversed last = complete end.Quit is (ap Some (sym last.0))
     by end.EndOfInput is conversed last = complete end.EndOfInput is (ap Some (sym last.0))
     by end.LongLine is conversed last = complete end.LongLine is (ap Some (sym last.0))
@@ -105,6 +106,6 @@ served_complete tools files opened cache start finish status served none memory 
     by end.SendFault is conversed last = absurd (more_than start.talk served.talk finish.talk conversed.events conversed.passed (ended_failure conversed.converses) (omega (arith, ap failures last.1)) none)
     by end.Memory is conversed last = absurd last
 
-pub run_complete : (tools : ToolsOf) (files : Option Files) (opened : CacheOf) (history : HistoryOf) (start finish : Around) (status : Status) → EndsRun tools files opened history start finish status → failures finish.talk ≡ failures start.talk → status ≢ Memory → IsComplete tools files opened (cache_of history) start finish status
-run_complete tools files opened history start finish status (inl served) none memory = served_complete tools files opened (cache_of history) start finish status served none memory
-run_complete tools files opened history start finish status (inr begun) none memory = absurd (memory (line_whole Memory _ start.talk finish.talk status begun.last none))
+pub run_complete : (tools : ToolsOf) (files : Option Files) (opened : CacheOf) (history : HistoryOf) (start finish : Around) (status : Status) (read : ℕ) → EndsRun tools files opened history start finish status read → failures finish.talk ≡ failures start.talk → status ≢ Memory → IsComplete tools files opened (cache_of history) start finish status
+run_complete tools files opened history start finish status read (inl served) none memory = served_complete tools files opened (cache_of history) start finish status read served none memory
+run_complete tools files opened history start finish status read (inr begun) none memory = absurd (memory (line_whole Memory _ start.talk finish.talk status begun.last none))

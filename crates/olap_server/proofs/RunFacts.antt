@@ -30,20 +30,21 @@ cache_is history after same entries =
     ap with_entries entries ∙ ap with_setting same
 
 -- a session over a cache is one over the cache of its history
-pub ends_run : (tools : ToolsOf) (files : Option Files) (opened after : CacheOf) (history : HistoryOf) (start finish : Around) (status : Status) → history.setting ≡ after.setting → history.entries ≡ after.entries
-    → ServesDesk tools files opened after start finish status → EndsRun tools files opened history start finish status
-ends_run tools files opened after history start finish status same entries serves = subst (λ (k : CacheOf). ServesDesk tools files opened k start finish status) (sym (cache_is history after same entries)) serves
+pub ends_run : (tools : ToolsOf) (files : Option Files) (opened after : CacheOf) (history : HistoryOf) (start finish : Around) (status : Status) (read : ℕ) → history.setting ≡ after.setting → history.entries ≡ after.entries
+    → ServesDesk tools files opened after start finish status read → EndsRun tools files opened history start finish status read
+ends_run tools files opened after history start finish status read same entries serves = subst (λ (k : CacheOf). ServesDesk tools files opened k start finish status read) (sym (cache_is history after same entries)) serves
 
 -- there was no memory to begin
 pub has_not_begun :
     (tools : ToolsOf) (files : Option Files) (opened after : CacheOf) (start finish : Around) (status : Status) (said : Said) → after ≡ opened → said ≡ no_memory → IsLastLine said.status said.text start.talk finish.talk status → finish.answers ≡ start.answers → finish.left ≡ start.left
-    → ServesDesk tools files opened after start finish status
+    → ServesDesk tools files opened after start finish status 0
 has_not_begun tools files opened after start finish status said unserved is last unasked unread =
     inr (record {
       same = unserved;
       last = subst (λ (s : Said). IsLastLine s.status s.text start.talk finish.talk status) is last;
       unasked = unasked;
       unread = unread;
+      none_read = refl;
     })
 
 -- what holds of a history by two things that do

@@ -1,10 +1,11 @@
 -- Runs in which nothing fails.
-use Rattle.std.specs.Prelude.{◌≡◌, ◌≢◌, List, Option, Some, None}
+use Rattle.std.specs.Prelude.{ℕ, ◌≡◌, ◌≢◌, List, Option, Some, None}
 use Rattle.outside.specs.Talks.{failures}
 use Rattle.outside.specs.Told.{Files}
 use Rattle.history_core.specs.Cache.{CacheOf}
 use Rattle.history_core.specs.History.{HistoryOf}
 use Rattle.line_session.specs.Conversations.{HasConversed, fresh}
+use Rattle.line_session.specs.Replies.{Handled}
 use Rattle.line_session.specs.Tools.{ToolsOf}
 use Rattle.line_session.specs.Sessions.{byte_limit}
 use Rattle.line_session.specs.declared.end.SessionEnd.{SessionEnd}
@@ -32,14 +33,15 @@ pub record IsComplete (tools : ToolsOf) (files : Option Files) (opened cache : C
   pub end : SessionEnd
   pub by_itself : status_by_itself end ≡ Some status
   pub talk : List Event
+  pub handled : List Handled
   pub conversed : HasConversed tools start.talk talk start.answers finish.answers files
-      (fresh byte_limit) (desk_over opened) (desk_over cache) end
+      (fresh byte_limit) (desk_over opened) (desk_over cache) end handled
   pub last : IsLast end talk finish.talk status
 
 -- where nothing has failed on the link, and no want of memory is answered, a run over a cache is complete
 abbrev pub RunsAreComplete : ToolsOf → Type 0
 RunsAreComplete tools =
     (files : Option Files) (opened : CacheOf) (history : HistoryOf) (start finish : Around)
-    (status : Status) → EndsRun tools files opened history start finish status
+    (status : Status) (read : ℕ) → EndsRun tools files opened history start finish status read
     → failures finish.talk ≡ failures start.talk → status ≢ Memory
     → IsComplete tools files opened (cache_of history) start finish status

@@ -9,10 +9,11 @@ use Rattle.cache_opening.specs.Asking.{Leads}
 use Rattle.cache_opening.specs.Opening.{AddsFewSteps, IsOpened, opening_from}
 use Rattle.line_session.specs.declared.end.SessionEnd.{SessionEnd}
 use Rattle.line_session.specs.declared.end.SessionEnd.TheVariants as end
-use Rattle.line_session.specs.Desks.{DeskOf, costs_started}
+use Rattle.line_session.specs.Desks.{DeskOf}
+use Rattle.line_session.specs.Replies.{Dealing, Handled}
 use Rattle.line_session.specs.Conversations.{HasConversed, fresh}
 use Rattle.line_session.specs.Tools.{ToolsOf}
-use Rattle.line_session.specs.Sessions.{IsServed, byte_limit}
+use Rattle.line_session.specs.Sessions.{IsServed, ReadsFew, all_read, byte_limit}
 use Rattle.fault_texts.specs.FaultTexts.{fact_line}
 use Rattle.olap_meaning.specs.Commands.{CellCommand, Command, Cell, Run, command_of}
 use Rattle.olap_meaning.specs.FileQuery.{FileFault, answer_of}
@@ -211,49 +212,54 @@ IsLast end.Memory before after status = ⊥
 abbrev pub desk_over : CacheOf → DeskOf
 desk_over cache = record { cache = cache; seat = 1; alone = true; fronts = None }
 
+-- what is seen of a cache by the desk of a run, and what its depot was asked for, around a session
+abbrev pub dealing_over : CacheOf → CacheOf → List Fetched → Dealing
+dealing_over opened cache asked =
+    record { before = desk_over opened; after = desk_over cache; asked = asked }
+
 -- a session was served over a cache, which was a conversation, and then the last was said; where the link tells what
--- is left, the lines that were handled are those of it
+-- is left, the lines that were handled in it are those of that. For these lines so many rows and groups were read
 pub record HasServed (tools : ToolsOf) (files : Option Files) (opened cache : CacheOf) (start finish : Around)
-    (status : Status) : Type 0 where
+    (status : Status) (read : ℕ) : Type 0 where
   pub end : SessionEnd
   pub talk : List Event
   pub asked : List Fetched
+  pub handled : List Handled
   pub conversed : HasConversed tools start.talk talk start.answers finish.answers files
-      (fresh byte_limit) (desk_over opened) (desk_over cache) end
+      (fresh byte_limit) (desk_over opened) (desk_over cache) end handled
   pub answered : finish.answers ≡ start.answers ++ asked
-  pub served : IsServed tools byte_limit end
-      (record { before = desk_over opened; after = desk_over cache; asked = asked }) start.left
-      (taken start.talk) (taken talk)
+  pub served : IsServed tools byte_limit end (dealing_over opened cache asked) start.left
+      (taken start.talk) (taken talk) handled
+  pub read_is : read ≡ all_read handled
+  pub few : ReadsFew (dealing_over opened cache asked) handled
   pub last : IsLast end talk finish.talk status
 
--- there was no memory to begin a session: nothing was received or asked for, and just that was said
+-- there was no memory to begin a session: nothing was received, asked for or read, and just that was said
 pub record HasNotBegun (opened cache : CacheOf) (start finish : Around)
-    (status : Status) : Type 0 where
+    (status : Status) (read : ℕ) : Type 0 where
   pub same : cache ≡ opened
   pub last : IsLastLine Memory memory_line start.talk finish.talk status
   pub unasked : finish.answers ≡ start.answers
   pub unread : finish.left ≡ start.left
+  pub none_read : read ≡ 0
 
 -- the cache of a history
 abbrev pub cache_of : HistoryOf → CacheOf
 cache_of history = record { setting = history.setting; entries = history.entries }
 
--- a session over a cache was served, or could not begin
-abbrev pub ServesDesk : ToolsOf → Option Files → CacheOf → CacheOf → Around → Around → Status → Type 0
-ServesDesk tools files opened cache start finish status =
-    HasServed tools files opened cache start finish status
-    ⊎ HasNotBegun opened cache start finish status
+-- a session over a cache was served, for which so many rows and groups were read, or could not begin
+abbrev pub ServesDesk : ToolsOf → Option Files → CacheOf → CacheOf → Around → Around → Status → ℕ
+    → Type 0
+ServesDesk tools files opened cache start finish status read =
+    HasServed tools files opened cache start finish status read
+    ⊎ HasNotBegun opened cache start finish status read
 
--- a run ends over a cache that was opened: its session was served, or could not begin
-abbrev pub EndsRun : ToolsOf → Option Files → CacheOf → HistoryOf → Around → Around → Status → Type 0
-EndsRun tools files opened history start finish status =
-    ServesDesk tools files opened (cache_of history) start finish status
-
--- as many steps were added at most as the loads cost that were started in a cache
-abbrev pub IsWithin : CacheOf → HistoryOf → ℕ → ℕ → Type 0
-IsWithin opened history before after =
-    (before ≤ after)
-    × (after ≤ before + costs_started opened.setting.catalog 1 opened.entries history.entries)
+-- a run ends over a cache that was opened: its session was served, for which so many rows and groups were read, or could not
+-- begin
+abbrev pub EndsRun : ToolsOf → Option Files → CacheOf → HistoryOf → Around → Around → Status → ℕ
+    → Type 0
+EndsRun tools files opened history start finish status read =
+    ServesDesk tools files opened (cache_of history) start finish status read
 
 -- the same time, but for what a depot was asked for
 abbrev pub with_answers : Around → List Fetched → Around
@@ -267,7 +273,8 @@ AddsFew words files before after steps_before steps_after =
     ⊎ ((file : List ℕ) × IsAsked words (Some (Run file))
     × AddsFewSteps files before after file steps_before steps_after)
 
--- a run of the words opened a cache from their schema's file, by so many steps, and then served a session over it
+-- a run of the words opened a cache from their schema's file, by so many steps, and then served a session over it: the other
+-- steps are what was read for its lines
 pub record RunsSession (tools : ToolsOf) (words : Words) (files : Option Files) (start finish : Around)
     (steps_before steps_after : ℕ) (history : HistoryOf) (status : Status) : Type 0 where
   pub file : List ℕ
@@ -277,5 +284,6 @@ pub record RunsSession (tools : ToolsOf) (words : Words) (files : Option Files) 
   pub middle : ℕ
   pub rise : steps_before ≤ middle
   pub opened : IsOpened files start.answers answers file cache steps_before middle
-  pub ends : EndsRun tools files cache history (with_answers start answers) finish status
-  pub steps : IsWithin cache history middle steps_after
+  pub read : ℕ
+  pub ends : EndsRun tools files cache history (with_answers start answers) finish status read
+  pub steps : steps_after ≡ middle + read

@@ -1,9 +1,8 @@
 //! The command `run`: a cache is opened, and a session served over it.
-ghost use Rattle.std.specs.Prelude.{◌≡◌, ◌≢◌, ◌≤◌, ◌+◌, [], IfSome, MatchResult, None};
+ghost use Rattle.std.specs.Prelude.{◌≡◌, ◌≢◌, ◌≤◌, ◌+◌, [], ℕ, IfSome, MatchResult, None};
 ghost use Rattle.history_core.specs.Seats.{NoneFlies, entries_of};
-ghost use Rattle.line_session.specs.Desks.{costs_started};
 ghost use Rattle.olap_meaning.specs.Legal.{Legal};
-ghost use Rattle.olap_server.specs.Run.{EndsRun, IsLast, IsWithin, SayTells, ServesDesk, around_of};
+ghost use Rattle.olap_server.specs.Run.{EndsRun, IsLast, SayTells, ServesDesk, around_of};
 ghost use Rattle.olap_server.specs.Said.{budget_line, no_memory};
 ghost use Rattle.line_session.specs.Tools.{tools_of};
 
@@ -96,14 +95,12 @@ fn serve_with<D: Depot, K: Link, L: Ledger>(
     steps: &mut Steps<L>,
 ) -> Status
     requires catalog { catalog.now ≡ desk.old.setting.catalog }
-    ensures served { ServesDesk (tools_of (⟦<Formatter as GivesTexts>⟧.answers tools.now.formatter)
+    ensures served { (read : ℕ) × (steps.new ≡ steps.old + read)
+        × ServesDesk (tools_of (⟦<Formatter as GivesTexts>⟧.answers tools.now.formatter)
         (⟦<Widener as AllowsValues>⟧.answers tools.now.widener))
         (D.files depot.old) desk.old desk.new
         (around_of D.answers K.talk K.left depot.old link.old)
-        (around_of D.answers K.talk K.left depot.new link.new) result }
-    ensures at_least { steps.old ≤ steps.new }
-    ensures at_most { steps.new
-        ≤ steps.old + costs_started desk.old.setting.catalog 1 desk.old.entries desk.new.entries }
+        (around_of D.answers K.talk K.left depot.new link.new) result read }
 {
     match serve(alloc, desk, link, depot, catalog, tools, BYTE_LIMIT, steps) {
         SessionEnd::Memory => Reply::no_memory().say(link),
@@ -120,14 +117,12 @@ fn serve_desk<D: Depot, K: Link, L: Ledger>(
     tools: &Tools,
     steps: &mut Steps<L>,
 ) -> Status
-    ensures served { ServesDesk (tools_of (⟦<Formatter as GivesTexts>⟧.answers tools.now.formatter)
+    ensures served { (read : ℕ) × (steps.new ≡ steps.old + read)
+        × ServesDesk (tools_of (⟦<Formatter as GivesTexts>⟧.answers tools.now.formatter)
         (⟦<Widener as AllowsValues>⟧.answers tools.now.widener))
         (D.files depot.old) desk.old desk.new
         (around_of D.answers K.talk K.left depot.old link.old)
-        (around_of D.answers K.talk K.left depot.new link.new) result }
-    ensures at_least { steps.old ≤ steps.new }
-    ensures at_most { steps.new
-        ≤ steps.old + costs_started desk.old.setting.catalog 1 desk.old.entries desk.new.entries }
+        (around_of D.answers K.talk K.left depot.new link.new) result read }
 {
     match Arc::try_clone(desk.catalog()) {
         Ok(catalog) => serve_with(alloc, desk, &catalog, depot, link, tools, steps),
@@ -146,15 +141,14 @@ pub(crate) fn serve_opened<D: Depot, K: Link, L: Ledger>(
 ) -> Ended
     requires unused { entries_of opened.entries 1 ≡ [] }
     requires idle { NoneFlies opened.entries }
-    ensures served { IfSome result.history (λ history. EndsRun
-        (tools_of (⟦<Formatter as GivesTexts>⟧.answers tools.now.formatter)
+    ensures served { IfSome result.history (λ history. (read : ℕ) × (steps.new ≡ steps.old + read)
+        × EndsRun (tools_of (⟦<Formatter as GivesTexts>⟧.answers tools.now.formatter)
         (⟦<Widener as AllowsValues>⟧.answers tools.now.widener))
         (D.files depot.old) opened history
         (around_of D.answers K.talk K.left depot.old link.old)
-        (around_of D.answers K.talk K.left depot.new link.new) result.status) }
+        (around_of D.answers K.talk K.left depot.new link.new) result.status read) }
     ensures there { result.history ≢ None }
     ensures legal { IfSome result.history (λ history. Legal history.setting history.entries) }
-    ensures cost { IfSome result.history (λ history. IsWithin opened history steps.old steps.new) }
     ensures at_least { steps.old ≤ steps.new }
 {
     let mut desk = ManagerDesk::new(opened);

@@ -1,5 +1,5 @@
 //! The top call: from the words of a command line to the bytes that are written.
-ghost use Rattle.std.specs.Prelude.{◌≡◌, ◌≢◌, ◌⊎◌, ◌≤◌, ℕ, IfOk, IfSome, List, None};
+ghost use Rattle.std.specs.Prelude.{◌≡◌, ◌≢◌, ◌⊎◌, ◌≤◌, ◌+◌, ℕ, IfOk, IfSome, List, None};
 ghost use Rattle.outside.specs.Fetched.{Fetched};
 ghost use Rattle.history_core.specs.Cache.{CacheOf};
 ghost use Rattle.cache_opening.specs.Opening.{AddsFewSteps, IsOpened};
@@ -10,7 +10,7 @@ ghost use Rattle.olap_meaning.specs.FileQuery.{answer_of};
 ghost use Rattle.olap_meaning.specs.Legal.{Legal};
 ghost use Rattle.olap_server.specs.Faults.{refusal_text};
 ghost use Rattle.olap_server.specs.Said.{IsSaid, Said, memory_line, no_memory};
-ghost use Rattle.olap_server.specs.Run.{AddsFew, AnswerTells, CellTells, EndsRun, IsCutOff, IsLastLine, IsTold, IsWithin, OpeningTells, RunsSession, around_of, with_answers};
+ghost use Rattle.olap_server.specs.Run.{AddsFew, AnswerTells, CellTells, EndsRun, IsCutOff, IsLastLine, IsTold, OpeningTells, RunsSession, around_of, with_answers};
 ghost use Rattle.line_session.specs.Tools.{tools_of};
 
 use crate::cell::cell_of_csv;
@@ -118,15 +118,15 @@ fn run_session<D: Depot, K: Link, L: Ledger>(
 ) -> Ended
     ensures session { IfSome result.history (λ history. (opened : CacheOf)
         × (answers : List Fetched)
-        × (middle : ℕ) × (steps.old ≤ middle)
+        × (middle : ℕ) × (read : ℕ) × (steps.old ≤ middle)
         × IsOpened (D.files depot.old) (D.answers depot.old) answers file.now opened
         steps.old middle
         × EndsRun (tools_of (⟦<Formatter as GivesTexts>⟧.answers tools.now.formatter)
         (⟦<Widener as AllowsValues>⟧.answers tools.now.widener))
         (D.files depot.old) opened history
         (with_answers (around_of D.answers K.talk K.left depot.old link.old) answers)
-        (around_of D.answers K.talk K.left depot.new link.new) result.status
-        × IsWithin opened history middle steps.new) }
+        (around_of D.answers K.talk K.left depot.new link.new) result.status read
+        × (steps.new ≡ middle + read)) }
     ensures legal { IfSome result.history (λ history. Legal history.setting history.entries) }
     ensures told { result.history ≡ None → (said : Said)
         × OpeningTells file.now (D.files depot.old) (D.answers depot.old) (D.answers depot.new)

@@ -58,14 +58,20 @@ not_yet_reply asked front =
 abbrev pub no_memory_reply : List ℕ
 no_memory_reply = line (codes "ERR 15 MEMORY")
 
--- the reply to a line that asks for what is not built
-abbrev pub unbuilt_reply : List ℕ
-unbuilt_reply = line (codes "ERR 17 UNBUILT")
+-- the reply to a name that no aggregate table has
+abbrev pub no_table_reply : List ℕ → List ℕ
+no_table_reply name = named_line (codes "ERR 16 AGG") name
 
 -- the reply to an append: the position of its entry, and the version that it made
 abbrev pub version_reply : ℕ → ℕ → List ℕ
 version_reply position version =
     line (codes "VERSION " ++ decimal position ++ codes " " ++ decimal version)
+
+-- the reply where an aggregate table was built: the position of its entry, its version, and how many groups it has
+abbrev pub built_reply : ℕ → ℕ → ℕ → List ℕ
+built_reply position version groups =
+    line
+    (codes "AGG " ++ decimal position ++ codes " " ++ decimal version ++ codes " " ++ decimal groups)
 
 -- the reply to a flush: the position of its entry
 abbrev pub flushed_reply : ℕ → List ℕ

@@ -41,15 +41,11 @@ argument_of word line =
 abbrev pub has_one_of : List (List ℕ) → List ℕ → Bool
 has_one_of words line = list_any (λ word. is_some (argument_of word line)) words
 
--- the commands of which nothing is built yet
-abbrev pub unbuilt_commands : List (List ℕ)
-unbuilt_commands = codes "AGG" ∷ []
-
 -- all commands
 abbrev pub commands : List (List ℕ)
 commands =
-    codes "MDX" ∷ codes "APPEND" ∷ codes "FLUSH" ∷ codes "CACHE" ∷ codes "AFTER" ∷ codes "QUIT"
-    ∷ unbuilt_commands
+    codes "MDX" ∷ codes "APPEND" ∷ codes "FLUSH" ∷ codes "AGG" ∷ codes "CACHE" ∷ codes "AFTER"
+    ∷ codes "QUIT" ∷ []
 
 -- a line ends the session: QUIT, and white
 abbrev pub is_quit : List ℕ → Bool
@@ -61,7 +57,8 @@ MayTakeMemory line =
     (is_utf8 line ≡ true)
     × (IsSome (argument_of (codes "MDX") line)
     ⊎ IsSome (argument_of (codes "APPEND") line)
-    ⊎ IsSome (argument_of (codes "FLUSH") line))
+    ⊎ IsSome (argument_of (codes "FLUSH") line)
+    ⊎ IsSome (argument_of (codes "AGG") line))
 
 -- a line of text asks for what is kept: CACHE, and white
 abbrev pub is_show : List ℕ → Bool

@@ -10,6 +10,7 @@ use cache_manager::Manager;
 use fact_versions::Steps;
 use line_session::{SessionEnd, Tools, serve};
 use manager_desk::ManagerDesk;
+use olap_catalog::Catalog;
 use olap_meaning::{CellValue, List, OutOfMemory, ROW_LIMIT, Text};
 use outside::{Calls, MemoryDepot, MemoryLink, MemorySink, MemorySource, Pair};
 use query_samples::told_grid;
@@ -23,11 +24,15 @@ use std::test::Fail;
 use test_samples::files::{later_sales, sales};
 use test_samples::opened::open;
 
-// A desk over a cache of the sample catalog in which nothing has happened.
-fn desk(alloc: Global, row_limit: u32) -> Result<ManagerDesk, Fail>
+// A desk over a cache of a catalog in which nothing has happened.
+pub(crate) fn desk_over(
+    alloc: Global,
+    catalog: Arc<Catalog>,
+    row_limit: u32,
+) -> Result<ManagerDesk, Fail>
     requires { row_limit ≤ ROW_LIMIT }
 {
-    let Ok(manager) = Manager::new(alloc, open(alloc)?, row_limit, 0) else {
+    let Ok(manager) = Manager::new(alloc, catalog, row_limit, 0) else {
         return Err(Fail::from("no memory"));
     };
     if !manager.is_idle() {
@@ -44,7 +49,7 @@ fn copy(alloc: Global, bytes: &[u8]) -> Result<List<u8>, OutOfMemory> {
 const LARGE: &[u8] = b"time_id,store_id,customer,units\n1,1,10,1234567\n2,2,11,-7654321\n";
 
 // A depot of the first batch, a later one, and one of large numbers.
-fn depot(alloc: Global) -> Result<MemoryDepot, OutOfMemory> {
+pub(crate) fn depot(alloc: Global) -> Result<MemoryDepot, OutOfMemory> {
     let mut files = List::new(alloc);
     files.push((Text::from_str(alloc, "sales.csv")?, copy(alloc, sales())?))?;
     files.push((
@@ -93,7 +98,7 @@ pub(crate) fn served<L: Ledger>(
     requires parts { blank.parts ≡ L.parts }
     requires one { blank.parts ≡ 1 }
 {
-    let mut desk = desk(alloc, row_limit)?;
+    let mut desk = desk_over(alloc, open(alloc)?, row_limit)?;
     let mut depot = depot(alloc)?;
     let mut steps: Steps<L> = Steps::new(blank);
     let catalog = Arc::try_clone(desk.catalog())?;

@@ -3,6 +3,8 @@
 #![tactic(auto)]
 
 #[cfg(test)]
+mod aggs;
+#[cfg(test)]
 mod desks;
 #[cfg(test)]
 mod faults;

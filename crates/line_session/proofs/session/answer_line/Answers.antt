@@ -9,8 +9,10 @@ returns-in-Err-clause-answered g c =
     let cut = c.in-Err.ensures.cut in (
       cut.0,
       handled.1,
-      record { passed = cut.1; answered = handled.2; theirs = handled.3 },
-      record { position = handled.0; reply = c.reply_to_line-reply.result.0; handles = handled.4; ends = subst (λ (text : List ℕ). IsCutOff text cut.0) c.as_str.ensures cut.2 },
+      handled.2,
+      handled.3,
+      record { passed = cut.1; answered = handled.4; theirs = handled.5 },
+      record { position = handled.0; reply = c.reply_to_line-reply.result.0; handles = handled.6; ends = subst (λ (text : List ℕ). IsCutOff text cut.0) c.as_str.ensures cut.2 },
     )
 
 pub returns-clause-answered : goal.returns-clause-answered
@@ -18,11 +20,13 @@ returns-clause-answered g c =
     let handled = c.reply_to_line-reply.ensures.handled in (
       sent c.as_str.result.now,
       handled.1,
-      record { passed = c.in-Ok.ensures.passed; answered = handled.2; theirs = handled.3 },
+      handled.2,
+      handled.3,
+      record { passed = c.in-Ok.ensures.passed; answered = handled.4; theirs = handled.5 },
       record {
         position = handled.0;
         reply = c.reply_to_line-reply.result.0;
-        handles = handled.4;
+        handles = handled.6;
         ends = (sym c.reply_to_line-reply.ensures.ends ∙ c.if-ends.false, ap sent c.as_str.ensures);
       },
     )

@@ -1,6 +1,5 @@
 -- A session that was served over the desk of a cache.
-use Rattle.std.proofs.Common.{◌≤◌, ◌+◌, ap, ◌∙◌, subst}
-use Rattle.line_session.specs.Desks.{costs_started}
+use Rattle.std.proofs.Common.{ap, arith, ◌∙◌, subst}
 use Rattle.shown_values.specs.contracts.formatter.FormatterGivesTexts.TheImpl as formats
 use Rattle.segment_header.specs.contracts.widener.WidenerAllowsValues.TheImpl as widens
 use Rattle.line_session.specs.Tools.{tools_of}
@@ -14,12 +13,13 @@ returns-clause-served g c =
     let start = around_of g.D.Depot.answers g.K.Link.talk g.K.Link.left c.args.depot.now c.args.link.now in
     let finish = around_of g.D.Depot.answers g.K.Link.talk g.K.Link.left c.serve_desk-status.new.depot c.serve_desk-status.new.link in
     let same = c.into_manager-manager.ensures.same in
-    ends_run (tools_of ((formats.answers-value g.dyn-1).it c.args.tools.now.formatter) ((widens.answers-value g.dyn-2).it c.args.tools.now.widener)) (g.D.Depot.files c.args.depot.now) c.args.opened c.serve_desk-status.new.desk c.into_history.result start finish c.serve_desk-status.result
-    (c.into_history.ensures.setting ∙ ap (λ (k : CacheOf). k.setting) same) (c.into_history.ensures.entries ∙ ap (λ (k : CacheOf). k.entries) same)
-    (subst (λ (k : CacheOf). ServesDesk (tools_of ((formats.answers-value g.dyn-1).it c.args.tools.now.formatter) ((widens.answers-value g.dyn-2).it c.args.tools.now.widener)) (g.D.Depot.files c.args.depot.now) k c.serve_desk-status.new.desk start finish c.serve_desk-status.result) c.new-desk.ensures c.serve_desk-status.ensures.served)
+    let served = c.serve_desk-status.ensures.served in (
+      served.0,
+      served.1,
+      ends_run (tools_of ((formats.answers-value g.dyn-1).it c.args.tools.now.formatter) ((widens.answers-value g.dyn-2).it c.args.tools.now.widener)) (g.D.Depot.files c.args.depot.now) c.args.opened c.serve_desk-status.new.desk c.into_history.result start finish c.serve_desk-status.result served.0
+          (c.into_history.ensures.setting ∙ ap (λ (k : CacheOf). k.setting) same) (c.into_history.ensures.entries ∙ ap (λ (k : CacheOf). k.entries) same)
+          (subst (λ (k : CacheOf). ServesDesk (tools_of ((formats.answers-value g.dyn-1).it c.args.tools.now.formatter) ((widens.answers-value g.dyn-2).it c.args.tools.now.widener)) (g.D.Depot.files c.args.depot.now) k c.serve_desk-status.new.desk start finish c.serve_desk-status.result served.0) c.new-desk.ensures served.2),
+    )
 
-pub returns-clause-cost : goal.returns-clause-cost
-returns-clause-cost g c =
-    let after = c.into_history.ensures.entries ∙ ap (λ (k : CacheOf). k.entries) c.into_manager-manager.ensures.same in
-    let most : CacheOf → Type 0 = λ k. c.serve_desk-status.new.steps ≤ c.args.steps.now + costs_started k.setting.catalog 1 k.entries c.serve_desk-status.new.desk.entries in
-    (c.serve_desk-status.ensures.at_least, rw (after) (subst most c.new-desk.ensures c.serve_desk-status.ensures.at_most))
+pub returns-clause-at_least : goal.returns-clause-at_least
+returns-clause-at_least g c = let read = c.serve_desk-status.ensures.served.1 in omega (arith, read)

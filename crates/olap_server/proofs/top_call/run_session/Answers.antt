@@ -20,13 +20,14 @@ returns-in-Ok-clause-session g c =
     let answers = g.D.Depot.answers c.open_cache.new.depot in
     let finish = around_of g.D.Depot.answers g.K.Link.talk g.K.Link.left c.serve_opened.new.depot c.serve_opened.new.link in
     of_history c.serve_opened.result.history _ _ _
-    (λ history ends within. (
+    (λ history ends all. (
       c.in-Ok.manager,
       answers,
       c.open_cache.new.steps,
+      ends.0,
       c.open_cache.ensures.at_least,
       c.in-Ok.ensures.opened,
-      subst (λ (files : Option Files). EndsRun tools files c.in-Ok.manager history (with_answers start answers) finish c.serve_opened.result.status) c.in-Ok.ensures.same_files ends,
-      within,
+      subst (λ (files : Option Files). EndsRun tools files c.in-Ok.manager history (with_answers start answers) finish c.serve_opened.result.status ends.0) c.in-Ok.ensures.same_files ends.2,
+      ends.1,
     ))
-    c.serve_opened.ensures.served c.serve_opened.ensures.cost
+    c.serve_opened.ensures.served c.serve_opened.ensures.legal

@@ -4,7 +4,7 @@ use Rattle.std.specs.Prelude.{slice_get}
 use Rattle.std.proofs.lemmas.Option.{slice_get-get_or}
 use Rattle.olap_meaning.specs.declared.schema.SchemaAggregate.{SchemaAggregate}
 use Rattle.agg_tables.proofs.FindFacts.{cube_found}
-use Rattle.installed_tables.proofs.cube.cube_of.Goals as goal
+use Rattle.agg_tables.proofs.cube.cube_of.Goals as goal
 
 pub unwrap-requires : goal.unwrap-requires
 unwrap-requires c =
