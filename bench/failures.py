@@ -120,12 +120,11 @@ def kept_of_report(made):
     """The text of what is kept, without the loads' numbers and sorted, by whether the append and the flush were made."""
     appended, flushed = made(3), made(15)
     later = 1 + appended
-    quarters, cities = "[Time].[Year]={[1997],[1998]} [Time].[Quarter]={[Q1],[Q2]} [Store].[State]={[CA],[WA]}", \
-        "[Time].[Year]={[1997]} [Store].[State]={[CA],[WA]} [Store].[City]={[LA],[SF],[Seattle]}"
+    quarters, cities = "[Time].[Year]=* [Time].[Quarter]=* [Store].[State]=*", "[Time].[Year]={[1997]} [Store].[State]=* [Store].[City]=*"
     loads = [f"L\t1\t[Units]\t{quarters}\t{int(flushed)}", f"L\t1\t[Count]\t{quarters}\t0", f"L\t{later}\t[Units]\t{cities}\t{int(flushed)}"]
     loads += [f"L\t{later}\t[{it}]\t{cities}\t0" for it in ("Count", "Average", "Customers", "Least", "Greatest")]
     loads += [f"L\t{later}\t[Average]\t[Time].[Year]={{[1998]}} [Store].[State]={{[CA]}}\t0"]  # 1997 is rolled up from the cities
-    loads += [f"L\t{later}\t[Units]\t[Time].[Year]={{[1997]}} [Time].[Quarter]={{[Q1]}} [Store].[State]={{[CA],[WA]}}\t0"] * flushed
+    loads += [f"L\t{later}\t[Units]\t[Time].[Year]={{[1997]}} [Time].[Quarter]={{[Q1]}} [Store].[State]=*\t0"] * flushed
     return "\n".join([f"CACHE # {len(loads)}", *sorted(loads), "."])
 
 
