@@ -43,10 +43,7 @@ told_failure before after events e tells = by tells.heard refl
     by spent is = absurd (rw is at tells.answer)
     by cut_off is = heard_failure tells.hears is
 
--- how often one of two has failed
-first_failure : (es fs : List Event) → 1 ≤ failures es → 1 ≤ failures (es ++ fs)
-first_failure es fs some = omega (arith, failures-append es fs, some)
-
+-- where the later of two has failed, both together have
 last_failure : (es fs : List Event) → 1 ≤ failures fs → 1 ≤ failures (es ++ fs)
 last_failure es fs some = omega (arith, failures-append es fs, some)
 
@@ -91,13 +88,13 @@ line_whole last text before after status (inr (is, front)) none = absurd (omega 
 more_than : (before middle after : List Event) (events : List Event) → middle ≡ before ++ events → 1 ≤ failures events → failures middle ≤ failures after → failures after ≡ failures before → ⊥
 more_than before middle after events passed some grown none = omega (arith, ap failures passed, failures-append before events, some, grown, none)
 
-served_complete : (tools : ToolsOf) (files : Option Files) (opened cache : CacheOf) (start finish : Around) (status : Status) (read : ℕ) → HasServed tools files opened cache start finish status read → failures finish.talk ≡ failures start.talk → status ≢ Memory → IsComplete tools files opened cache start finish status
+served_complete : (tools : ToolsOf) (files : Option Files) (opened cache : CacheOf) (start finish : Around) (status : Status) (read : ℕ) → HasServed tools files opened cache start finish status read → failures finish.talk ≡ failures start.talk → status ≢ Memory → IsComplete tools files opened cache start finish status read
 served_complete tools files opened cache start finish status read served none memory = by served.end refl served.conversed served.last
   where
-    complete : (e : SessionEnd) → served.end ≡ e → status_by_itself e ≡ Some status → IsComplete tools files opened cache start finish status
-    complete e is itself = record { end = served.end; by_itself = rw is itself; talk = served.talk; handled = served.handled; conversed = served.conversed; last = served.last }
+    complete : (e : SessionEnd) → served.end ≡ e → status_by_itself e ≡ Some status → IsComplete tools files opened cache start finish status read
+    complete e is itself = record { end = served.end; by_itself = rw is itself; talk = served.talk; handled = served.handled; conversed = served.conversed; last = served.last; read_is = served.read_is }
 
-    by : (e : SessionEnd) → served.end ≡ e → HasConversed tools start.talk served.talk start.answers finish.answers files (fresh byte_limit) (desk_over opened) (desk_over cache) e served.handled → IsLast e served.talk finish.talk status → IsComplete tools files opened cache start finish status
+    by : (e : SessionEnd) → served.end ≡ e → HasConversed tools start.talk served.talk start.answers finish.answers files (fresh byte_limit) (desk_over opened) (desk_over cache) e served.handled → IsLast e served.talk finish.talk status → IsComplete tools files opened cache start finish status read
     by end.Quit is conversed last = complete end.Quit is (ap Some (sym last.0))
     by end.EndOfInput is conversed last = complete end.EndOfInput is (ap Some (sym last.0))
     by end.LongLine is conversed last = complete end.LongLine is (ap Some (sym last.0))
@@ -106,6 +103,6 @@ served_complete tools files opened cache start finish status read served none me
     by end.SendFault is conversed last = absurd (more_than start.talk served.talk finish.talk conversed.events conversed.passed (ended_failure conversed.converses) (omega (arith, ap failures last.1)) none)
     by end.Memory is conversed last = absurd last
 
-pub run_complete : (tools : ToolsOf) (files : Option Files) (opened : CacheOf) (history : HistoryOf) (start finish : Around) (status : Status) (read : ℕ) → EndsRun tools files opened history start finish status read → failures finish.talk ≡ failures start.talk → status ≢ Memory → IsComplete tools files opened (cache_of history) start finish status
+pub run_complete : (tools : ToolsOf) (files : Option Files) (opened : CacheOf) (history : HistoryOf) (start finish : Around) (status : Status) (read : ℕ) → EndsRun tools files opened history start finish status read → failures finish.talk ≡ failures start.talk → status ≢ Memory → IsComplete tools files opened (cache_of history) start finish status read
 run_complete tools files opened history start finish status read (inl served) none memory = served_complete tools files opened (cache_of history) start finish status read served none memory
 run_complete tools files opened history start finish status read (inr begun) none memory = absurd (memory (line_whole Memory _ start.talk finish.talk status begun.last none))

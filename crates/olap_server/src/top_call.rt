@@ -70,7 +70,7 @@ pub fn run<D: Depot, K: Link, L: Ledger>(
         (around_of D.answers K.talk K.left depot.old link.old)
         (around_of D.answers K.talk K.left depot.new link.new) }
 
-    // Then no row was read, but by the check of an aggregate table's file.
+    // Then no step was added, but for the rows over which an aggregate table's file is checked.
     ensures few { result.history ≡ None
         → AddsFew words.now (D.files depot.old) (D.answers depot.old) (D.answers depot.new)
         steps.old steps.new }
