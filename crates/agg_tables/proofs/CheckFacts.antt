@@ -19,8 +19,7 @@ use Rattle.agg_tables.specs.declared.declared.Declared.{Declared}
 use Rattle.agg_tables.specs.declared.fault.AggFault.{AggFault}
 use Rattle.agg_tables.specs.declared.fault.AggFault.TheVariants.{GroupTwice, OutOfMemory as NoMemory}
 use Rattle.agg_tables.specs.Declarations.{columns_below}
-use Rattle.csv_records.specs.Files.{file_records}
-use Rattle.agg_tables.specs.Files.{file_fault, header_fault, group_fault, group_rows, level_fault, record_values, records_fault, row_fault}
+use Rattle.agg_tables.specs.Files.{fault_among, header_fault, group_fault, group_rows, level_fault, record_values, records_fault, row_fault}
 use Rattle.agg_tables.specs.Tables.{table_columns, values_in}
 
 pub on_ok : {T E : Type 0} (r : Result T E) (P Q : Type 0) → (P → Q) → OnOk r P → OnOk r Q
@@ -88,6 +87,6 @@ pub no_fault : (whole first rest : Option AggFault) → whole ≡ option_or firs
 no_fault whole first rest is none = sym (rw none at is)
 
 -- the faults of a file whose header has none are those of its records
-pub file_told : (catalog : Catalog) (bytes : List ℕ) (rows : List Row) (declared : Declared) (header : List (List ℕ)) (left : List (List (List ℕ))) → file_records bytes ≡ header ∷ left → header_fault declared header ≡ None
-    → file_fault catalog bytes rows declared ≡ records_fault catalog declared header rows [] left
-file_told catalog bytes rows declared header left is none = rw (is, none) refl
+pub records_told : (catalog : Catalog) (file : List (List (List ℕ))) (rows : List Row) (declared : Declared) (header : List (List ℕ)) (left : List (List (List ℕ))) → file ≡ header ∷ left → header_fault declared header ≡ None
+    → fault_among catalog file rows declared ≡ records_fault catalog declared header rows [] left
+records_told catalog file rows declared header left is none = rw (is, none) refl

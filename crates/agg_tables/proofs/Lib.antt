@@ -9,3 +9,4 @@ pub mod GroupFacts
 pub mod CheckFacts
 mod RightFacts
 pub mod LoadFacts
+pub mod CheapFacts

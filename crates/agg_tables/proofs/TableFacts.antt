@@ -1,7 +1,8 @@
 -- The bodies of a table are those of one list of rows, and its groups are theirs.
 use Rattle.std.proofs.Common.{◌≡◌, ◌∙◌, ◌<◌, ◌≤◌, ℕ, ℤ, not, List, [], ◌∷◌, Option, None, Some, filter, filter_map, length, map, get_or, bytes_eq, refl, sym, ap, arith}
-use Rattle.std.specs.Prelude.{option_map}
+use Rattle.std.specs.Prelude.{Contains, option_map}
 use Rattle.std.specs.List.{cons_option}
+use Rattle.std.proofs.lemmas.List.Elements.{All-contains}
 use Rattle.std.proofs.lemmas.List.Filters.{length-filter_both}
 use Rattle.olap_meaning.specs.declared.cells.Header.{Header}
 use Rattle.olap_meaning.specs.declared.tables.Catalog.{Catalog}
@@ -59,3 +60,9 @@ is_table catalog declared rows = by (folds_of declared.measures) (folded declare
 pub groups_there : (bodies : List BodyOf) (first : BodyOf) (d : BodyOf) → 0 < length bodies → first ≡ get_or bodies 0 d → different_values first.rows ≡ groups_in bodies
 groups_there [] first d some is = absurd (omega arith)
 groups_there (body ∷ bodies) first d some is = rw is (different_texts body.rows)
+
+-- each body of a table has its groups
+pub groups_shared : (bodies : List BodyOf) (wide : BodyOf) → IsTable bodies → Contains bodies wide → different_values wide.rows ≡ groups_in bodies
+groups_shared [] wide is inside = absurd (omega (arith, is.some))
+groups_shared (first ∷ rest) wide is inside =
+    different_texts wide.rows ∙ ap first_appearances (All-contains (λ (body : BodyOf). values_in body ≡ values_in first) (first ∷ rest) wide (is.alike first).values inside)

@@ -166,12 +166,15 @@ records_fault catalog declared header rows seen (row ∷ records) =
     (records_fault catalog declared header rows
     (seen ++ record_values catalog declared header row ∷ []) records)
 
--- the first fault of a table's file over some fact rows, from the header down
-abbrev pub file_fault : Catalog → List ℕ → List Row → Declared → Option AggFault
-file_fault catalog bytes rows declared =
-    let file = file_records bytes in
+-- the first fault of the header and the records of a table's file over some fact rows, from the header down
+abbrev pub fault_among : Catalog → List (List (List ℕ)) → List Row → Declared → Option AggFault
+fault_among catalog file rows declared =
     option_or (header_fault declared (header_of file))
     (records_fault catalog declared (header_of file) rows [] (records_of file))
+
+-- the first fault of a table's file
+abbrev pub file_fault : Catalog → List ℕ → List Row → Declared → Option AggFault
+file_fault catalog bytes rows declared = fault_among catalog (file_records bytes) rows declared
 
 -- the same of the table at a place of the schema
 abbrev pub check_fault : Catalog → ℕ → List ℕ → List Row → Option AggFault

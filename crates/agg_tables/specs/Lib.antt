@@ -6,3 +6,4 @@ pub mod Places
 pub mod Checks
 pub mod RightFiles
 pub mod Costs
+pub mod Cheapest

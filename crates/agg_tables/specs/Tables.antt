@@ -61,7 +61,7 @@ pub record TableOf : Type 0 where
 abbrev pub values_in : BodyOf → List (List ℕ)
 values_in body = map (λ row. row.0) body.rows
 
--- what holds of the bodies of a table: there is one, and all have the same columns, of one cube, and rows of the same values
+-- what bodies have in common with one: the cube, the columns, and the values of their rows
 pub record AreAlike (bodies : List BodyOf) (first : BodyOf) : Type 0 where
   pub cubes : All (λ body. body.header.cube ≡ first.header.cube) bodies
   pub columns : All (λ body. body.header.columns ≡ first.header.columns) bodies
@@ -71,7 +71,7 @@ pub record AreAlike (bodies : List BodyOf) (first : BodyOf) : Type 0 where
 abbrev pub first_body : List BodyOf → BodyOf → BodyOf
 first_body bodies none = slice_index_or bodies 0 none
 
--- the bodies of a table are those of one list of rows
+-- what holds of the bodies of a table: there is one, and all have its cube, its columns and the values of its rows
 pub record IsTable (bodies : List BodyOf) : Type 0 where
   pub some : 0 < length bodies
   pub alike : (none : BodyOf) → AreAlike bodies (first_body bodies none)

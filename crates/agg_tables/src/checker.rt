@@ -239,16 +239,41 @@ impl<'a> Checker<'a> {
             ⊎ (records_fault self.now.file.catalog self.now.file.declared self.now.file.header
             self.now.rows [] rows.old ≡ Some e)) }
     {
-        // There are no more groups than rows, so what was seen has room for the values of each.
-        let groups = self.groups();
         let mut seen = self.nothing_seen(alloc)?;
         let mut row = Record::new(alloc);
         let mut found = Vec::new(alloc);
         let mut values = Vec::new(alloc);
+        self.check_each(alloc, rows, &mut seen, &mut row, &mut found, &mut values)
+    }
+
+    // Checks the records that are left, where none was seen yet. The buffers are for a record, the values of its levels, and
+    // those of the table's columns.
+    fn check_each(
+        &self,
+        alloc: Global,
+        rows: &mut Rows<'_>,
+        seen: &mut Body,
+        row: &mut Record,
+        found: &mut Vec<ValueId>,
+        values: &mut Vec<ValueId>,
+    ) -> Result<(), AggFault>
+        requires none { seen.old.rows ≡ [] }
+        requires columns { seen.old.header.columns
+            ≡ table_columns self.now.file.catalog self.now.file.declared }
+        ensures sound { OnOk result
+            (records_fault self.now.file.catalog self.now.file.declared self.now.file.header
+            self.now.rows [] rows.old ≡ None) }
+        ensures err { IfErr result
+            (λ e. (e ≡ AggFault.OutOfMemory)
+            ⊎ (records_fault self.now.file.catalog self.now.file.declared self.now.file.header
+            self.now.rows [] rows.old ≡ Some e)) }
+    {
+        // There are no more groups than rows, so what was seen has room for the values of each.
+        let groups = self.groups();
         let mut count = 0u32;
-        while rows.next(&mut row)? {
+        while rows.next(row)? {
             let n = u64::from(count) + 1;
-            self.check_row(alloc, &row, n, &seen, &mut found, &mut values)?;
+            self.check_row(alloc, row, n, seen, found, values)?;
             seen.add(values.as_slice(), None)?;
             count += 1;
         }

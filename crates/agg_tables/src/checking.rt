@@ -1,9 +1,11 @@
 //! Checking a file against the aggregate table that it is to hold.
-ghost use Rattle.std.specs.Prelude.{◌≡◌, ◌⊎◌, ◌<◌, ◌+◌, ◌≤◌, [], IfErr, IfOk, IfSome, IsTrue, None, OnOk, Some, length, map};
+ghost use Rattle.std.specs.Prelude.{◌≡◌, ◌⊎◌, ◌<◌, ◌+◌, ◌≤◌, ◌∷◌, [], IfErr, IfOk, IfSome, IsTrue, None, OnOk, Some, length, map};
 ghost use Rattle.olap_meaning.specs.Catalog.{table_cube};
+ghost use Rattle.olap_meaning.specs.Records.{header_of};
 ghost use Rattle.fact_reader.specs.BodyRows.{are_batches, rows_in};
 ghost use Rattle.agg_tables.specs.Bound.{IsPlaced};
-ghost use Rattle.agg_tables.specs.Files.{check_fault, file_fault, header_fault};
+ghost use Rattle.agg_tables.specs.Files.{check_fault, fault_among, file_fault, header_fault};
+ghost use Rattle.agg_tables.specs.Places.{IsBound};
 ghost use Rattle.agg_tables.specs.Tables.{built, fold_over, folds_of};
 
 use crate::checker::Checker;
@@ -16,6 +18,7 @@ use crate::table::AggTable;
 use csv_records::{Record, Rows};
 use fact_versions::{Snapshot, Steps};
 use olap_catalog::Catalog;
+use olap_meaning::OutOfMemory;
 use segment_body::Body;
 use std::alloc::Global;
 use std::sync::ledger::Ledger;
@@ -40,6 +43,7 @@ pub fn check<L: Ledger>(
     ensures fault { IfErr result
         (λ e. (e ≡ AggFault.OutOfMemory)
         ⊎ (check_fault catalog.now table bytes.now (rows_in snapshot.now) ≡ Some e)) }
+    ensures cost { OnOk result (steps.new ≡ steps.old + length (rows_in snapshot.now)) }
     ensures at_least { steps.old ≤ steps.new }
     ensures at_most { steps.new ≤ steps.old + length (rows_in snapshot.now) }
 {
@@ -68,21 +72,102 @@ fn checked<L: Ledger>(
     ensures fault { IfErr result
         (λ e. (e ≡ AggFault.OutOfMemory)
         ⊎ (file_fault catalog.now bytes.now (rows_in snapshot.now) declared.now ≡ Some e)) }
+    ensures cost { OnOk result (steps.new ≡ steps.old + length (rows_in snapshot.now)) }
     ensures at_least { steps.old ≤ steps.new }
     ensures at_most { steps.new ≤ steps.old + length (rows_in snapshot.now) }
 {
     let mut rows = Rows::new(alloc, bytes);
+    checked_rows(alloc, catalog, declared, &mut rows, snapshot, steps)
+}
+
+// What a table sums up, where the header and the records of a file hold it.
+fn checked_rows<L: Ledger>(
+    alloc: Global,
+    catalog: &Catalog,
+    declared: &Declared,
+    rows: &mut Rows<'_>,
+    snapshot: &Snapshot,
+    steps: &mut Steps<L>,
+) -> Result<Vec<Body>, AggFault>
+    requires placed { IsPlaced catalog.now declared.now }
+    requires fit { IsTrue (are_batches catalog.now declared.now.cube snapshot.now) }
+    ensures folded { IfOk result
+        (λ bodies. bodies.items
+        ≡ map (fold_over catalog.now declared.now (rows_in snapshot.now))
+        (folds_of declared.now.measures)) }
+    ensures sound { OnOk result
+        (fault_among catalog.now rows.old (rows_in snapshot.now) declared.now ≡ None) }
+    ensures fault { IfErr result
+        (λ e. (e ≡ AggFault.OutOfMemory)
+        ⊎ (fault_among catalog.now rows.old (rows_in snapshot.now) declared.now ≡ Some e)) }
+    ensures cost { OnOk result (steps.new ≡ steps.old + length (rows_in snapshot.now)) }
+    ensures at_least { steps.old ≤ steps.new }
+    ensures at_most { steps.new ≤ steps.old + length (rows_in snapshot.now) }
+{
+    let file = file_of(alloc, catalog, declared, rows)?;
+    let checker = checker_of(alloc, catalog, declared, file, snapshot, steps)?;
+    checker.check_records(alloc, rows)?;
+    Ok(own_bodies(checker, declared))
+}
+
+// The table over the header of its file, which is the first record.
+fn file_of<'a>(
+    alloc: Global,
+    catalog: &'a Catalog,
+    declared: &'a Declared,
+    rows: &mut Rows<'_>,
+) -> Result<TableFile<'a>, AggFault>
+    requires placed { IsPlaced catalog.now declared.now }
+    ensures catalog { IfOk result (λ file. file.catalog ≡ catalog.entry.now) }
+    ensures declared { IfOk result (λ file. file.declared ≡ declared.entry.now) }
+    ensures bound { IfOk result (λ file. IsBound file.catalog file.declared file.folds) }
+    ensures first { IfOk result (λ file. rows.old ≡ file.header ∷ rows.new) }
+    ensures sound { IfOk result (λ file. header_fault declared.entry.now file.header ≡ None) }
+    ensures fault { IfErr result
+        (λ e. (e ≡ AggFault.OutOfMemory)
+        ⊎ (header_fault declared.entry.now (header_of rows.old) ≡ Some e)) }
+{
     let mut header = Record::new(alloc);
     if !rows.next(&mut header)? {
         return Err(empty_file(declared));
     }
-    let file = TableFile::bind(alloc, catalog, declared, header)?;
+    TableFile::bind(alloc, catalog, declared, header)
+}
+
+// What compares the records of a file with the rows of a snapshot, which are summed up for it.
+fn checker_of<'a, L: Ledger>(
+    alloc: Global,
+    catalog: &Catalog,
+    declared: &Declared,
+    file: TableFile<'a>,
+    snapshot: &'a Snapshot,
+    steps: &mut Steps<L>,
+) -> Result<Checker<'a>, OutOfMemory>
+    requires catalog { file.catalog ≡ catalog.now }
+    requires declared { file.declared ≡ declared.now }
+    requires bound { IsBound file.catalog file.declared file.folds }
+    requires fit { IsTrue (are_batches catalog.now declared.now.cube snapshot.now) }
+    ensures checker { IfOk result
+        (λ checker. checker ≡ record { file = file.entry; rows = rows_in snapshot.entry.now }) }
+    ensures cost { OnOk result (steps.new ≡ steps.old + length (rows_in snapshot.entry.now)) }
+    ensures at_least { steps.old ≤ steps.new }
+    ensures at_most { steps.new ≤ steps.old + length (rows_in snapshot.entry.now) }
+{
     let bodies = sum_up(alloc, catalog, declared, file.folds(), snapshot, steps)?;
-    let checker = Checker::new(file, snapshot, bodies);
-    checker.check_records(alloc, &mut rows)?;
+    Ok(Checker::new(file, snapshot, bodies))
+}
+
+// The bodies of a table: of those that were summed up for its file the first.
+fn own_bodies(checker: Checker<'_>, declared: &Declared) -> Vec<Body>
+    requires declared { checker.file.declared ≡ declared.now }
+    requires bound { IsBound checker.file.catalog checker.file.declared checker.file.folds }
+    ensures { result.items
+        ≡ map (fold_over checker.entry.file.catalog declared.now checker.entry.rows)
+        (folds_of declared.now.measures) }
+{
     let mut bodies = checker.into_bodies();
     bodies.truncate(fold_count(declared));
-    Ok(bodies)
+    bodies
 }
 
 // The fault of a file without a record, which has no columns.

@@ -45,6 +45,23 @@ impl<'a> Model for TableFile<'a> {
     ghost invariant = { λ a. IsFile a.catalog.now a.declared.now a.header a.folds.items (record { levels = a.level_places.items; order = a.order.items; count = a.count_place; columns = a.columns.items; numbers = a.column_places.items; folds = a.column_folds.items }) };
 }
 
+// Where the columns of a table stand in the header of its file.
+#[derive(Drop)]
+struct Found {
+    level_places: Vec<usize>,
+    count_place: usize,
+    columns: Vec<FileColumn>,
+    column_places: Vec<usize>,
+}
+
+// What is summed up for the file of a table, and of which levels the values of its columns are, in the order of the columns.
+#[derive(Drop)]
+struct Plan {
+    order: Vec<usize>,
+    folds: Vec<Fold>,
+    column_folds: Vec<usize>,
+}
+
 impl<'a> TableFile<'a> {
     /// Finds the columns of a table in a header.
     pub(crate) fn bind(
@@ -63,27 +80,19 @@ impl<'a> TableFile<'a> {
         ensures fault { IfErr result
             (λ e. (e ≡ AggFault.OutOfMemory) ⊎ (header_fault declared.entry.now header ≡ Some e)) }
     {
-        if !header.is_csv(&header) {
-            return Err(AggFault::NotCsv { row: 0 });
-        }
-        let columns = file_columns(alloc, declared.measures.as_slice())?;
-        let level_places = place_levels(alloc, &header, declared.levels.as_slice())?;
-        let count_place = place_count(&header, &declared.fact_count)?;
-        let column_places = place_columns(alloc, &header, columns.as_slice())?;
-        let order = level_order(alloc, catalog, declared.levels.as_slice())?;
-        let mut folds = folds_of(alloc, declared.measures.as_slice())?;
-        let column_folds = place_folds(alloc, &mut folds, columns.as_slice())?;
+        let found = find_columns(alloc, declared, &header)?;
+        let plan = plan_folds(alloc, catalog, declared, found.columns.as_slice())?;
         Ok(TableFile {
             catalog,
             declared,
             header,
-            level_places,
-            order,
-            count_place,
-            columns,
-            column_places,
-            folds,
-            column_folds,
+            level_places: found.level_places,
+            order: plan.order,
+            count_place: found.count_place,
+            columns: found.columns,
+            column_places: found.column_places,
+            folds: plan.folds,
+            column_folds: plan.column_folds,
         })
     }
 
@@ -227,6 +236,61 @@ impl<'a> TableFile<'a> {
         self.order_values(found.as_slice(), values)?;
         Ok(())
     }
+}
+
+// Where the columns of a table stand in a header. The first that is not there is the fault.
+fn find_columns(alloc: Global, declared: &Declared, header: &Record) -> Result<Found, AggFault>
+    ensures levels { IfOk result
+        (λ found. AreLevelsPlaced header.now declared.now.levels found.level_places.items) }
+    ensures count { IfOk result
+        (λ found. column_place declared.now.fact_count header.now ≡ Some found.count_place) }
+    ensures columns { IfOk result
+        (λ found. found.columns.items ≡ meaning.file_columns declared.now.measures) }
+    ensures numbers { IfOk result
+        (λ found. AreNumbersPlaced header.now found.columns.items found.column_places.items) }
+    ensures sound { IfOk result (λ _. header_fault declared.now header.now ≡ None) }
+    ensures fault { IfErr result
+        (λ e. (e ≡ AggFault.OutOfMemory) ⊎ (header_fault declared.now header.now ≡ Some e)) }
+{
+    if !header.is_csv(header) {
+        return Err(AggFault::NotCsv { row: 0 });
+    }
+    let level_places = place_levels(alloc, header, declared.levels.as_slice())?;
+    let count_place = place_count(header, &declared.fact_count)?;
+    let columns = file_columns(alloc, declared.measures.as_slice())?;
+    let column_places = place_columns(alloc, header, columns.as_slice())?;
+    Ok(Found {
+        level_places,
+        count_place,
+        columns,
+        column_places,
+    })
+}
+
+// What is summed up for the columns of numbers of a table's file, and the order of its levels.
+fn plan_folds(
+    alloc: Global,
+    catalog: &Catalog,
+    declared: &Declared,
+    columns: &[FileColumn],
+) -> Result<Plan, OutOfMemory>
+    requires placed { IsPlaced catalog.now declared.now }
+    requires columns { columns.now ≡ meaning.file_columns declared.now.measures }
+    ensures order { IfOk result
+        (λ plan. plan.order.items
+        ≡ order_below declared.now.levels (length catalog.now.columns)) }
+    ensures bound { IfOk result (λ plan. IsBound catalog.now declared.now plan.folds.items) }
+    ensures summed { IfOk result
+        (λ plan. AreSummed plan.folds.items columns.now plan.column_folds.items) }
+{
+    let order = level_order(alloc, catalog, declared.levels.as_slice())?;
+    let mut folds = folds_of(alloc, declared.measures.as_slice())?;
+    let column_folds = place_folds(alloc, &mut folds, columns)?;
+    Ok(Plan {
+        order,
+        folds,
+        column_folds,
+    })
 }
 
 fn value_at(found: &[ValueId], place: usize) -> ValueId

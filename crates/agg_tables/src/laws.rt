@@ -1,6 +1,7 @@
 //! Laws of the definitions. A call of one costs nothing.
 ghost use Rattle.std.specs.Prelude.{◌≡◌, ℕ, Some};
 ghost use Rattle.agg_tables.specs.Bound.{IsPlaced};
+ghost use Rattle.agg_tables.specs.Cheapest.{CheapestIsLeast};
 ghost use Rattle.agg_tables.specs.Declarations.{declared_table};
 ghost use Rattle.agg_tables.specs.RightFiles.{RightFilesHaveNoFault};
 ghost use Rattle.agg_tables.specs.declared.declared.Declared.{Declared};
@@ -21,4 +22,10 @@ pub fn tables_are_placed(catalog: &Catalog)
 /// record, in whatever order, and each record says what the rows of its group give.
 pub fn right_files_have_no_fault()
     ensures { RightFilesHaveNoFault }
+{}
+
+/// What a load reads is the cheapest of the facts and some tables that may be read: of several that cost as much the first, and
+/// the facts last.
+pub fn cheapest_is_least()
+    ensures { CheapestIsLeast }
 {}

@@ -3,7 +3,9 @@ ghost use Rattle.std.specs.Prelude.{◌≡◌, ◌+◌, ◌≤◌, ◌==◌, Con
 ghost use Rattle.std.specs.List.{list_all, list_any};
 ghost use Rattle.olap_meaning.specs.Rolled as rolled;
 ghost use Rattle.segment_header.specs.Headers.{is_header};
+ghost use Rattle.segment_body.specs.BodyOf.{different_values};
 ghost use Rattle.fact_reader.specs.BodyRows.{HoldsRows, are_batches, is_loadable, rows_in};
+ghost use Rattle.agg_tables.specs.Tables.{groups_in};
 ghost use Rattle.agg_tables.specs.Costs.{IsTableOver, is_usable, may_read, table_cost};
 ghost use Rattle.agg_tables.specs.Costs as costs;
 
@@ -36,8 +38,8 @@ impl AggTable {
         self.usable(header) && self.version() <= snapshot.version()
     }
 
-    /// How many steps a load of a version of its cube takes that reads it: its groups, and the rows behind its own. It takes
-    /// no memory.
+    /// How many steps a load takes that reads it for a version of its cube that is not older: its groups, and the rows behind
+    /// its own. It takes no memory.
     pub fn cost(&self, snapshot: &Snapshot) -> u64
         ensures { result ≡ table_cost (length (rows_in snapshot.now)) self.now }
     {
@@ -49,13 +51,14 @@ impl AggTable {
         requires { IsTrue (is_usable header.now self.now) }
         ensures own { Contains self.now.bodies result.now }
         ensures serves { IsTrue (costs.serves header.now result.now) }
+        ensures groups { different_values result.now.rows ≡ groups_in self.now.bodies }
     {
         let bodies = self.bodies();
         &bodies[place_serving(header, bodies).unwrap()]
     }
 
     /// The rows of a version of its cube that a header allows, as a load from the facts holds them, in some order: those of
-    /// its own version by its groups, and behind them the later ones. A group that is handed out is a step, as a row is.
+    /// its own version by its groups, and the later ones. A group that is handed out is a step, as a row is.
     pub fn load<L: Ledger>(
         &self,
         alloc: Global,
@@ -82,8 +85,7 @@ impl AggTable {
         let _rows = snapshot.rows();
         let reader = RowReader::new(alloc, catalog, header)?;
         let own = copy_header(alloc, header)?;
-        steps.add(self.groups());
-        let mut body = self.body_for(header).narrowed(own)?;
+        let mut body = self.body_for(header).narrowed(own, steps)?;
         let mut values = Vec::with_capacity(alloc, header.columns.len())?;
         let first = self.first_later();
         add_pieces(&reader, snapshot, first, &mut values, &mut body, steps)?;

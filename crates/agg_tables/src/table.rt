@@ -1,8 +1,10 @@
 //! Aggregate tables.
-ghost use Rattle.std.specs.Prelude.{◌≡◌, ◌<◌, ◌+◌, ◌≤◌, IfOk, IfSome, IsTrue, OnOk, Some, length, nat_lt};
+ghost use Rattle.std.specs.Prelude.{◌≡◌, ◌<◌, ◌+◌, ◌≤◌, IfOk, IfSome, IsTrue, OnOk, Some, length, map, nat_lt};
 ghost use Rattle.olap_meaning.specs.Catalog.{table_cube};
 ghost use Rattle.fact_reader.specs.BodyRows.{are_batches, rows_in};
-ghost use Rattle.agg_tables.specs.Tables.{IsTable, built, groups_in};
+ghost use Rattle.agg_tables.specs.Bound.{IsPlaced};
+ghost use Rattle.agg_tables.specs.Tables.{IsTable, built, fold_over, groups_in};
+ghost use Rattle.agg_tables.specs.Tables as meaning;
 
 use crate::declared::Declared;
 use crate::find::find_table;
@@ -133,7 +135,28 @@ pub fn build<L: Ledger>(
     ensures at_most { steps.new ≤ steps.old + length (rows_in snapshot.now) }
 {
     let declared = find_table(alloc, catalog, table)?;
-    let folds = folds_of(alloc, declared.measures.as_slice())?;
-    let bodies = sum_up(alloc, catalog, &declared, folds.as_slice(), snapshot, steps)?;
+    let bodies = bodies_of(alloc, catalog, &declared, snapshot, steps)?;
     Ok(AggTable::new(table, &declared, snapshot, bodies))
+}
+
+// The rows of a snapshot by each measure of a declared table.
+fn bodies_of<L: Ledger>(
+    alloc: Global,
+    catalog: &Catalog,
+    declared: &Declared,
+    snapshot: &Snapshot,
+    steps: &mut Steps<L>,
+) -> Result<Vec<Body>, OutOfMemory>
+    requires placed { IsPlaced catalog.now declared.now }
+    requires fit { IsTrue (are_batches catalog.now declared.now.cube snapshot.now) }
+    ensures folded { IfOk result
+        (λ bodies. bodies.items
+        ≡ map (fold_over catalog.now declared.now (rows_in snapshot.now))
+        (meaning.folds_of declared.now.measures)) }
+    ensures cost { OnOk result (steps.new ≡ steps.old + length (rows_in snapshot.now)) }
+    ensures at_least { steps.old ≤ steps.new }
+    ensures at_most { steps.new ≤ steps.old + length (rows_in snapshot.now) }
+{
+    let folds = folds_of(alloc, declared.measures.as_slice())?;
+    sum_up(alloc, catalog, declared, folds.as_slice(), snapshot, steps)
 }

@@ -1,7 +1,8 @@
 -- The place of a column among the fact columns of some measures.
 use Rattle.std.proofs.Common.{◌≡◌, ◌∙◌, ◌<◌, ◌≤◌, ◌+◌, ℕ, zero, suc, Bool, true, false, not, cond, List, [], ◌∷◌, ◌++◌, Option, None, Some, length, map, take, drop, get_or, bytes_eq, refl, sym, ap, arith, add-one}
-use Rattle.std.specs.Prelude.{position}
+use Rattle.std.specs.Prelude.{◌==◌, position}
 use Rattle.std.specs.List.{list_any, list_all}
+use Rattle.std.proofs.lemmas.List.{map_push, take_more}
 use Rattle.std.proofs.lemmas.List.Folds.{list_any-append}
 use Rattle.olap_meaning.specs.declared.tables.Measure.{Measure}
 use Rattle.olap_meaning.specs.Catalog.{first_appearances}
@@ -11,6 +12,7 @@ use Rattle.std.proofs.lemmas.Bool.{and_parts}
 use Rattle.std.proofs.lemmas.Option.{slice_get-map, slice_get-get_or, slice_get_within}
 use Rattle.olap_meaning.specs.declared.cells.Header.{Header}
 use Rattle.olap_meaning.specs.declared.tables.Catalog.{Catalog}
+use Rattle.olap_meaning.specs.declared.tables.Column.{Column}
 use Rattle.olap_meaning.specs.declared.tables.Cube.{Cube}
 use Rattle.olap_meaning.specs.Catalog.{fact_columns}
 use Rattle.olap_meaning.specs.History.{is_some_and}
@@ -19,7 +21,7 @@ use Rattle.olap_meaning.proofs.Appearances.{any-same}
 use Rattle.catalog_tables.proofs.SeenFacts.{list_any-map}
 use Rattle.segment_body.proofs.Places.{some_at}
 use Rattle.segment_body.proofs.RowFacts.{same_self}
-use Rattle.fact_reader.specs.Reading.{fact_place}
+use Rattle.fact_reader.specs.Reading.{fact_place, place_of}
 use Rattle.fact_reader.specs.BodyRows.{header_measure, is_loadable}
 use Rattle.fact_reader.proofs.RowFacts.{some_and, position_of}
 
@@ -115,3 +117,15 @@ place_none measures i column past unseen =
     take-all [] (suc n) le = refl
     take-all (x ∷ xs) zero le = absurd (omega arith)
     take-all (x ∷ xs) (suc n) le = ap (λ (zs : List _). x ∷ zs) (take-all xs n (omega arith))
+
+-- the place of a column's dimension, where its cube and the column are known
+pub place_given : (catalog : Catalog) (cube column : ℕ) (c : Cube) (own : Column) (place : ℕ) → slice_get catalog.cubes cube ≡ Some c → slice_get catalog.columns column ≡ Some own → position (λ d. d == own.dimension) c.dimensions ≡ Some place
+    → place_of catalog cube column ≡ Some place
+place_given catalog cube column c own place known stands found = rw (stands, known) found
+
+-- one place more
+pub placed_next : {A : Type 0} (f : A → Option ℕ) (places : List ℕ) (xs : List A) (i : ℕ) (x : A) (place : ℕ) → i < length xs → x ≡ get_or xs i x → f x ≡ Some place → map Some places ≡ map f (take i xs)
+    → map Some (places ++ place ∷ []) ≡ map f (take (i + 1) xs)
+placed_next {A} f places xs i x place within is at so_far =
+    let next = take_more xs i x within ∙ ap (λ (y : A). take i xs ++ y ∷ []) (sym is) in
+    map_push Some places place ∙ (λ j. so_far j ++ sym at j ∷ []) ∙ sym (ap (map f) next ∙ map_push f (take i xs) x)

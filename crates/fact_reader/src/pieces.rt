@@ -10,7 +10,7 @@ use std::sync::ledger::Ledger;
 
 /// Adds the rows of a version behind those of its first batches to a body, piece by piece, as far as the header allows them.
 /// Each row is handed out once, for a step. The buffer is for the values of a row: what it holds before and after says
-/// nothing.
+/// nothing. Where memory is wanting, some of the rows may have been added.
 pub fn add_pieces<L: Ledger>(
     reader: &RowReader<'_>,
     snapshot: &Snapshot,

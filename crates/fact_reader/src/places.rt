@@ -69,7 +69,7 @@ pub(crate) fn places_of(
     let mut places = Vec::with_capacity(alloc, columns.len())?;
     for column in columns {
         let dimension = catalog.column(column.0).dimension;
-        places.push(place_in(dimensions, dimension).unwrap())?;
+        places.push_reserved(place_in(dimensions, dimension).unwrap());
     }
     Ok(places)
 }

@@ -4,7 +4,8 @@ ghost use Rattle.std.specs.Prelude.{◌≡◌, ◌+◌};
 use std::marker::Model;
 use std::sync::ledger::{Blank, Book, Ledger, Share};
 
-/// How many rows were handed out, for any ledger. It takes no bytes, and its count only rises.
+/// How many rows of facts, and groups of aggregate tables, were handed out, for any ledger. It takes no bytes, and its count
+/// only rises: each that is handed out adds a step, and whoever has it may add more.
 #[derive(Drop)]
 pub struct Steps<L: Ledger> {
     book: Book<L>,

@@ -1,3 +1,2 @@
 pub mod BuiltFacts
 pub mod CostFacts
-mod CheapFacts

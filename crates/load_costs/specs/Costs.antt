@@ -1,4 +1,5 @@
--- What the loads of a history cost, by the tables that were built before them. (Aggregate Tables)
+-- What the loads of a history cost, by the tables that were built before them; and what the entries of a seat cost. (Aggregate
+-- Tables)
 use Rattle.std.specs.Prelude.{ℕ, zero, suc, ◌+◌, ◌==◌, Bool, true, false, List, [], ◌∷◌, ◌++◌, Option, Some, None, filter_map, length, option_and_then, take, if◌then◌else◌}
 use Rattle.std.specs.List.{range_with_len}
 use Rattle.std.specs.Option.{option_map_or, option_or}
@@ -49,7 +50,8 @@ abbrev pub start_cost : Catalog → List Entry → Load → ℕ
 start_cost catalog history load =
     read_cost (load_rows history load) (start_read catalog history load)
 
--- what the load reads that is started at a position, by the entries before it
+-- what the load reads that is started at a position, by the entries before it: no table where it reads the facts, and where
+-- none is started
 abbrev pub reads : Catalog → List Entry → ℕ → Option TableOf
 reads catalog history zero = None
 reads catalog history (suc before) =

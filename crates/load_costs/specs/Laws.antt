@@ -1,16 +1,16 @@
 -- What the costs of loads depend on, which tables are built, and what a load reads of them.
-use Rattle.std.specs.Prelude.{ℕ, ◌≡◌, ◌≤◌, ◌<◌, ◌↔◌, ◌∷◌, ◌++◌, false, List, All, Contains, IsTrue, None, Option, Some, is_some, map}
+use Rattle.std.specs.Prelude.{ℕ, suc, ◌≡◌, ◌+◌, ◌↔◌, ◌∷◌, ◌++◌, false, List, Contains, IsTrue, Some, is_some, length, map}
 use Rattle.std.specs.List.{list_any}
-use Rattle.olap_meaning.specs.declared.cells.Header.{Header}
 use Rattle.olap_meaning.specs.declared.cells.Who.{Who}
 use Rattle.olap_meaning.specs.declared.tables.Catalog.{Catalog}
 use Rattle.olap_meaning.specs.Catalog.{table_cube}
-use Rattle.olap_meaning.specs.History.{Agg, Entry, Load, load_at, rows_of}
+use Rattle.olap_meaning.specs.History.{Agg, Entry, Load, Start, load_at, rows_of}
 use Rattle.olap_meaning.specs.Legal.{rise}
 use Rattle.olap_meaning.specs.Worth.{load_rows}
-use Rattle.agg_tables.specs.Costs.{may_read, table_cost}
+use Rattle.agg_tables.specs.Cheapest.{IsCheapest}
+use Rattle.agg_tables.specs.Costs.{read_cost}
 use Rattle.agg_tables.specs.Tables.{TableOf, built_over}
-use Rattle.load_costs.specs.Costs.{builds, cost, last_built, reads, start_cost, start_read, tables_built, version_built}
+use Rattle.load_costs.specs.Costs.{builds, cost, last_built, reads, seat_costs, start_cost, start_read, tables_built, version_built}
 
 -- what a load costs and reads that was started stays as it is, whatever comes behind: a table that is built later does not
 -- change it
@@ -20,6 +20,22 @@ CostsStay =
     → load_at entries j ≡ Some load
     → (cost catalog (entries ++ more) j ≡ cost catalog entries j)
     × (reads catalog (entries ++ more) j ≡ reads catalog entries j)
+
+-- what a load reads and costs by its position is what it reads and costs behind the entries before its Start
+abbrev pub LoadsCountAtTheirStart : Type 0
+LoadsCountAtTheirStart =
+    (catalog : Catalog) (before after : List Entry) (load : Load)
+    → (reads catalog (before ++ Start load ∷ after) (suc (length before))
+    ≡ start_read catalog before load)
+    × (cost catalog (before ++ Start load ∷ after) (suc (length before))
+    ≡ read_cost (load_rows before load) (start_read catalog before load))
+
+-- what entries cost a seat is what the first cost it, and what the others cost it that come behind these
+abbrev pub CostsAddUp : Type 0
+CostsAddUp =
+    (catalog : Catalog) (seat : ℕ) (before first others : List Entry)
+    → seat_costs catalog seat before (first ++ others)
+    ≡ seat_costs catalog seat before first + seat_costs catalog seat (before ++ first) others
 
 -- where no table is built a load costs the rows of its version
 abbrev pub LoadsReadRows : Type 0
@@ -50,21 +66,6 @@ TablesAreThoseBuilt =
     → ((table : TableOf)
     → Contains (tables_built catalog history) table ↔ IsBuilt catalog history table)
     × IsTrue (rise (map (λ table. table.table) (tables_built catalog history)))
-
--- a table may be read, and so
-abbrev pub IfMayRead : Header → ℕ → (TableOf → Type 0) → TableOf → Type 0
-IfMayRead header version so table = IsTrue (may_read header version table) → so table
-
--- what is read is the cheapest: the facts, where they cost less than each table that may be read; or a table that may be
--- read, no dearer than the facts, where each that may be read costs more, if it stands before, and no less, if behind
-abbrev pub IsCheapest : Header → ℕ → ℕ → List TableOf → Option TableOf → Type 0
-IsCheapest header version rows tables None =
-    All (IfMayRead header version (λ table. rows < table_cost rows table)) tables
-IsCheapest header version rows tables (Some own) =
-    IsTrue (may_read header version own) × (table_cost rows own ≤ rows)
-    × (before : List TableOf) × (after : List TableOf) × (tables ≡ before ++ own ∷ after)
-    × All (IfMayRead header version (λ table. table_cost rows own < table_cost rows table)) before
-    × All (IfMayRead header version (λ table. table_cost rows own ≤ table_cost rows table)) after
 
 -- a load reads the cheapest of the facts of its version and the tables that were built before its Start
 abbrev pub LoadsReadTheCheapest : Type 0

@@ -1,10 +1,20 @@
 //! Laws of what loads cost. A call of one costs nothing.
-ghost use Rattle.load_costs.specs.Laws.{CostsStay, LastBuildsCount, LoadsReadRows, LoadsReadTheCheapest, TablesAreThoseBuilt};
+ghost use Rattle.load_costs.specs.Laws.{CostsAddUp, CostsStay, LastBuildsCount, LoadsCountAtTheirStart, LoadsReadRows, LoadsReadTheCheapest, TablesAreThoseBuilt};
 
 /// What a load costs and reads that was started stays as it is, whatever comes behind: a table that is built later does not
 /// change it.
 pub fn costs_stay()
     ensures { CostsStay }
+{}
+
+/// What a load reads and costs, by its position, goes by the entries before its Start.
+pub fn loads_count_at_their_start()
+    ensures { LoadsCountAtTheirStart }
+{}
+
+/// What entries cost a seat is a sum over them, each behind those before it.
+pub fn costs_add_up()
+    ensures { CostsAddUp }
 {}
 
 /// Where no table is built a load costs the rows of its version.

@@ -1,4 +1,4 @@
--- What a header takes of the rows of a body that has more columns and more values.
+-- What a header takes of the rows of a body of another header.
 use Rattle.std.specs.Prelude.{ℕ, ℤ, ◌≡◌, List, [], ◌∷◌, ◌==◌, Option, Some, None, filter_map, map, option_and_then, option_map, position, slice_get, if◌then◌else◌}
 use Rattle.std.specs.List.Sorted.{IsPermutation}
 use Rattle.olap_meaning.specs.declared.cells.Allowed.{Allowed}
@@ -44,7 +44,8 @@ abbrev pub narrowed_group : Header → Header → Group → List (List ℕ × Op
 narrowed_group wide header group =
     rows_with (narrowed_values wide header group.values) group.tally.values
 
--- a body narrowed to a header: it has those rows that the header allows, with their values on its columns, in some order
+-- a body narrowed to a header: it is of this header and summed up as before, and has those rows that the header allows, with
+-- their values on its columns, in some order
 pub record IsNarrowed (wide : BodyOf) (header : Header) (body : BodyOf) : Type 0 where
   pub own_header : body.header ≡ header
   pub own_aggregator : body.aggregator ≡ wide.aggregator

@@ -19,12 +19,14 @@ use crate::narrow::narrow_values;
 use crate::search::place_in;
 use crate::tables::CellTable;
 use crate::tallies::CellTallies;
+use fact_versions::Steps;
 use measure_folds::Tally;
 use olap_meaning::{
     Aggregator, Allowed, Cell, CellValue, ColumnId, Header, List, OutOfMemory, ROW_LIMIT, ValueId,
 };
 use std::alloc::Global;
 use std::marker::Model;
+use std::sync::ledger::Ledger;
 use traces::Trace;
 
 /// The rows of a load, summed up by their values on the header's columns.
@@ -267,38 +269,56 @@ impl Body {
         Ok(())
     }
 
-    // Adds the rows of groups of another header, where the own header allows their values.
-    fn add_groups(&mut self, wide: &Header, groups: &GroupTable) -> Result<(), OutOfMemory>
+    // Adds the rows of groups of another header, where the own header allows their values. Each group is handed out once,
+    // for a step.
+    fn add_groups<L: Ledger>(
+        &mut self,
+        wide: &Header,
+        groups: &GroupTable,
+        steps: &mut Steps<L>,
+    ) -> Result<(), OutOfMemory>
         requires adds_up { self.old.aggregator ≢ Aggregator.DistinctCount }
         requires alike { All
             (λ group. group.tally.aggregator ≡ self.old.aggregator) groups.now }
         requires room { length self.old.rows
             + length (flat_map (λ group. group.tally.values) groups.now)
             ≤ ROW_LIMIT }
-        ensures { OnOk result
+        ensures ok { OnOk result
             (self.new
             ≡ record self.old {
               rows = self.old.rows
                   ++ flat_map (narrowed_group wide.now self.old.header) groups.now;
             }) }
+        ensures cost { OnOk result (steps.new ≡ steps.old + length groups.now) }
+        ensures at_least { steps.old ≤ steps.new }
+        ensures at_most { steps.new ≤ steps.old + length groups.now }
     {
         let mut buffer = Vec::new(self.alloc);
         for i in 0..groups.len() {
-            let group = groups.at(i);
+            let group = groups.hand_out(i, steps);
             self.add_narrowed(wide, group.0, group.1, &mut buffer)?;
         }
         Ok(())
     }
 
-    /// The rows that another header allows, with their values on its columns, in some order: it has some of the columns, and
-    /// allows some of their values. It is made group by group, and no row is looked at.
-    pub fn narrowed(&self, header: Header) -> Result<Body, OutOfMemory>
+    /// The rows that another header allows, with their values on its columns, in some order: none, where it has a column that
+    /// these rows lack. Its cube and its measure are not looked at. A group that is handed out is a step; no row is handed
+    /// out.
+    pub fn narrowed<L: Ledger>(
+        &self,
+        header: Header,
+        steps: &mut Steps<L>,
+    ) -> Result<Body, OutOfMemory>
         requires adds_up { self.now.aggregator ≢ Aggregator.DistinctCount }
         requires formed { IsTrue (is_header header) }
-        ensures { IfOk result (IsNarrowed self.now header) }
+        ensures body { IfOk result (IsNarrowed self.now header) }
+        ensures cost { OnOk result
+            (steps.new ≡ steps.old + length (different_values self.now.rows)) }
+        ensures at_least { steps.old ≤ steps.new }
+        ensures at_most { steps.new ≤ steps.old + length (different_values self.now.rows) }
     {
         let mut body = Body::new(self.alloc, header, self.aggregator)?;
-        body.add_groups(&self.header, &self.groups)?;
+        body.add_groups(&self.header, &self.groups, steps)?;
         Ok(body)
     }
 

@@ -1,13 +1,16 @@
 //! Groups: the rows that have the same values on the header's columns.
-ghost use Rattle.std.specs.Prelude.{◌≡◌, ◌≢◌, ◌+◌, ◌≤◌, ◌<◌, ◌∷◌, [], All, IfOk, OnErr, bytes_eq, length, position, slice_index_or, slice_set};
-ghost use Rattle.segment_body.specs.Groups.{Group, IsAdded, IsMerged, group, with_numbers};
+ghost use Rattle.std.specs.Prelude.{◌≡◌, ◌≢◌, ◌+◌, ◌++◌, ◌≤◌, ◌<◌, ◌∷◌, [], false, All, IfOk, OnErr, OnOk, bytes_eq, length, position, slice_index_or, slice_set};
+ghost use Rattle.std.specs.List.{list_any};
+ghost use Rattle.segment_body.specs.Groups.{Group, IsAdded, IsMerged, group, values_of, with_numbers};
 
 use crate::key::Key;
+use fact_versions::Steps;
 use indexmap::IndexMap;
 use measure_folds::Tally;
 use olap_meaning::{Aggregator, OutOfMemory, ROW_LIMIT, ValueId};
 use std::alloc::Global;
 use std::marker::Model;
+use std::sync::ledger::Ledger;
 use traces::Trace;
 
 /// Rows that were added at once, for contracts alone: the place of their group, and their numbers.
@@ -69,6 +72,39 @@ impl GroupTable {
         }
     }
 
+    /// The values of the group at a place, and its tally, for a step.
+    pub(crate) fn hand_out<L: Ledger>(
+        &self,
+        place: usize,
+        steps: &mut Steps<L>,
+    ) -> (&[ValueId], &Tally)
+        requires { place < length self.now }
+        ensures group { group result.0.now result.1.now
+            ≡ slice_index_or self.now place (group result.0.now result.1.now) }
+        ensures cost { steps.new ≡ steps.old + 1 }
+    {
+        steps.add(1);
+        self.at(place)
+    }
+
+    // Puts a group of values that none has at the end. It answers its place.
+    fn push_group(
+        &mut self,
+        alloc: Global,
+        values: &[ValueId],
+        tally: Tally,
+    ) -> Result<usize, OutOfMemory>
+        requires { list_any (bytes_eq values.now) (values_of self.old) ≡ false }
+        ensures place { IfOk result (λ place. place ≡ length self.old) }
+        ensures ok { OnOk result (self.new ≡ self.old ++ group values.now tally ∷ []) }
+        ensures err { OnErr result (self.new ≡ self.old) }
+    {
+        let place = self.tallies.len();
+        let key = Key::new(alloc, values)?;
+        self.tallies.insert(key, tally)?;
+        Ok(place)
+    }
+
     /// Adds a row to the group that has its values, or a new group at the end. It answers the place of the group.
     pub(crate) fn add_row(
         &mut self,
@@ -89,11 +125,8 @@ impl GroupTable {
                 Ok(place)
             }
             None => {
-                let place = self.tallies.len();
                 let tally = first_tally(alloc, aggregator, number)?;
-                let key = Key::new(alloc, values)?;
-                self.tallies.insert(key, tally)?;
-                Ok(place)
+                self.push_group(alloc, values, tally)
             }
         }
     }
@@ -141,12 +174,9 @@ impl GroupTable {
                 Ok(place)
             }
             None => {
-                let place = self.tallies.len();
                 let mut first = Tally::new(alloc, aggregator);
                 first.merge(tally);
-                let key = Key::new(alloc, values)?;
-                self.tallies.insert(key, first)?;
-                Ok(place)
+                self.push_group(alloc, values, first)
             }
         }
     }

@@ -48,20 +48,43 @@ impl CellTable {
         ensures { IfOk result (AreKeyed aggregator cells.now) }
     {
         let columns = columns_in(alloc, cells)?;
+        let mut table = CellTable::over(alloc, columns)?;
+        table.add_cells(alloc, aggregator, cells)?;
+        Ok(table)
+    }
+
+    // The table of no cell, over some columns.
+    fn over(alloc: Global, columns: List<ColumnId>) -> Result<CellTable, OutOfMemory>
+        ensures { IfOk result (λ table. table ≡ record { columns = columns; groups = []; at = [] }) }
+    {
         let places = Vec::from_elem(alloc, 0, columns.len())?;
         let key = Vec::from_elem(alloc, ValueId(0), columns.len())?;
-        let mut table = CellTable {
+        Ok(CellTable {
             columns,
             groups: GroupTable::new(alloc),
             at: Vec::new(alloc),
             places,
             key,
-        };
+        })
+    }
+
+    // Cells, each of the table's columns, where it has none yet.
+    fn add_cells(
+        &mut self,
+        alloc: Global,
+        aggregator: Aggregator,
+        cells: &[Cell],
+    ) -> Result<(), OutOfMemory>
+        requires adds_up { aggregator ≢ Aggregator.DistinctCount }
+        requires none { AreKeyed aggregator [] self.old }
+        requires own { All (λ cell. columns_of cell ≡ self.old.columns) cells.now }
+        ensures { OnOk result (AreKeyed aggregator cells.now self.new) }
+    {
         let none = Tally::new(alloc, aggregator);
-        for i in 0..cells.len() {
-            table.add_cell(alloc, aggregator, cells[i].at.as_slice(), &none)?;
+        for cell in cells {
+            self.add_cell(alloc, aggregator, cell.at.as_slice(), &none)?;
         }
-        Ok(table)
+        Ok(())
     }
 
     // A cell more, by its pairs, and the tally of no row.

@@ -1,2 +1,1 @@
 pub mod ChoiceFacts
-mod LeastFacts

@@ -1,5 +1,5 @@
--- What the body of a load is worth, and that a load reads what costs least.
-use Rattle.std.specs.Prelude.{◌≡◌, ◌≤◌, ◌⊎◌, ℕ, List, All, Contains, Option, None, Some, IsTrue}
+-- What the body of a load is worth.
+use Rattle.std.specs.Prelude.{◌≡◌, ℕ, List, Some, IsTrue}
 use Rattle.olap_meaning.specs.declared.cells.Cell.{Cell}
 use Rattle.olap_meaning.specs.declared.cells.Header.{Header}
 use Rattle.olap_meaning.specs.declared.tables.Catalog.{Catalog}
@@ -10,10 +10,8 @@ use Rattle.olap_meaning.specs.Worth.{value, value_over}
 use Rattle.segment_header.specs.Headers.{is_header}
 use Rattle.segment_body.specs.BodyOf.{BodyOf}
 use Rattle.fact_reader.specs.BodyRows.{HoldsRows, body_of, body_value}
-use Rattle.agg_tables.specs.Costs.{cheapest, may_read, read_cost, table_cost}
-use Rattle.agg_tables.specs.Tables.{TableOf}
 
--- what the body of a load says of a cell that its header just covers is the value of the cell over the loaded rows
+-- what the body that rows alone fill says of a cell that its header just covers is the value of the cell over these rows
 abbrev pub LoadsAreWorth : Type 0
 LoadsAreWorth =
     (catalog : Catalog) (header : Header) (rows : List Row) (body : BodyOf) (cell : Cell)
@@ -30,7 +28,7 @@ LoadsAreWorthInVersions =
     → body_of catalog header (rows_of history header.cube version) ≡ Some body
     → body_value body cell ≡ value catalog history cell version
 
--- the body of a load holds the loaded rows
+-- the body that rows alone fill holds them
 abbrev pub LoadsHoldRows : Type 0
 LoadsHoldRows =
     (catalog : Catalog) (header : Header) (rows : List Row) (body : BodyOf)
@@ -51,21 +49,3 @@ HeldRowsAreWorthInVersions =
     → IsTrue (is_header header) → IsTrue (just_covers header cell)
     → HoldsRows catalog header (rows_of history header.cube version) body
     → body_value body cell ≡ value catalog history cell version
-
--- what is read costs the least: no more than the facts, and no more than a table that may be read; and it is the facts or one
--- of these tables
-pub record IsLeast (header : Header) (version rows : ℕ) (tables : List TableOf)
-    (read : Option TableOf) : Type 0 where
-  pub facts : read_cost rows read ≤ rows
-  pub each : All
-      (λ table. IsTrue (may_read header version table) → read_cost rows read ≤ table_cost rows table)
-      tables
-  pub own : (read ≡ None)
-      ⊎ ((table : TableOf) × Contains tables table × IsTrue (may_read header version table)
-      × (read ≡ Some table))
-
--- the cheapest of the facts and some tables costs the least
-abbrev pub CheapestIsLeast : Type 0
-CheapestIsLeast =
-    (header : Header) (version rows : ℕ) (tables : List TableOf)
-    → IsLeast header version rows tables (cheapest header version rows tables)

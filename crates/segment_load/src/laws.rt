@@ -1,5 +1,5 @@
 //! Laws of loads: each is the contract of a function with an empty body.
-ghost use Rattle.segment_load.specs.Laws.{CheapestIsLeast, HeldRowsAreWorth, HeldRowsAreWorthInVersions, LoadsAreWorth, LoadsAreWorthInVersions, LoadsHoldRows};
+ghost use Rattle.segment_load.specs.Laws.{HeldRowsAreWorth, HeldRowsAreWorthInVersions, LoadsAreWorth, LoadsAreWorthInVersions, LoadsHoldRows};
 
 /// What the body that rows alone fill says of a cell that its header just covers is the value of the cell over these rows.
 pub fn loads_are_worth()
@@ -25,10 +25,4 @@ pub fn held_rows_are_worth()
 /// Over the rows of a version of its cube, it is the value of the cell in that version.
 pub fn held_rows_are_worth_in_versions()
     ensures { HeldRowsAreWorthInVersions }
-{}
-
-/// What a load reads costs the least: no more than the facts, and no more than a table that may be read; and it is the facts
-/// or one of these tables.
-pub fn cheapest_is_least()
-    ensures { CheapestIsLeast }
 {}

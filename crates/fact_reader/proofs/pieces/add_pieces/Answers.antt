@@ -1,6 +1,8 @@
--- That `add_pieces` ensures `at_most`, may call `add_rows` and keeps what holds at each turn.
-use Rattle.std.proofs.Common.{◌∙◌, ℕ, ℤ, List, Option, ◌+◌, ◌++◌, append_assoc, length, length-append, drop, take, ap, sym, arith}
+-- That `add_pieces` ensures what it says, may call what it calls and keeps what holds at each turn.
+use Rattle.std.proofs.Common.{◌∙◌, ℕ, ℤ, List, Option, ◌+◌, ◌++◌, append-nil, append_assoc, length, length-append, length-drop, drop, take, ap, sym, arith}
+use Rattle.std.proofs.lemmas.List.{take_all}
 use Rattle.olap_meaning.specs.declared.tables.Row.{Row}
+use Rattle.fact_versions.specs.FactRows.{FactRows}
 use Rattle.segment_body.specs.BodyOf.{BodyOf}
 use Rattle.fact_reader.specs.BodyRows.{body_rows, rows_in}
 use Rattle.fact_reader.proofs.BatchFacts.{later_at, batch_fits, body_rows-append, body_rows-fit, rows_in_more, rows_in_next, rows_in_within}
@@ -41,3 +43,42 @@ loop-i-preserved g c =
           ∙ ap (λ (rows : List (List ℕ × Option ℤ)). record c.args.body.now { rows = rows }) (append_assoc c.args.body.now.rows had more ∙ ap (λ (rows : List (List ℕ × Option ℤ)). c.args.body.now.rows ++ rows) (sym next));
       counted = omega (arith, c.piece-piece.ensures.cost, c.loop-i.invariant.counted, rows_in_more (drop c.args.first c.args.snapshot.now) c.loop-i.i c.piece-piece.result at);
     }
+
+pub overflow_sub-i-end : goal.overflow_sub-i-end
+overflow_sub-i-end g c = omega (arith, c.pieces.ensures, c.requires.first)
+
+pub loop-i-init : goal.loop-i-init
+loop-i-init g c =
+    record {
+      added = ap (λ (rows : List (List ℕ × Option ℤ)). record c.args.body.now { rows = rows }) (sym (append-nil c.args.body.now.rows));
+      counted = omega arith;
+    }
+
+pub piece-piece-requires : goal.piece-piece-requires
+piece-piece-requires g c = omega (arith, c.pieces.ensures, c.loop-i-test.true)
+
+pub add_rows-requires-clause-same : goal.add_rows-requires-clause-same
+add_rows-requires-clause-same g c = ap (λ (b : BodyOf). b.header) c.loop-i.invariant.added ∙ c.requires.same
+
+pub returns-in_err-add_rows-clause-at_least : goal.returns-in_err-add_rows-clause-at_least
+returns-in_err-add_rows-clause-at_least g c = omega (arith, c.piece-piece.ensures.cost, c.loop-i.invariant.counted)
+
+pub returns-clause-ok : goal.returns-clause-ok
+returns-clause-ok g c =
+    let all = take_all c.loop-i.i (drop c.args.first c.args.snapshot.now) (rw length-drop (omega (arith, c.pieces.ensures, c.loop-i-test.false))) in
+    c.loop-i.invariant.added
+    ∙ ap (λ (batches : List FactRows). record c.args.body.now { rows = c.args.body.now.rows ++ body_rows c.args.reader.now.catalog c.args.reader.now.header (rows_in batches) }) all
+
+pub returns-clause-cost : goal.returns-clause-cost
+returns-clause-cost g c =
+    let all = take_all c.loop-i.i (drop c.args.first c.args.snapshot.now) (rw length-drop (omega (arith, c.pieces.ensures, c.loop-i-test.false))) in
+    c.loop-i.invariant.counted ∙ ap (λ (batches : List FactRows). c.args.steps.now + length (rows_in batches)) all
+
+pub returns-clause-at_least : goal.returns-clause-at_least
+returns-clause-at_least g c = omega (arith, c.loop-i.invariant.counted)
+
+pub returns-clause-at_most : goal.returns-clause-at_most
+returns-clause-at_most g c =
+    let all = take_all c.loop-i.i (drop c.args.first c.args.snapshot.now) (rw length-drop (omega (arith, c.pieces.ensures, c.loop-i-test.false))) in
+    let counted = ap (λ (batches : List FactRows). length (rows_in batches)) all in
+    omega (arith, c.loop-i.invariant.counted, counted)

@@ -13,7 +13,7 @@ add_pieces-requires-clause-first g c = omega (arith, c.first_later-first.ensures
 
 pub add_pieces-requires-clause-room : goal.add_pieces-requires-clause-room
 add_pieces-requires-clause-room g c =
-    let is : IsNarrowed c.body_for.result.now c.args.header.now c.in_ok-body.body = subst (λ (h : Header). IsNarrowed c.body_for.result.now h c.in_ok-body.body) c.in_ok-own.ensures c.in_ok-body.ensures in
+    let is : IsNarrowed c.body_for.result.now c.args.header.now c.in_ok-body.body = subst (λ (h : Header). IsNarrowed c.body_for.result.now h c.in_ok-body.body) c.in_ok-own.ensures c.in_ok-body.ensures.body in
     let few = few_rows c.args.catalog.now c.args.header.now c.args.snapshot.now c.args.self.now c.body_for.result.now c.in_ok-body.body c.tables_are_placed.ensures c.rows_are_valued.ensures c.requires.fit c.requires.own c.requires.usable c.body_for.ensures.own c.body_for.ensures.serves is in
     let split = ap (λ (rows : List Row). length rows) (rows_split c.args.snapshot.now c.args.self.now.version) ∙ length-append (rows_in (take c.args.self.now.version c.args.snapshot.now)) (rows_in (drop c.args.self.now.version c.args.snapshot.now)) in
     let behind = ap (λ (n : ℕ). length (rows_in (drop n c.args.snapshot.now))) c.first_later-first.ensures in
@@ -22,11 +22,12 @@ add_pieces-requires-clause-room g c =
 pub returns-in_err-add_pieces-clause-at_most : goal.returns-in_err-add_pieces-clause-at_most
 returns-in_err-add_pieces-clause-at_most g c =
     let behind = ap (λ (n : ℕ). length (rows_in (drop n c.args.snapshot.now))) c.first_later-first.ensures in
-    omega (arith, c.add_pieces.ensures.at_most, c.add.ensures, c.groups.ensures.count, behind, cost_split c.args.catalog.now c.args.snapshot.now c.args.self.now c.requires.own)
+    let groups = ap (λ (values : List (List ℕ)). length values) c.body_for.ensures.groups in
+    omega (arith, c.add_pieces.ensures.at_most, c.in_ok-body.ensures.cost, groups, behind, cost_split c.args.catalog.now c.args.snapshot.now c.args.self.now c.requires.own)
 
 pub returns-clause-body : goal.returns-clause-body
 returns-clause-body g c =
-    let is : IsNarrowed c.body_for.result.now c.args.header.now c.in_ok-body.body = subst (λ (h : Header). IsNarrowed c.body_for.result.now h c.in_ok-body.body) c.in_ok-own.ensures c.in_ok-body.ensures in
+    let is : IsNarrowed c.body_for.result.now c.args.header.now c.in_ok-body.body = subst (λ (h : Header). IsNarrowed c.body_for.result.now h c.in_ok-body.body) c.in_ok-own.ensures c.in_ok-body.ensures.body in
     let holds = table_holds c.args.catalog.now c.args.header.now c.args.snapshot.now c.args.self.now c.body_for.result.now c.in_ok-body.body c.tables_are_placed.ensures c.rows_are_valued.ensures c.requires.fit c.requires.own c.requires.usable c.body_for.ensures.own c.body_for.ensures.serves is in
     let added = rw (c.in_ok-reader.ensures, c.first_later-first.ensures) at c.in_ok-add_pieces.ensures.ok in
     rw added holds
@@ -34,9 +35,11 @@ returns-clause-body g c =
 pub returns-clause-cost : goal.returns-clause-cost
 returns-clause-cost g c =
     let behind = ap (λ (n : ℕ). length (rows_in (drop n c.args.snapshot.now))) c.first_later-first.ensures in
-    omega (arith, c.in_ok-add_pieces.ensures.cost, c.add.ensures, c.groups.ensures.count, behind, cost_split c.args.catalog.now c.args.snapshot.now c.args.self.now c.requires.own)
+    let groups = ap (λ (values : List (List ℕ)). length values) c.body_for.ensures.groups in
+    omega (arith, c.in_ok-add_pieces.ensures.cost, c.in_ok-body.ensures.cost, groups, behind, cost_split c.args.catalog.now c.args.snapshot.now c.args.self.now c.requires.own)
 
 pub returns-clause-at_most : goal.returns-clause-at_most
 returns-clause-at_most g c =
     let behind = ap (λ (n : ℕ). length (rows_in (drop n c.args.snapshot.now))) c.first_later-first.ensures in
-    omega (arith, c.add_pieces.ensures.at_most, c.add.ensures, c.groups.ensures.count, behind, cost_split c.args.catalog.now c.args.snapshot.now c.args.self.now c.requires.own)
+    let groups = ap (λ (values : List (List ℕ)). length values) c.body_for.ensures.groups in
+    omega (arith, c.add_pieces.ensures.at_most, c.in_ok-body.ensures.cost, groups, behind, cost_split c.args.catalog.now c.args.snapshot.now c.args.self.now c.requires.own)

@@ -1,8 +1,10 @@
--- That `add_rows` may call `add_row` and keeps what holds at each turn.
-use Rattle.std.proofs.Common.{◌≡◌, ◌∙◌, ◌<◌, ℕ, ℤ, List, [], Option, Some, ◌++◌, append_assoc, length, length-append, take, slice_get, ap, sym, arith}
+-- That `add_rows` ensures what it says, may call `add_row` and keeps what holds at each turn.
+use Rattle.std.proofs.Common.{◌≡◌, ◌∙◌, ◌<◌, ℕ, ℤ, List, [], Option, Some, ◌++◌, append-nil, append_assoc, length, length-append, take, slice_get, ap, sym, arith}
 use Rattle.std.specs.Prelude.{option_to_list}
+use Rattle.std.proofs.lemmas.List.{take_all}
 use Rattle.std.proofs.lemmas.Option.{slice_get-get_or}
 use Rattle.olap_meaning.specs.declared.TheConstants.{ROW_LIMIT}
+use Rattle.olap_meaning.specs.declared.tables.Row.{Row}
 use Rattle.segment_body.specs.BodyOf.{BodyOf}
 use Rattle.fact_reader.specs.Reading.{row_at}
 use Rattle.fact_reader.specs.BodyRows.{body_row, body_rows}
@@ -27,3 +29,23 @@ loop-i-preserved c =
     c.in_ok-add_row.ensures
     ∙ ap (λ (b : BodyOf). record b { rows = b.rows ++ more }) c.loop-i.invariant
     ∙ ap (λ (rows : List (List ℕ × Option ℤ)). record c.args.body.now { rows = rows }) (append_assoc c.args.body.now.rows before more ∙ ap (λ (rows : List (List ℕ × Option ℤ)). c.args.body.now.rows ++ rows) (sym next))
+
+pub loop-i-init : goal.loop-i-init
+loop-i-init c = ap (λ (rows : List (List ℕ × Option ℤ)). record c.args.body.now { rows = rows }) (sym (append-nil c.args.body.now.rows))
+
+pub add_row-requires-clause-row : goal.add_row-requires-clause-row
+add_row-requires-clause-row c = omega (arith, c.len-i-end.ensures.rows, c.loop-i-test.true)
+
+pub add_row-requires-clause-few_dimensions : goal.add_row-requires-clause-few_dimensions
+add_row-requires-clause-few_dimensions c = omega (arith, c.dimensions-dimensions.ensures, c.dimensions-dimensions.type_inv)
+
+pub add_row-requires-clause-few_columns : goal.add_row-requires-clause-few_columns
+add_row-requires-clause-few_columns c = omega (arith, c.columns-columns.ensures, c.columns-columns.type_inv)
+
+pub add_row-requires-clause-same : goal.add_row-requires-clause-same
+add_row-requires-clause-same c = ap (λ (b : BodyOf). b.header) c.loop-i.invariant ∙ c.requires.same
+
+pub returns : goal.returns
+returns c =
+    let all = take_all c.loop-i.i c.args.piece.now.rows (omega (arith, c.len-i-end.ensures.rows, c.loop-i-test.false)) in
+    c.loop-i.invariant ∙ ap (λ (rows : List Row). record c.args.body.now { rows = c.args.body.now.rows ++ body_rows c.args.self.now.catalog c.args.self.now.header rows }) all

@@ -7,14 +7,18 @@ use Rattle.segment_body.proofs.NarrowFacts.{narrowed_more, narrowed_room}
 use Rattle.segment_body.proofs.body.Body.add_groups.Goals as goal
 
 pub add_narrowed-requires-clause-room : goal.add_narrowed-requires-clause-room
-add_narrowed-requires-clause-room c =
-    let room = narrowed_room c.args.wide.now c.args.self.now.header c.args.groups.now c.loop-i.i (group c.at-group.result.0.now c.at-group.result.1.now) (rw c.len-i-end.ensures at c.loop-i-test.true) c.at-group.ensures in
-    rw c.loop-i.invariant (omega (arith, room, c.requires.room, length-append c.args.self.now.rows (flat_map (narrowed_group c.args.wide.now c.args.self.now.header) (take c.loop-i.i c.args.groups.now))))
+add_narrowed-requires-clause-room g c =
+    let room = narrowed_room c.args.wide.now c.args.self.now.header c.args.groups.now c.loop-i.i (group c.hand_out-group.result.0.now c.hand_out-group.result.1.now) (rw c.len-i-end.ensures at c.loop-i-test.true) c.hand_out-group.ensures.group in
+    rw c.loop-i.invariant.added (omega (arith, room, c.requires.room, length-append c.args.self.now.rows (flat_map (narrowed_group c.args.wide.now c.args.self.now.header) (take c.loop-i.i c.args.groups.now))))
 
 pub loop-i-preserved : goal.loop-i-preserved
-loop-i-preserved c =
-    let more = narrowed_more c.args.wide.now c.args.self.now.header c.args.groups.now c.loop-i.i (group c.at-group.result.0.now c.at-group.result.1.now) (rw c.len-i-end.ensures at c.loop-i-test.true) c.at-group.ensures in
-    c.in_ok-add_narrowed.ensures ∙ rw (c.loop-i.invariant, more) (ap with_all (append_assoc c.args.self.now.rows _ _))
+loop-i-preserved g c =
+    let more = narrowed_more c.args.wide.now c.args.self.now.header c.args.groups.now c.loop-i.i (group c.hand_out-group.result.0.now c.hand_out-group.result.1.now) (rw c.len-i-end.ensures at c.loop-i-test.true) c.hand_out-group.ensures.group in
+    record {
+      added =
+          c.in_ok-add_narrowed.ensures ∙ rw (c.loop-i.invariant.added, more) (ap with_all (append_assoc c.args.self.now.rows _ _));
+      counted = omega (arith, c.hand_out-group.ensures.cost, c.loop-i.invariant.counted);
+    }
   where
     with_all : List (List ℕ × Option ℤ) → BodyOf
     with_all rows = record { header = c.args.self.now.header; aggregator = c.args.self.now.aggregator; rows = rows }

@@ -1,11 +1,18 @@
 -- That `add_row` ensures what it says.
-use Rattle.std.proofs.Common.{◌≡◌, ◌∙◌, Ok, Err, ap, inl, inr, refl, sym, bytes_eq, List, ℕ}
-use Rattle.std.specs.Prelude.{OnErr}
+use Rattle.std.proofs.Common.{◌≡◌, ◌∙◌, ◌∷◌, ◌++◌, [], Ok, Err, false, inl, inr, length, refl, sym, bytes_eq, List, Option, ℕ, ℤ}
+use Rattle.std.specs.Prelude.{IfOk, OnErr, OnOk, Result}
+use Rattle.std.specs.List.{list_any}
 use Rattle.indexmap.specs.IndexMap.{set_value_at}
-use Rattle.segment_body.specs.Groups.{Group, group, groups_by}
+use Rattle.olap_meaning.specs.declared.Aggregator.{Aggregator}
+use Rattle.segment_body.specs.Groups.{Group, IsAdded, group, groups_by, values_of}
 use Rattle.segment_body.proofs.GroupFacts.{found, unfound}
-use Rattle.segment_body.proofs.MapFacts.{entries_counted, position_groups, tally_at, groups_set, groups_kept, groups_new}
+use Rattle.segment_body.proofs.MapFacts.{position_groups, tally_at, groups_set, groups_kept}
 use Rattle.segment_body.proofs.group.GroupTable.add_row.Goals as goal
+
+at_the_end : {E : Type 0} (result : Result ℕ E) (aggregator : Aggregator) (values : List ℕ) (number : Option ℤ) (old new : List Group) → list_any (bytes_eq values) (values_of old) ≡ false
+    → IfOk result (λ place. place ≡ length old) → OnOk result (new ≡ old ++ group values (record { aggregator = aggregator; values = number ∷ [] }) ∷ []) → IfOk result (λ place. IsAdded aggregator values number old new place)
+at_the_end (Ok place) aggregator values number old new none at is = inr (none, at, is)
+at_the_end (Err e) aggregator values number old new none at is = tt
 
 pub step-requires : goal.step-requires
 step-requires c =
@@ -28,9 +35,11 @@ returns-in_ok-step-in-Some-clause-ok c =
     rw (← c.self.view_is)
     (inl (there.1, λ e. groups_set (λ key. key) c.self.inside.tallies.entries c.in-Some.place c.index_mut-tally.result.now c.step.new.self e c.args.number c.index_mut-tally.ensures.value c.in_ok-step-in-Some.ensures.ok))
 
-pub returns-in_ok-insert-in-None-clause-ok : goal.returns-in_ok-insert-in-None-clause-ok
-returns-in_ok-insert-in-None-clause-ok c =
-    let none = unfound c.args.values.now (groups_by (λ key. key) c.self.inside.tallies.entries) (sym (c.get_index_of.ensures.index ∙ position_groups (λ key. key) (bytes_eq c.args.values.now) c.self.inside.tallies.entries) ∙ c.in-None.is) in
-    let new = groups_new (λ key. key) bytes_eq c.in_ok-key-in-None.key c.in_ok-tally-in-None.tally c.args.values.now (λ j. ap (λ (v : List ℕ). bytes_eq v j) c.in_ok-key-in-None.ensures) c.self.inside.tallies.entries none in
-    rw (← c.self.view_is)
-    (inr (none, c.len-place.ensures.len ∙ entries_counted (λ key. key) c.self.inside.tallies.entries, rw (c.in_ok-insert-in-None.ensures.entries, new, c.in_ok-key-in-None.ensures, c.in_ok-tally-in-None.ensures) refl))
+pub push_group-requires : goal.push_group-requires
+push_group-requires c =
+    rw (← c.self.view_is) (unfound c.args.values.now (groups_by (λ key. key) c.self.inside.tallies.entries) (sym (c.get_index_of.ensures.index ∙ position_groups (λ key. key) (bytes_eq c.args.values.now) c.self.inside.tallies.entries) ∙ c.in-None.is))
+
+pub returns-in_ok-tally-in-None-clause-ok : goal.returns-in_ok-tally-in-None-clause-ok
+returns-in_ok-tally-in-None-clause-ok c =
+    let none = rw c.self.view_is at (unfound c.args.values.now (groups_by (λ key. key) c.self.inside.tallies.entries) (sym (c.get_index_of.ensures.index ∙ position_groups (λ key. key) (bytes_eq c.args.values.now) c.self.inside.tallies.entries) ∙ c.in-None.is)) in
+    at_the_end c.push_group.result c.args.aggregator c.args.values.now c.args.number c.args.self.now c.push_group.new.self none c.push_group.ensures.place (rw c.in_ok-tally-in-None.ensures at c.push_group.ensures.ok)

@@ -1,9 +1,17 @@
 -- That `add_tally` ensures what it says.
-use Rattle.std.proofs.Common.{◌∙◌, ap, inl, inr, refl, sym, bytes_eq, List, ℕ}
-use Rattle.segment_body.specs.Groups.{Group, group, groups_by}
+use Rattle.std.proofs.Common.{◌≡◌, ◌∙◌, ◌∷◌, ◌++◌, [], Ok, Err, false, inl, inr, length, sym, bytes_eq, List, Option, ℕ, ℤ}
+use Rattle.std.specs.Prelude.{IfOk, OnOk, Result}
+use Rattle.std.specs.List.{list_any}
+use Rattle.olap_meaning.specs.declared.Aggregator.{Aggregator}
+use Rattle.segment_body.specs.Groups.{Group, IsMerged, group, groups_by, values_of}
 use Rattle.segment_body.proofs.GroupFacts.{found, unfound}
-use Rattle.segment_body.proofs.MapFacts.{entries_counted, position_groups, tally_at, groups_merged, groups_new}
+use Rattle.segment_body.proofs.MapFacts.{position_groups, tally_at, groups_merged}
 use Rattle.segment_body.proofs.group.GroupTable.add_tally.Goals as goal
+
+at_the_end : {E : Type 0} (result : Result ℕ E) (aggregator : Aggregator) (values : List ℕ) (numbers : List (Option ℤ)) (old new : List Group) → list_any (bytes_eq values) (values_of old) ≡ false
+    → IfOk result (λ place. place ≡ length old) → OnOk result (new ≡ old ++ group values (record { aggregator = aggregator; values = numbers }) ∷ []) → IfOk result (λ place. IsMerged aggregator values numbers old new place)
+at_the_end (Ok place) aggregator values numbers old new none at is = inr (none, at, is)
+at_the_end (Err e) aggregator values numbers old new none at is = tt
 
 pub merge-requires-clause-one_aggregator : goal.merge-requires-clause-one_aggregator
 merge-requires-clause-one_aggregator c =
@@ -30,10 +38,12 @@ returns-in-Some-clause-ok c =
     rw (← c.self.view_is)
     (inl (there.1, λ e. groups_merged (λ key. key) c.self.inside.tallies.entries c.in-Some.place c.index_mut-group.result.now c.merge.new.self e c.args.tally.now.values c.index_mut-group.ensures.value c.merge.ensures))
 
-pub returns-in_ok-insert-in-None-clause-ok : goal.returns-in_ok-insert-in-None-clause-ok
-returns-in_ok-insert-in-None-clause-ok c =
-    let none = unfound c.args.values.now (groups_by (λ key. key) c.self.inside.tallies.entries) (sym (c.get_index_of.ensures.index ∙ position_groups (λ key. key) (bytes_eq c.args.values.now) c.self.inside.tallies.entries) ∙ c.in-None.is) in
+pub push_group-requires : goal.push_group-requires
+push_group-requires c =
+    rw (← c.self.view_is) (unfound c.args.values.now (groups_by (λ key. key) c.self.inside.tallies.entries) (sym (c.get_index_of.ensures.index ∙ position_groups (λ key. key) (bytes_eq c.args.values.now) c.self.inside.tallies.entries) ∙ c.in-None.is))
+
+pub returns-in-None-clause-ok : goal.returns-in-None-clause-ok
+returns-in-None-clause-ok c =
+    let none = rw c.self.view_is at (unfound c.args.values.now (groups_by (λ key. key) c.self.inside.tallies.entries) (sym (c.get_index_of.ensures.index ∙ position_groups (λ key. key) (bytes_eq c.args.values.now) c.self.inside.tallies.entries) ∙ c.in-None.is)) in
     let first = rw c.new-first.ensures at c.merge-in-None.ensures in
-    let new = groups_new (λ key. key) bytes_eq c.in_ok-key-in-None.key c.merge-in-None.new.self c.args.values.now (λ j. ap (λ (v : List ℕ). bytes_eq v j) c.in_ok-key-in-None.ensures) c.self.inside.tallies.entries none in
-    rw (← c.self.view_is)
-    (inr (none, c.len-place.ensures.len ∙ entries_counted (λ key. key) c.self.inside.tallies.entries, rw (c.in_ok-insert-in-None.ensures.entries, new, c.in_ok-key-in-None.ensures, first) refl))
+    at_the_end c.push_group.result c.args.aggregator c.args.values.now c.args.tally.now.values c.args.self.now c.push_group.new.self none c.push_group.ensures.place (rw first at c.push_group.ensures.ok)

@@ -4,9 +4,9 @@ use Rattle.std.specs.Prelude.{◌&&◌, nat_le, if◌then◌else◌}
 use Rattle.std.proofs.lemmas.Bool.Decides.{nat_tests}
 use Rattle.std.proofs.lemmas.List.Elements.{All-append, All-cons, All-nil, All-weaker}
 use Rattle.olap_meaning.specs.declared.cells.Header.{Header}
+use Rattle.agg_tables.specs.Cheapest.{IfMayRead, IsCheapest}
 use Rattle.agg_tables.specs.Costs.{cheapest, may_read, read_cost, table_cost}
 use Rattle.agg_tables.specs.Tables.{TableOf}
-use Rattle.load_costs.specs.Laws.{IfMayRead, IsCheapest}
 
 le_of : (a b : ℕ) → nat_le a b ≡ true → a ≤ b
 le_of a b h = grind (arith, nat_tests)

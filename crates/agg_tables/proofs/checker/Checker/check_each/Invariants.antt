@@ -1,14 +1,14 @@
--- What holds at each turn of `check_records`, and what falls at each of them.
+-- What holds at each turn of `check_each`, and what falls at each of them.
 use Rattle.std.proofs.Common.{◌≡◌, ◌≤◌, [], length}
 use Rattle.olap_meaning.specs.declared.TheConstants.{ROW_LIMIT}
 use Rattle.agg_tables.specs.Files.{records_fault}
 use Rattle.agg_tables.specs.Tables.{table_columns, values_in}
 use Rattle.agg_tables.proofs.RightFacts.{AreSeen}
-use Rattle.agg_tables.proofs.checker.Checker.check_records.Given as goal
+use Rattle.agg_tables.proofs.checker.Checker.check_each.Given as goal
 
 -- the faults of the records that are left, behind those that were seen, are those of all
-abbrev pub invariant-loop-values : goal.invariant-loop-values
-invariant-loop-values l = record {
+abbrev pub invariant-loop-n : goal.invariant-loop-n
+invariant-loop-n l = record {
   rest : records_fault l.self.file.catalog l.self.file.declared l.self.file.header l.self.rows (values_in l.seen) l.rows ≡ records_fault l.self.file.catalog l.self.file.declared l.self.file.header l.self.rows [] l.initial.rows;
   counted : l.count ≡ length l.seen.rows;
   seen : AreSeen l.self.file.catalog l.self.file.declared l.self.file.header l.self.rows (values_in l.seen);
@@ -16,5 +16,5 @@ invariant-loop-values l = record {
   columns : l.seen.header.columns ≡ table_columns l.self.file.catalog l.self.file.declared;
 }
 
-abbrev pub decreases-loop-values : goal.decreases-loop-values
-decreases-loop-values l = length l.rows
+abbrev pub decreases-loop-n : goal.decreases-loop-n
+decreases-loop-n l = length l.rows
