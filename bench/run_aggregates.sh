@@ -9,7 +9,7 @@ trap 'rm -rf "$folder"' EXIT
 mkdir -p "$folder/crates/aggregates/src"
 cp "$here/../HANDLES" "$here/../LICENSE" "$here/../crates.txt" "$folder"
 cp -r "$here/../crates/." "$folder/crates"
-echo "aggregates: olap_meaning segment_body measure_folds test_samples agg_tests" >> "$folder/crates.txt"
+echo "aggregates: olap_meaning segment_body measure_folds test_samples load_samples" >> "$folder/crates.txt"
 cat > "$folder/crates/aggregates/src/main.rt" <<'END_OF_PROGRAM'
 //! Builds and checks aggregate tables, and runs loads. Its input is a line with what is to be done and how often; and behind it,
 //! parted by lines with an equals sign, the schema, two tables of dimensions, two batches, and a file of an aggregate table. The
@@ -17,9 +17,9 @@ cat > "$folder/crates/aggregates/src/main.rt" <<'END_OF_PROGRAM'
 //! TABLES are the tables that the load may read, each with the version over which it is built, as `0@1`, or `-` for none.
 #![tactic(auto)]
 
-use agg_tests::cases::{tell_built, tell_file};
-use agg_tests::headers::{header_in, places_in};
-use agg_tests::runs::{Loaded, built_tables, load};
+use load_samples::cases::{tell_built, tell_file};
+use load_samples::headers::{header_in, places_in};
+use load_samples::runs::{Loaded, built_tables, load};
 use measure_folds::Tally;
 use olap_meaning::{CellValue, plain_text};
 use std::alloc::Global;

@@ -8,14 +8,14 @@ trap 'rm -rf "$folder"' EXIT
 mkdir -p "$folder/crates/finds/src"
 cp "$here/../HANDLES" "$here/../LICENSE" "$here/../crates.txt" "$folder"
 cp -r "$here/../crates/." "$folder/crates"
-echo "finds: cache_flush segment_index index_tests" >> "$folder/crates.txt"
+echo "finds: cache_flush segment_index index_samples" >> "$folder/crates.txt"
 cat > "$folder/crates/finds/src/main.rt" <<'END_OF_PROGRAM'
 //! Finds cells on a shelf of kept loads: its input is `index` or `plain`, how many column sets the loads have, and how many
 //! times all cells are found.
 #![tactic(auto)]
 
 use cache_flush::PlainShelf;
-use index_tests::many::find_many;
+use index_samples::many::find_many;
 use segment_index::SegmentIndex;
 use std::alloc::Global;
 use std::io::Read;

@@ -1,8 +1,8 @@
 //! Rows, tables and loads that are drawn from a seed: each load from the tables beside the one from the facts.
 use crate::files::{schema, stores, times};
-use crate::headers::{OnColumn, header_of};
 use crate::loads::reads_table;
-use crate::runs::built_tables;
+use load_samples::headers::{OnColumn, header_of};
+use load_samples::runs::built_tables;
 use std::alloc::Global;
 use std::test::Fail;
 use test_samples::random::Random;

@@ -3,9 +3,9 @@ ghost use Rattle.std.specs.Prelude.{◌≡◌, All, IsTrue};
 ghost use Rattle.segment_header.specs.Headers.{is_header as holds_header};
 ghost use Rattle.agg_tables.specs.Costs.{IsTableOver};
 
-use crate::headers::{header_in, no_memory, places_in};
-use crate::runs::{Loaded, built_tables, load};
 use agg_tables::AggTable;
+use load_samples::headers::{header_in, no_memory, places_in};
+use load_samples::runs::{Loaded, built_tables, load};
 use measure_folds::Tally;
 use olap_catalog::Catalog;
 use olap_meaning::{Allowed, CellValue, ColumnId, Header, ValueId, plain_text};

@@ -1,6 +1,6 @@
 //! Cases that were worked by hand.
-use crate::cases::{tell_file, tell_tables};
 use crate::files::{last_sales, later_sales, odd_header, odd_record, sales, schema, stores, times};
+use load_samples::cases::{tell_file, tell_tables};
 use std::alloc::Global;
 use std::test::Fail;
 use test_samples::sales::Sales;

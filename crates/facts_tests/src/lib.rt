@@ -1,4 +1,4 @@
-//! Tests of batches, of the versions of cubes, and of segments and their loads. They stand apart, since a crate with tests
+//! Tests of tallies, of batches, of the versions of cubes, and of segments and their loads. They stand apart, since a crate with tests
 //! is proved twice.
 #![tactic(auto)]
 
@@ -18,6 +18,8 @@ mod headers;
 mod loads;
 #[cfg(test)]
 mod parts;
+#[cfg(test)]
+mod tallies;
 #[cfg(test)]
 mod versions;
 #[cfg(test)]

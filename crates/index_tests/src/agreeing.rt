@@ -1,6 +1,6 @@
 //! An index beside the plain shelf, and what is shut off beside a walk of the regions.
-use crate::drawn::play_drawn;
-use crate::shuts::{play_many_values, play_shuts};
+use index_samples::drawn::play_drawn;
+use index_samples::shuts::{play_many_values, play_shuts};
 use std::test::Fail;
 
 #[test]

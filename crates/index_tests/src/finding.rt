@@ -1,7 +1,7 @@
 //! What cells are found in, and what else covers them.
-use crate::many::find_many;
-use crate::steps::Step::{Candidates, Find, Keep, Numbers, Shut};
-use crate::steps::{Step, play_both};
+use index_samples::many::find_many;
+use index_samples::steps::Step::{Candidates, Find, Keep, Numbers, Shut};
+use index_samples::steps::{Step, play_both};
 use segment_index::SegmentIndex;
 use std::test::Fail;
 

@@ -1,15 +1,9 @@
-//! Tests of the index over kept loads, beside the plain shelf; and what plays on any shelf, for them and for a measure.
+//! Tests of the index over kept loads, beside the plain shelf.
 #![tactic(auto)]
 
 #[cfg(test)]
 mod agreeing;
-pub mod drawn;
 #[cfg(test)]
 mod finding;
-pub mod keeping;
-pub mod made;
-pub mod many;
 #[cfg(test)]
 mod promises;
-pub mod shuts;
-pub mod steps;

@@ -1,6 +1,6 @@
 //! Places that are made for loads which come later, or never.
-use crate::steps::Step::{Find, Keep, Numbers, Promise, Put};
-use crate::steps::{Step, play_both};
+use index_samples::steps::Step::{Find, Keep, Numbers, Promise, Put};
+use index_samples::steps::{Step, play_both};
 use std::test::Fail;
 
 const PROMISED: [Step; 17] = [

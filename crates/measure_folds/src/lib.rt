@@ -7,7 +7,5 @@ mod extremes;
 mod state;
 mod sums;
 mod tally;
-#[cfg(test)]
-mod tests;
 
 pub use tally::Tally;

@@ -4,12 +4,12 @@ ghost use Rattle.std.specs.Prelude.{All};
 ghost use Rattle.rollup_tests.specs.Held.{IsFrom};
 
 use crate::files::{schema, stores, times};
-use crate::loading::no_memory;
 use crate::rolling::{plan_for, rolled};
 use crate::slow::{SIZES, can_roll};
-use crate::steps::{OnColumn, Step, cell_of, take_steps};
+use crate::steps::{Step, cell_of, take_steps};
 use cache_flush::CacheShelf;
 use history_core::is_cell;
+use load_samples::headers::{OnColumn, no_memory};
 use olap_meaning::{Aggregator, Cell, CellValue, ValueId};
 use rollup_plan::Plan;
 use segment_index::SegmentIndex;
@@ -281,6 +281,25 @@ fn compare<S: CacheShelf>(
     Ok(())
 }
 
+// Draws four cells on a shelf, one after another.
+fn compare_four<S: CacheShelf>(
+    alloc: Global,
+    world: &World,
+    shelf: &S,
+    steps: &[Step],
+    of: (u16, Aggregator),
+    random: &mut Random,
+    counts: &mut Counts,
+) -> Result<(), Fail>
+    requires { All (IsFrom world.now.sales) (S.loads shelf.now) }
+{
+    for _ in 0..4 {
+        let at = draw_at(alloc, random, 4)?;
+        compare(alloc, world, shelf, steps, of, &at, counts)?;
+    }
+    Ok(())
+}
+
 // Draws a shelf, and cells on it.
 fn play_shelf(
     alloc: Global,
@@ -293,11 +312,7 @@ fn play_shelf(
     let steps = draw_steps(alloc, random)?;
     let mut shelf = SegmentIndex::new(alloc);
     take_steps(alloc, &world.sales, &mut shelf, of.0, &steps)?;
-    for _ in 0..4 {
-        let at = draw_at(alloc, random, 4)?;
-        compare(alloc, world, &shelf, &steps, of, &at, counts)?;
-    }
-    Ok(())
+    compare_four(alloc, world, &shelf, &steps, of, random, counts)
 }
 
 /// Draws so many shelves over drawn rows, and four cells on each. It counts the cells with a plan and without, where all are

@@ -1,28 +1,20 @@
 //! Loads from the versions of a cube.
 ghost use Rattle.std.specs.Prelude.{◌≡◌, IfOk, IsTrue, length, take};
-ghost use Rattle.std.specs.List.{list_all};
-ghost use Rattle.olap_meaning.specs.Covering.{among};
-ghost use Rattle.olap_meaning.specs.Legal as legal;
 ghost use Rattle.segment_header.specs.Headers.{is_header as holds_header};
-ghost use Rattle.fact_reader.specs.BodyRows as loads;
 ghost use Rattle.fact_reader.specs.BodyRows.{HoldsRows, rows_in};
 ghost use Rattle.cache_flush.specs.Loads.{kept_of};
 ghost use Rattle.rollup_tests.specs.Held.{IsFrom};
 
 use cache_flush::{Kept, Shut};
 use fact_versions::Steps;
-use olap_catalog::Catalog;
-use olap_meaning::{Allowed, ColumnId, CubeId, Header, OutOfMemory, Version, Who};
+use load_samples::headers::{is_loadable, no_memory};
+use olap_meaning::{CubeId, Header, Version, Who};
 use segment_load::{Delivery, LoadJob, run_load};
 use std::alloc::Global;
 use std::marker::Brand;
 use std::sync::ledger::{Blank, Ledger};
 use std::test::Fail;
 use test_samples::sales::Sales;
-
-pub(crate) fn no_memory(_fault: OutOfMemory) -> Fail {
-    Fail::from("no memory")
-}
 
 /// A job for a header over a version.
 fn job(sales: &Sales, load: u64, version: u32, header: Header) -> Result<LoadJob, Fail>
@@ -75,46 +67,4 @@ fn run<L: Ledger>(alloc: Global, job: LoadJob, blank: Blank) -> Result<Delivery,
 {
     let mut steps: Steps<L> = Steps::new(blank);
     run_load(alloc, job, &mut steps)
-}
-
-fn is_among(dimensions: &[u32], dimension: u32) -> bool
-    ensures { result ≡ among dimensions.now dimension }
-{
-    dimensions.iter().any(|d| *d == dimension)
-}
-
-fn is_column_of(catalog: &Catalog, dimensions: &[u32], column: ColumnId) -> bool
-    ensures { result ≡ legal.is_column_of catalog.now dimensions.now column }
-{
-    if u32::from(column.0) >= catalog.column_count() {
-        return false;
-    }
-    is_among(dimensions, catalog.column(column).dimension)
-}
-
-fn are_columns_of(catalog: &Catalog, dimensions: &[u32], columns: &[(ColumnId, Allowed)]) -> bool
-    ensures { result
-        ≡ list_all (λ own. legal.is_column_of catalog.now dimensions.now own.0) columns.now }
-{
-    columns
-        .iter()
-        .all(|own| is_column_of(catalog, dimensions, own.0))
-}
-
-// Whether a header can be loaded.
-fn is_loadable(catalog: &Catalog, header: &Header) -> bool
-    ensures { result ≡ loads.is_loadable catalog.now header.now }
-{
-    if u32::from(header.cube.0) >= catalog.cube_count() {
-        return false;
-    }
-    let cube = catalog.cube(header.cube);
-    if usize::from(header.measure.0) >= cube.measures.len() {
-        return false;
-    }
-    are_columns_of(
-        catalog,
-        cube.dimensions.as_slice(),
-        header.columns.as_slice(),
-    )
 }

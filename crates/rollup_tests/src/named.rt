@@ -1,5 +1,6 @@
 //! Cells, steps and plans as words.
-use crate::steps::{OnColumn, Step};
+use crate::steps::Step;
+use load_samples::headers::OnColumn;
 use olap_meaning::Allowed;
 use rollup_plan::Plan;
 use std::alloc::Global;

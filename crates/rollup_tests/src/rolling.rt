@@ -5,9 +5,9 @@ ghost use Rattle.rollup_tests.specs.Held as held;
 ghost use Rattle.test_samples.specs.Sales.{SalesOf};
 ghost use Rattle.rollup_tests.specs.Held.{IsFrom, IsPlanFor};
 
-use crate::loading::no_memory;
 use cache_flush::{CacheShelf, Shelf};
 use fact_reader::laws::rows_are_valued;
+use load_samples::headers::no_memory;
 use measure_folds::Tally;
 use olap_meaning::{Cell, ColumnId, List, OutOfMemory, ValueId};
 use rollup_plan::laws::candidates_are_kept;

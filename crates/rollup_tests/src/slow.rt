@@ -1,5 +1,6 @@
 //! Whether a cell can be rolled up from loads, by a search through all sets of them.
-use crate::steps::{OnColumn, Step};
+use crate::steps::Step;
+use load_samples::headers::OnColumn;
 use std::alloc::Global;
 use std::test::Fail;
 

@@ -1,26 +1,17 @@
 //! Steps on a shelf: loads that are run and put in, and regions that are shut off.
-ghost use Rattle.std.specs.Prelude.{All, IfOk, IsTrue, OnOk};
-ghost use Rattle.segment_header.specs.Headers.{is_header as holds_header};
+ghost use Rattle.std.specs.Prelude.{All, OnOk};
 ghost use Rattle.rollup_tests.specs.Held.{IsFrom};
 
 use crate::keeping::{flush, keep};
-use crate::loading::{kept_load, no_memory};
+use crate::loading::kept_load;
 use cache_flush::CacheShelf;
+use load_samples::headers::{OnColumn, header_of, no_memory};
 use olap_meaning::{
-    Allowed, Cell, ColumnId, CubeId, Header, List, MeasureId, OutOfMemory, Region, RegionBox,
-    ValueId,
+    Cell, ColumnId, CubeId, List, MeasureId, OutOfMemory, Region, RegionBox, ValueId,
 };
-use segment_header::is_header;
 use std::alloc::Global;
 use std::test::Fail;
 use test_samples::sales::Sales;
-
-/// A column, and what a load allows there: some values, or any.
-#[derive(Drop)]
-pub struct OnColumn {
-    pub column: u16,
-    pub values: Option<Vec<u32>>,
-}
 
 /// A step on a shelf.
 #[derive(Drop)]
@@ -34,39 +25,6 @@ pub enum Step {
     Flush {
         at: Vec<(u16, u32)>,
     },
-}
-
-fn allowed(alloc: Global, values: &Option<Vec<u32>>) -> Result<Allowed, OutOfMemory> {
-    let Some(values) = values else {
-        return Ok(Allowed::Any);
-    };
-    let mut list = List::new(alloc);
-    for value in values {
-        list.push(ValueId(*value))?;
-    }
-    Ok(Allowed::Set(list))
-}
-
-/// The header of a measure over some columns.
-fn header_of(alloc: Global, measure: u16, columns: &[OnColumn]) -> Result<Header, Fail>
-    ensures { IfOk result (λ header. IsTrue (holds_header header)) }
-{
-    let mut pairs = List::new(alloc);
-    for own in columns {
-        let allowed = allowed(alloc, &own.values).map_err(no_memory)?;
-        pairs
-            .push((ColumnId(own.column), allowed))
-            .map_err(no_memory)?;
-    }
-    let header = Header {
-        cube: CubeId(0),
-        measure: MeasureId(measure),
-        columns: pairs,
-    };
-    if !is_header(&header) {
-        return Err(Fail::from("no header"));
-    }
-    Ok(header)
 }
 
 /// The cell of a measure, and columns with their values.

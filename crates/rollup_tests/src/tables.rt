@@ -2,12 +2,12 @@
 ghost use Rattle.std.specs.Prelude.{All, OnOk};
 ghost use Rattle.rollup_tests.specs.Held.{IsFrom, IsPlanFor};
 
-use crate::loading::no_memory;
 use crate::named::{measure_in, pairs_in, plan_text, steps_in};
 use crate::rolling::{all_rolled, may_join, plan_for, rolled};
 use crate::steps::{cell_of, take_steps};
 use cache_flush::{CacheShelf, PlainShelf, Shelf};
 use history_core::is_cell;
+use load_samples::headers::no_memory;
 use measure_folds::Tally;
 use olap_meaning::{Cell, CellValue};
 use rollup_plan::Plan;
@@ -144,18 +144,54 @@ fn said_on<S: CacheShelf>(
         return Err(Fail::from("no measure"));
     };
     let measure = measure_in(name)?;
-    let cells = cells_in(alloc, measure, cells)?;
-    let steps = steps_in(alloc, steps)?;
-    take_steps(alloc, sales, shelf, measure, &steps)?;
+    take_named(alloc, sales, shelf, measure, steps)?;
+    tell_named(alloc, sales, shelf, measure, cells)
+}
+
+// Takes the steps that some words name.
+fn take_named<S: CacheShelf>(
+    alloc: Global,
+    sales: &Sales,
+    shelf: &mut S,
+    measure: u16,
+    words: &[&str],
+) -> Result<(), Fail>
+    requires { All (IsFrom sales.now) (S.loads shelf.old) }
+    ensures { OnOk result (All (IsFrom sales.now) (S.loads shelf.new)) }
+{
+    let steps = steps_in(alloc, words)?;
+    take_steps(alloc, sales, shelf, measure, &steps)
+}
+
+// What is told of the cells that a text names.
+fn tell_named<S: CacheShelf>(
+    alloc: Global,
+    sales: &Sales,
+    shelf: &S,
+    measure: u16,
+    text: &str,
+) -> Result<String, Fail>
+    requires { All (IsFrom sales.now) (S.loads shelf.now) }
+{
+    let cells = cells_in(alloc, measure, text)?;
     tell_cells(alloc, sales, shelf, &cells)
+}
+
+fn said_on_the_plain_shelf(alloc: Global, sales: &Sales, asked: &str) -> Result<String, Fail> {
+    let mut shelf = PlainShelf::new(alloc);
+    said_on(alloc, sales, &mut shelf, asked)
+}
+
+fn said_on_an_index(alloc: Global, sales: &Sales, asked: &str) -> Result<String, Fail> {
+    let mut shelf = SegmentIndex::new(alloc);
+    said_on(alloc, sales, &mut shelf, asked)
 }
 
 // What is told on the plain shelf, where an index tells the same.
 fn said_of(alloc: Global, sales: &Sales, asked: &str) -> Result<String, Fail> {
-    let mut plain = PlainShelf::new(alloc);
-    let mut index = SegmentIndex::new(alloc);
-    let said = said_on(alloc, sales, &mut plain, asked)?;
-    if said_on(alloc, sales, &mut index, asked)? != said {
+    let said = said_on_the_plain_shelf(alloc, sales, asked)?;
+    let other = said_on_an_index(alloc, sales, asked)?;
+    if other != said {
         return Err(Fail::from("the shelves differ"));
     }
     Ok(said)

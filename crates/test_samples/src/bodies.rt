@@ -269,11 +269,20 @@ pub fn worth_of_all_columns(
 ) -> Result<CellValue, Fail> {
     let header = open_header(alloc, columns)?;
     let worth = looked_up(alloc, &header, aggregator, rows, cell)?;
-    let list = listed(alloc, &header, aggregator, rows)?;
-    if plain_worth(&list, cell)? != worth {
-        return Err(differ("value"));
-    }
-    Ok(worth)
+    let plain = listed_worth(alloc, &header, aggregator, rows, cell)?;
+    agreed("value", worth, plain)
+}
+
+// What a cell is worth in a list of some rows.
+fn listed_worth(
+    alloc: Global,
+    header: &Header,
+    aggregator: Aggregator,
+    rows: &[SampleRow],
+    cell: &Cell,
+) -> Result<CellValue, Fail> {
+    let list = listed(alloc, header, aggregator, rows)?;
+    plain_worth(&list, cell)
 }
 
 /// That a fold of a cell to one value of one column is the fold of the cell with this value.
@@ -286,16 +295,30 @@ pub fn folds_at_value(
     if aggregator == Aggregator::DistinctCount {
         return Err(Fail::from("no fold"));
     }
-    let body = filled(alloc, &open_header(alloc, 2)?, aggregator, rows)?;
+    let header = open_header(alloc, 2)?;
+    let body = filled(alloc, &header, aggregator, rows)?;
+    fold_at_value(alloc, &body, split)
+}
+
+// What the rows of a body come to that have a value in one column, folded from all of them and as a cell.
+fn fold_at_value(alloc: Global, body: &Body, split: (u16, u32)) -> Result<CellValue, Fail>
+    requires { body.now.aggregator ≢ Aggregator.DistinctCount }
+{
     let whole = cell_at(alloc, &[]).map_err(no_memory)?;
-    let part = cell_at(alloc, &[split]).map_err(no_memory)?;
     let folded = body
         .fold_at(&whole, ColumnId(split.0), ValueId(split.1))
         .finish();
-    if body.fold_where(&part).finish() != folded {
-        return Err(differ("fold_at"));
+    let part = cell_at(alloc, &[split]).map_err(no_memory)?;
+    agreed("fold_at", folded, body.fold_where(&part).finish())
+}
+
+// A value that was found in two ways.
+fn agreed(what: &str, one: CellValue, other: CellValue) -> Result<CellValue, Fail> {
+    if one == other {
+        Ok(one)
+    } else {
+        Err(differ(what))
     }
-    Ok(folded)
 }
 
 // A row: its values with a comma between two, a colon, and its number, or a minus where it has none.

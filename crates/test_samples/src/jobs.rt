@@ -113,6 +113,30 @@ fn made(catalog: Arc<Catalog>, header: Header, snapshot: Snapshot) -> Result<Loa
     LoadJob::new(catalog, 7, Who { seat: 1, call: 2 }, header, snapshot, &[])
 }
 
+/// The sample catalog, to be shared.
+fn shared_catalog(alloc: Global) -> Result<Arc<Catalog>, OutOfMemory>
+    ensures { IfOk result (λ shared. IsSample shared.value) }
+{
+    let catalog = catalog(alloc)?;
+    let shared = Arc::new(alloc, catalog)?;
+    Ok(shared)
+}
+
+/// A job for a measure over some columns, from a version of the cube.
+fn job_from(
+    alloc: Global,
+    catalog: Arc<Catalog>,
+    snapshot: Snapshot,
+    measure: u16,
+    names: &[Only],
+) -> Result<LoadJob, OutOfMemory>
+    requires sample { IsSample catalog.value }
+    requires fit { IsTrue (are_batches catalog.value 0 snapshot) }
+{
+    let header = header(alloc, measure, names)?;
+    made(catalog, header, snapshot)
+}
+
 /// A job for a measure over some columns, from some batches.
 pub(crate) fn job(
     alloc: Global,
@@ -120,9 +144,7 @@ pub(crate) fn job(
     names: &[Only],
     batches: &[&[Line]],
 ) -> Result<LoadJob, OutOfMemory> {
-    let header = header(alloc, measure, names)?;
-    let catalog = catalog(alloc)?;
+    let catalog = shared_catalog(alloc)?;
     let snapshot = snapshot(alloc, &catalog, batches)?;
-    let shared = Arc::new(alloc, catalog)?;
-    made(shared, header, snapshot)
+    job_from(alloc, catalog, snapshot, measure, names)
 }

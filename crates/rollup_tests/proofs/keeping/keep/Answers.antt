@@ -1,6 +1,6 @@
 -- A place is made for the load's header, and the number is another one.
 use Rattle.std.proofs.Common.{◌∙◌, sym, []}
-use Rattle.rollup_tests.proofs.PlaceFacts.{not_there}
+use Rattle.index_samples.proofs.PlaceFacts.{not_there}
 use Rattle.rollup_tests.proofs.keeping.keep.Goals as goal
 
 pub insert-requires-clause-place : goal.insert-requires-clause-place
