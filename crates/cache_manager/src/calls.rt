@@ -1,5 +1,5 @@
 //! Whole runs of calls on one manager.
-ghost use Rattle.std.specs.Prelude.{◌≡◌, ◌≤◌, ◌<◌, ◌+◌, ℕ, All, IfOk, IsTrue, OnErr, length, map};
+ghost use Rattle.std.specs.Prelude.{◌≡◌, ◌≤◌, ◌<◌, ◌+◌, [], ℕ, All, IfOk, IsTrue, OnErr, OnOk, length, map};
 ghost use Rattle.std.specs.List.{list_all};
 ghost use Rattle.olap_meaning.specs.Legal.{Legal, is_cell, is_flushable};
 ghost use Rattle.history_core.specs.History.{setting_of};
@@ -419,13 +419,43 @@ pub fn run_calls<L: Ledger>(
         steps.old steps.new) }
 {
     let mut manager = Manager::new(alloc, catalog, row_limit, budget)?;
+    let replies = replies_to(alloc, &mut manager, calls, widener, steps)?;
+    manager.steps_are_legal();
+    Ok(Run { manager, replies })
+}
+
+// Runs calls on a new manager.
+fn replies_to<L: Ledger>(
+    alloc: Global,
+    manager: &mut Manager,
+    calls: List<Call>,
+    widener: &Widener,
+    steps: &mut Steps<L>,
+) -> Result<List<Reply>, OutOfMemory>
+    requires none { manager.old ≡ record { setting = manager.old.setting; entries = [] } }
+    requires may { All (MayCall manager.old.setting.catalog) calls }
+    ensures setting { OnOk result (manager.new.setting ≡ manager.old.setting) }
+    ensures replies { IfOk result
+        (λ replies. MayReplyAll (Widened (⟦<Widener as AllowsValues>⟧.answers widener.now))
+        (first_stage manager.old.setting) calls replies) }
+    ensures entries { IfOk result
+        (λ replies. manager.new
+        ≡ (stage_after (first_stage manager.old.setting) calls replies).cache) }
+    ensures at_least { IfOk result (λ replies. steps.old
+        + rows_over rows_delivered (first_stage manager.old.setting) calls replies ≤ steps.new) }
+    ensures at_most { IfOk result (λ replies. steps.new ≤ steps.old
+        + rows_over rows_tried (first_stage manager.old.setting) calls replies) }
+    ensures rise { steps.old ≤ steps.new }
+    ensures stopped { OnErr result
+        (IsStopped (Widened (⟦<Widener as AllowsValues>⟧.answers widener.now))
+        (first_stage manager.old.setting) calls steps.old steps.new) }
+{
     let mut jobs = Vec::new(alloc);
     let mut replies = List::new(alloc);
     let mut number = 1;
     for call in calls.into_vec() {
-        replies.push(run_call(alloc, &mut manager, &mut jobs, number, call, widener, steps))?;
+        replies.push(run_call(alloc, manager, &mut jobs, number, call, widener, steps))?;
         number = next(number)?;
     }
-    manager.steps_are_legal();
-    Ok(Run { manager, replies })
+    Ok(replies)
 }

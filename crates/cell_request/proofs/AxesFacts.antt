@@ -1,5 +1,5 @@
 -- What a query means, by its parts.
-use Rattle.std.proofs.Common.{◌≡◌, ◌∙◌, ◌<◌, ◌≤◌, ◌*◌, ◌++◌, ℕ, Bool, true, false, List, [], Option, None, Some, Ok, Err, Result, All, IfSome, arith, refl, sym, ap, subst, length, map, max, min, nat_le, ok_or, option_map, if◌then◌else◌}
+use Rattle.std.proofs.Common.{◌≡◌, ◌∙◌, ◌<◌, ◌≤◌, ◌*◌, ◌++◌, ℕ, Bool, true, false, List, [], Option, None, Some, Ok, Err, Result, All, IfErr, IfOk, IfSome, OnOk, arith, refl, sym, ap, subst, length, map, max, min, nat_le, ok_or, option_map, if◌then◌else◌}
 use Rattle.std.specs.Option.{option_map_or}
 use Rattle.std.proofs.lemmas.Bool.Decides.{nat_tests}
 use Rattle.std.proofs.lemmas.List.Elements.{All-append, All-nil}
@@ -15,9 +15,10 @@ use Rattle.query_meaning.specs.declared.axes.Axis.{Axis}
 use Rattle.query_meaning.specs.declared.query.Query.{Query}
 use Rattle.query_meaning.specs.Resolution.{Meaning, NoCube, Refusal, TooManyCells, all_roots, axes_meant, axes_of, cell_count, most_told, root_of, rows_meant, set_meant, too_many, tuple_meant, twice}
 use Rattle.cell_request.specs.declared.fault.ResolveFault.{ResolveFault}
+use Rattle.cell_request.specs.declared.fault.ResolveFault.TheVariants as fault_variants
 use Rattle.cell_request.specs.declared.parts.Part.{Part}
 use Rattle.cell_request.specs.Faults.{IsFaultOf, IsReason}
-use Rattle.cell_request.specs.Parts.{part_meant, IsPartOf}
+use Rattle.cell_request.specs.Parts.{part_meant, unless_refused, IsPartOf}
 use Rattle.cell_request.specs.Plans.{listed}
 use Rattle.cell_request.proofs.BraceFacts.{map_map, map_or_map}
 use Rattle.cell_request.proofs.Counts.{capped_product}
@@ -80,42 +81,76 @@ many n count is over =
     ap (λ b. if b then None else Some (TooManyCells (min n most_told) CELL_LIMIT)) (le_false n CELL_LIMIT (above_cap most_told CELL_LIMIT n (subst (λ m. CELL_LIMIT < m) is over)))
     ∙ ap (λ m. Some (TooManyCells m CELL_LIMIT)) (sym is)
 
-module _ (catalog : Catalog) (query : Query) (cube : ℕ) (columns : Part) (rows : Option Part) (slicer : List Member) (found : find_cube catalog query.cube ≡ Some cube) (is_columns : set_meant catalog cube query.columns.set ≡ Ok (part_meant catalog cube columns))
-    (are_rows : rows_meant catalog cube query.rows ≡ Ok (option_map (part_meant catalog cube) rows)) (is_slicer : tuple_meant catalog cube query.slicer ≡ Ok slicer) where
-  abbrev answer : ℕ → Meaning → Option Meaning → List Member → Result Axes Refusal
-  answer k one other members = unless (too_many (cell_count one other)) (Ok (axes_of k query one other members))
+-- ---- axes that are refused
 
-  abbrev ends : ℕ → Meaning → Option Meaning → List Member → Result Axes Refusal
-  ends k one other members = unless (twice catalog (all_roots one other members)) (answer k one other members)
+module _ (catalog : Catalog) (cube : ℕ) (columns : Part) (rows : Option Part) (slicer : List Member) where
+  abbrev counted : ℕ
+  counted = cell_count (part_meant catalog cube columns) (option_map (part_meant catalog cube) rows)
 
-  resolved : axes_meant catalog query ≡ unless (twice catalog (shared columns rows slicer)) (answer cube (part_meant catalog cube columns) (option_map (part_meant catalog cube) rows) slicer)
-  resolved =
-      ap (λ o. ok_or o (NoCube query.cube) >>= (λ k. set_meant catalog k query.columns.set >>= (λ one. rows_meant catalog k query.rows >>= (λ other. tuple_meant catalog k query.slicer >>= (λ members. ends k one other members))))) found
-      ∙ ap (λ r. r >>= (λ one. rows_meant catalog cube query.rows >>= (λ other. tuple_meant catalog cube query.slicer >>= (λ members. ends cube one other members)))) is_columns
-      ∙ ap (λ r. r >>= (λ other. tuple_meant catalog cube query.slicer >>= (λ members. ends cube (part_meant catalog cube columns) other members))) are_rows
-      ∙ ap (λ r. r >>= (λ members. ends cube (part_meant catalog cube columns) (option_map (part_meant catalog cube) rows) members)) is_slicer
-      ∙ ap (λ more. unless (twice catalog (columns.roots ++ more ++ map root_of slicer)) (answer cube (part_meant catalog cube columns) (option_map (part_meant catalog cube) rows) slicer)) (map_or_map (λ meant. meant.roots) (part_meant catalog cube) rows [])
+  by_roots : (axes : Axes) → unless_refused catalog cube columns rows slicer axes ≡ unless (twice catalog (shared columns rows slicer)) (unless (too_many counted) (Ok axes))
+  by_roots axes = ap (λ more. unless (twice catalog (columns.roots ++ more ++ map root_of slicer)) (unless (too_many counted) (Ok axes))) (map_or_map (λ meant. meant.roots) (part_meant catalog cube) rows [])
 
   -- a hierarchy that stands twice
-  pub refused_twice : (fault : ResolveFault) → IsReason fault (twice catalog (shared columns rows slicer)) → IsFaultOf fault (axes_meant catalog query)
-  refused_twice fault is = subst (λ o. IsFaultOf fault o) (sym resolved) (reason_refuses fault (twice catalog (shared columns rows slicer)) _ is)
+  pub refused_twice : (fault : ResolveFault) → IsReason fault (twice catalog (shared columns rows slicer)) → (axes : Axes) → IsFaultOf fault (unless_refused catalog cube columns rows slicer axes)
+  refused_twice fault is axes = subst (λ o. IsFaultOf fault o) (sym (by_roots axes)) (reason_refuses fault (twice catalog (shared columns rows slicer)) _ is)
 
   module _ (once : twice catalog (shared columns rows slicer) ≡ None) where
-    once_is : axes_meant catalog query ≡ answer cube (part_meant catalog cube columns) (option_map (part_meant catalog cube) rows) slicer
-    once_is = resolved ∙ ap (λ o. unless o (answer cube (part_meant catalog cube columns) (option_map (part_meant catalog cube) rows) slicer)) once
+    by_count : (axes : Axes) → unless_refused catalog cube columns rows slicer axes ≡ unless (too_many counted) (Ok axes)
+    by_count axes = by_roots axes ∙ ap (λ o. unless o (unless (too_many counted) (Ok axes))) once
 
     -- too many cells
-    pub refused_many : (refusal : Refusal) → too_many (cell_count (part_meant catalog cube columns) (option_map (part_meant catalog cube) rows)) ≡ Some refusal → axes_meant catalog query ≡ Err refusal
-    refused_many refusal is = once_is ∙ ap (λ o. unless o (Ok (axes_of cube query (part_meant catalog cube columns) (option_map (part_meant catalog cube) rows) slicer))) is
+    pub refused_many : (refusal : Refusal) → too_many counted ≡ Some refusal → (axes : Axes) → unless_refused catalog cube columns rows slicer axes ≡ Err refusal
+    refused_many refusal is axes = by_count axes ∙ ap (λ o. unless o (Ok axes)) is
 
-    -- the axes
-    pub shown : (across : Axis) (down : Option Axis) (non_empty : Bool) → too_many (cell_count (part_meant catalog cube columns) (option_map (part_meant catalog cube) rows)) ≡ None → across ≡ record { non_empty = query.columns.non_empty; tuples = listed catalog cube columns.plan }
-        → non_empty ≡ option_map_or (λ axis. axis.non_empty) query.rows false → down ≡ option_map (λ part. record { non_empty = non_empty; tuples = listed catalog cube part.plan }) rows → axes_meant catalog query ≡ Ok (record { cube = cube; columns = across; rows = down; slicer = slicer })
-    shown across down non_empty few is_across is_empty is_down =
-        once_is
-        ∙ ap (λ o. unless o (Ok (axes_of cube query (part_meant catalog cube columns) (option_map (part_meant catalog cube) rows) slicer))) few
-        ∙ ap (λ a. Ok (record { cube = cube; columns = a; rows = option_map (λ meant. record { non_empty = option_map_or (λ axis. axis.non_empty) query.rows false; tuples = meant.tuples }) (option_map (part_meant catalog cube) rows); slicer = slicer })) (sym is_across)
-        ∙ ap (λ d. Ok (record { cube = cube; columns = across; rows = d; slicer = slicer }))
-        (map_map (λ meant. record { non_empty = option_map_or (λ axis. axis.non_empty) query.rows false; tuples = meant.tuples }) (part_meant catalog cube) rows
-        ∙ ap (λ b. option_map (λ part. record { non_empty = b; tuples = listed catalog cube part.plan }) rows) (sym is_empty)
-        ∙ sym is_down)
+    -- neither
+    pub not_refused : too_many counted ≡ None → (axes : Axes) → unless_refused catalog cube columns rows slicer axes ≡ Ok axes
+    not_refused is axes = by_count axes ∙ ap (λ o. unless o (Ok axes)) is
+
+    -- as the number of cells is tested
+    pub tested : (result : Result Unit ResolveFault) (count : ℕ) → count ≡ min counted most_told → OnOk result (count ≤ CELL_LIMIT) → OnOk result ((axes : Axes) → unless_refused catalog cube columns rows slicer axes ≡ Ok axes)
+    tested (Ok u) count is within = not_refused (few counted count is within)
+    tested (Err e) count is within = tt
+
+    pub tested_fault :
+        (result : Result Unit ResolveFault) (count : ℕ) → count ≡ min counted most_told → IfErr result (λ fault. CELL_LIMIT < count) → IfErr result (λ fault. fault ≡ fault_variants.TooManyCells count CELL_LIMIT)
+        → IfErr result (λ fault. (axes : Axes) → IsFaultOf fault (unless_refused catalog cube columns rows slicer axes))
+    tested_fault (Ok u) count is over told = tt
+    tested_fault (Err e) count is over told = rw told (refused_many (TooManyCells count CELL_LIMIT) (many counted count is over))
+
+-- ---- what a query means
+
+-- the axes that a query means, where its parts mean these
+pub meant_as :
+    (catalog : Catalog) (query : Query) (cube : ℕ) (columns : Part) (rows : Option Part) (slicer : List Member) → find_cube catalog query.cube ≡ Some cube → set_meant catalog cube query.columns.set ≡ Ok (part_meant catalog cube columns)
+    → rows_meant catalog cube query.rows ≡ Ok (option_map (part_meant catalog cube) rows) → tuple_meant catalog cube query.slicer ≡ Ok slicer
+    → axes_meant catalog query ≡ unless_refused catalog cube columns rows slicer (axes_of cube query (part_meant catalog cube columns) (option_map (part_meant catalog cube) rows) slicer)
+meant_as catalog query cube columns rows slicer found is_columns are_rows is_slicer =
+    ap (λ o. ok_or o (NoCube query.cube) >>= (λ k. set_meant catalog k query.columns.set >>= (λ one. rows_meant catalog k query.rows >>= (λ other. tuple_meant catalog k query.slicer >>= (λ members. ends k one other members))))) found
+    ∙ ap (λ r. r >>= (λ one. rows_meant catalog cube query.rows >>= (λ other. tuple_meant catalog cube query.slicer >>= (λ members. ends cube one other members)))) is_columns
+    ∙ ap (λ r. r >>= (λ other. tuple_meant catalog cube query.slicer >>= (λ members. ends cube (part_meant catalog cube columns) other members))) are_rows
+    ∙ ap (λ r. r >>= (λ members. ends cube (part_meant catalog cube columns) (option_map (part_meant catalog cube) rows) members)) is_slicer
+  where
+    ends : ℕ → Meaning → Option Meaning → List Member → Result Axes Refusal
+    ends k one other members = unless (twice catalog (all_roots one other members)) (unless (too_many (cell_count one other)) (Ok (axes_of k query one other members)))
+
+-- axes that are listed are those that are meant, if no test refuses them
+pub listed_ok : (result : Result Axes ResolveFault) (outcome : Result Axes Refusal) (wanted : Axes) → outcome ≡ Ok wanted → IfOk result (λ axes. axes ≡ wanted) → IfOk result (λ axes. outcome ≡ Ok axes)
+listed_ok (Ok axes) outcome wanted meant is = meant ∙ ap (λ a. Ok a) (sym is)
+listed_ok (Err e) outcome wanted meant is = tt
+
+pub listed_fault : (result : Result Axes ResolveFault) (outcome : Result Axes Refusal) → IfErr result (λ fault. fault ≡ fault_variants.OutOfMemory) → IfErr result (λ fault. IsFaultOf fault outcome)
+listed_fault (Ok axes) outcome is = tt
+listed_fault (Err e) outcome is = rw is tt
+
+-- the axes of these parts
+pub shown :
+    (catalog : Catalog) (query : Query) (cube : ℕ) (columns : Part) (rows : Option Part) (slicer : List Member) (across : Axis) (down : Option Axis) (non_empty : Bool) → across ≡ record { non_empty = query.columns.non_empty; tuples = listed catalog cube columns.plan }
+    → non_empty ≡ option_map_or (λ axis. axis.non_empty) query.rows false → down ≡ option_map (λ part. record { non_empty = non_empty; tuples = listed catalog cube part.plan }) rows
+    → ◌≡◌ {A = Axes} (record { cube = cube; columns = across; rows = down; slicer = slicer }) (axes_of cube query (part_meant catalog cube columns) (option_map (part_meant catalog cube) rows) slicer)
+shown catalog query cube columns rows slicer across down non_empty is_across is_empty is_down =
+    sym
+    (ap (λ a. record { cube = cube; columns = a; rows = option_map (λ meant. record { non_empty = option_map_or (λ axis. axis.non_empty) query.rows false; tuples = meant.tuples }) (option_map (part_meant catalog cube) rows); slicer = slicer }) (sym is_across)
+    ∙ ap (λ d. record { cube = cube; columns = across; rows = d; slicer = slicer })
+    (map_map (λ meant. record { non_empty = option_map_or (λ axis. axis.non_empty) query.rows false; tuples = meant.tuples }) (part_meant catalog cube) rows
+    ∙ ap (λ b. option_map (λ part. record { non_empty = b; tuples = listed catalog cube part.plan }) rows) (sym is_empty)
+    ∙ sym is_down))

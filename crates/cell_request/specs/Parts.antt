@@ -1,11 +1,13 @@
 -- What the parts of a query mean.
-use Rattle.std.specs.Prelude.{◌≡◌, ℕ, List, Result, Ok, ◌++◌, Bool, ◌&&◌, not, All, length, min}
+use Rattle.std.specs.Prelude.{◌≡◌, ℕ, List, Option, Result, Ok, ◌++◌, option_map, Bool, ◌&&◌, not, All, length, min}
 use Rattle.olap_meaning.specs.Catalog.{level_of}
 use Rattle.olap_meaning.specs.MemberOf.{IsLevelIn}
 use Rattle.olap_meaning.specs.Results.{refused_as, unless}
 use Rattle.olap_meaning.specs.declared.cells.LevelRef.{LevelRef}
+use Rattle.olap_meaning.specs.declared.cells.Member.{Member}
 use Rattle.olap_meaning.specs.declared.tables.Catalog.{Catalog}
-use Rattle.query_meaning.specs.Resolution.{Item, Meaning, NoMember, Refusal, are_roots, crossed, most_told, twice}
+use Rattle.query_meaning.specs.Resolution.{Item, Meaning, NoMember, Refusal, all_roots, are_roots, cell_count, crossed, most_told, too_many, twice}
+use Rattle.query_meaning.specs.declared.axes.Axes.{Axes}
 use Rattle.cell_request.specs.declared.parts.ItemPart.{ItemPart}
 use Rattle.cell_request.specs.declared.parts.Part.{Part}
 use Rattle.cell_request.specs.Plans.{listed, IsPlanOf}
@@ -36,6 +38,14 @@ item_of catalog cube item = record { at = item.at; meant = part_meant catalog cu
 abbrev pub crossing : Catalog → Meaning → Meaning → Result Meaning Refusal
 crossing catalog one other =
     unless (twice catalog (one.roots ++ other.roots)) (Ok (crossed one other))
+
+-- axes of these columns, rows and slicer, unless a hierarchy stands twice in them or they have too many cells
+abbrev pub unless_refused : Catalog → ℕ → Part → Option Part → List Member → Axes → Result Axes Refusal
+unless_refused catalog cube columns rows slicer axes =
+    let first = part_meant catalog cube columns in
+    let second = option_map (part_meant catalog cube) rows in
+    unless (twice catalog (all_roots first second slicer))
+    (unless (too_many (cell_count first second)) (Ok axes))
 
 -- an item is not open, and is of other roots
 abbrev pub is_other : List LevelRef → ItemPart → Bool

@@ -2,10 +2,11 @@
 ghost use Rattle.std.specs.Prelude.{◌≡◌, ◌<◌, ◌≤◌, ◌*◌, ◌++◌, ◌⊎◌, [], Ok, Err, Some, false, All, length, max, min, map, option_map, IfOk, IfErr, IfSome, IsSomeAnd, OnOk};
 ghost use Rattle.std.specs.Option.{option_map_or};
 ghost use Rattle.cell_request.specs.Faults.{refusal_of, IsFaultOf};
-ghost use Rattle.cell_request.specs.Parts.{part_meant, IsPartOf};
+ghost use Rattle.cell_request.specs.Parts.{part_meant, unless_refused, IsPartOf};
 ghost use Rattle.cell_request.specs.Plans.{listed};
 ghost use Rattle.olap_meaning.specs.Catalog.{find_cube};
 ghost use Rattle.olap_meaning.specs.MemberOf.{IsMemberOf};
+ghost use Rattle.query_meaning.specs.declared.axes.Axes.{Axes};
 ghost use Rattle.query_meaning.specs.OwnAxes.{AreAxesOf, AreTuplesOf};
 ghost use Rattle.query_meaning.specs.Resolution as meaning;
 ghost use Rattle.query_meaning.specs.Resolution.{axes_meant, most_told};
@@ -54,11 +55,54 @@ fn axes_in(
     let columns = set_part(alloc, catalog, cube, &query.columns.set)?;
     let rows = rows_part(alloc, catalog, cube, &query.rows)?;
     let slicer = tuple_at(alloc, catalog, cube, query.slicer.as_slice())?;
-    let roots = axis_roots(alloc, &columns, &rows, slicer.as_slice())?;
+    refuse_axes(alloc, catalog, cube, &columns, &rows, slicer.as_slice())?;
+    listed_axes(alloc, catalog, cube, query, &columns, &rows, slicer)
+}
+
+// Refuses a hierarchy that stands twice, then too many cells.
+fn refuse_axes(
+    alloc: Global,
+    catalog: &Catalog,
+    cube: CubeId,
+    columns: &Part,
+    rows: &Option<Part>,
+    slicer: &[Member],
+) -> Result<(), ResolveFault>
+    requires columns { IsPartOf catalog.now cube columns.now }
+    requires rows { IfSome rows.now (IsPartOf catalog.now cube) }
+    requires slicer { All (IsMemberOf catalog.now cube) slicer.now }
+    ensures ok { OnOk result ((axes : Axes)
+        → unless_refused catalog.now cube columns.now rows.now slicer.now axes ≡ Ok axes) }
+    ensures fault { IfErr result (λ fault. (axes : Axes) → IsFaultOf fault
+        (unless_refused catalog.now cube columns.now rows.now slicer.now axes)) }
+{
+    let roots = axis_roots(alloc, columns, rows, slicer)?;
     refuse_twice(alloc, catalog, roots.as_slice())?;
-    refuse_many(cell_count(&columns, &rows))?;
-    let columns = axis(alloc, catalog, cube, query.columns.non_empty, &columns)?;
-    let rows = row_axis(alloc, catalog, cube, are_non_empty(&query.rows), &rows)?;
+    refuse_many(cell_count(columns, rows))
+}
+
+// The axes with these columns, rows and slicer, with all their tuples.
+fn listed_axes(
+    alloc: Global,
+    catalog: &Catalog,
+    cube: CubeId,
+    query: &Query,
+    columns: &Part,
+    rows: &Option<Part>,
+    slicer: List<Member>,
+) -> Result<Axes, ResolveFault>
+    requires known { cube < length catalog.now.cubes }
+    requires columns { IsPartOf catalog.now cube columns.now }
+    requires rows { IfSome rows.now (IsPartOf catalog.now cube) }
+    requires slicer { All (IsMemberOf catalog.now cube) slicer }
+    ensures axes { IfOk result (λ axes. axes ≡ meaning.axes_of cube query.now
+        (part_meant catalog.now cube columns.now)
+        (option_map (part_meant catalog.now cube) rows.now) slicer) }
+    ensures own { IfOk result (AreAxesOf catalog.now) }
+    ensures fault { IfErr result (λ fault. fault ≡ ResolveFault.OutOfMemory) }
+{
+    let columns = axis(alloc, catalog, cube, query.columns.non_empty, columns)?;
+    let rows = row_axis(alloc, catalog, cube, are_non_empty(&query.rows), rows)?;
     Ok(Axes {
         cube,
         columns,

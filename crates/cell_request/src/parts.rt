@@ -1,6 +1,6 @@
 //! What parts of a query mean.
-ghost use Rattle.std.specs.Prelude.{ℕ, ◌≡◌, ◌<◌, Ok, length, min, IfOk, IfErr};
-ghost use Rattle.cell_request.specs.Faults.{IsFaultOf};
+ghost use Rattle.std.specs.Prelude.{ℕ, ◌≡◌, ◌<◌, ◌++◌, All, None, Ok, length, min, IfOk, IfErr, OnOk};
+ghost use Rattle.cell_request.specs.Faults.{IsFaultOf, IsReason};
 ghost use Rattle.cell_request.specs.Parts.{crossing, part_meant, IsPartOf};
 ghost use Rattle.cell_request.specs.Plans.{listed, pairs_of, IsPlanOf};
 ghost use Rattle.olap_meaning.specs.declared.tables.Catalog.{Catalog};
@@ -189,17 +189,34 @@ pub(crate) fn crossed(
     ensures fault { IfErr result (λ fault. IsFaultOf fault (crossing catalog.now
         (part_meant catalog.now cube first) (part_meant catalog.now cube second))) }
 {
-    let mut roots = first.roots;
-    add_roots(&mut roots, second.roots.as_slice())?;
-    refuse_twice(alloc, catalog, roots.as_slice())?;
+    let mut first = first;
+    share_roots(alloc, catalog, &mut first.roots, second.roots.as_slice())?;
     let count = first.count.saturating_mul(second.count);
     let plan = crossed_plan(alloc, count, first.plan, second.plan)?;
     Ok(Part {
-        roots,
+        roots: first.roots,
         is_open: first.is_open || second.is_open,
         count,
         plan,
     })
+}
+
+// Puts roots after others, and refuses a hierarchy that then stands twice.
+fn share_roots(
+    alloc: Global,
+    catalog: &Catalog,
+    roots: &mut List<LevelRef>,
+    more: &[LevelRef],
+) -> Result<(), ResolveFault>
+    requires roots { All (IsLevelIn catalog.now) roots.old }
+    requires more { All (IsLevelIn catalog.now) more.now }
+    ensures added { OnOk result (roots.new ≡ roots.old ++ more.now) }
+    ensures ok { OnOk result (meaning.twice catalog.now (roots.old ++ more.now) ≡ None) }
+    ensures fault { IfErr result
+        (λ fault. IsReason fault (meaning.twice catalog.now (roots.old ++ more.now))) }
+{
+    add_roots(roots, more)?;
+    refuse_twice(alloc, catalog, roots.as_slice())
 }
 
 // What lists so many tuples of a Crossjoin. Where there are none, nothing of its sets is listed.

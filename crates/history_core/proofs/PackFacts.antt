@@ -1,13 +1,14 @@
 -- Cells that are kept in few bytes.
-use Rattle.std.proofs.Common.{suc, zero, ◌≡◌, ◌∙◌, ◌+◌, ◌≤◌, ◌<◌, ℕ, List, [], ◌∷◌, ◌++◌, None, Some, Result, Ok, Err, OnOk, OnErr, refl, subst, sym, ap, map, option_map, arith, take, drop, length, get_or, slice_get, length-append}
-use Rattle.std.proofs.lemmas.List.{take_more, take_all, get_or_append_left, append-nil, drop-append-le, length-drop, length-map}
-use Rattle.std.proofs.lemmas.Option.{slice_get_read, slice_get_past, get_or_from_slice_get, slice_get_within, none-some, same_Some}
+use Rattle.std.proofs.Common.{suc, zero, ◌≡◌, ◌∙◌, ◌+◌, ◌≤◌, ◌<◌, ℕ, List, [], ◌∷◌, ◌++◌, Option, None, Some, option_copied, Bor, Result, Ok, Err, IfOk, OnOk, OnErr, refl, subst, sym, ap, map, option_map, arith, take, drop, length, get_or, slice_get, length-append}
+use Rattle.std.proofs.lemmas.List.{get_or_push, take_more, take_all, get_or_append_left, append-nil, drop-append-le, length-drop, length-map, drop_more}
+use Rattle.std.proofs.lemmas.Option.{slice_get-get_or, slice_get_read, slice_get_past, get_or_from_slice_get, slice_get_within, none-some, same_Some}
 use Rattle.std.proofs.lemmas.Slice.Zip.{get_or-zip, length-zip}
 use Rattle.std.specs.List.{AllByRecursion, zip}
+use Rattle.std.specs.Option.{IsSome}
 use Rattle.olap_meaning.specs.declared.cells.Cell.{Cell}
 use Rattle.history_core.specs.declared.kinds.Kind.{Kind}
 use Rattle.history_core.specs.declared.numbers.Numbers.{Numbers}
-use Rattle.history_core.specs.CellSources.{AreNumbersOf, IsPacked, kind_at, kind_of, unpacked, value_total}
+use Rattle.history_core.specs.CellSources.{AreNumbersOf, IsPacked, cell_of, kind_at, kind_of, unpacked, value_total}
 
 -- pairs of two lists
 
@@ -178,3 +179,50 @@ module _ {A E : Type 0} (r : Result A E) (kinds : List Kind) (lists : List (List
 pub on_err : {A E P : Type 0} (r : Result A E) → P → OnErr r P
 on_err (Ok x) p = tt
 on_err (Err e) p = p
+
+-- an item that a list lends
+
+pub lent_is_some : {A : Type 0} (items : List A) (i : ℕ) (d : A) (found : Option (Bor A)) → option_copied found ≡ slice_get items i → i < length items → IsSome found
+lent_is_some items i d None is inside = absurd (none-some (get_or items i d) (is ∙ slice_get-get_or items i d inside))
+lent_is_some items i d (Some item) is inside = refl
+
+pub lent_at : {A : Type 0} (items : List A) (i : ℕ) (d : A) (found : Option (Bor A)) (item : Bor A) → option_copied found ≡ slice_get items i → found ≡ Some item → item.now ≡ get_or items i d
+lent_at items i d found item is some = sym (get_or_from_slice_get items i item.now d (sym is ∙ ap option_copied some))
+
+-- the cells that are left from a place on
+
+module _ (kinds : List Kind) (lists : List (List ℕ)) (cells : List Numbers) (i : ℕ) (d : Numbers) (values : List ℕ) (inside : i < length cells) where
+  left_packed : IsPacked kinds lists (drop i cells) values → IsPacked kinds lists (get_or cells i d ∷ drop (i + 1) cells) values
+  left_packed packed = subst (λ (left : List Numbers). IsPacked kinds lists left values) (drop_more cells i d inside) packed
+
+  pub known_here : IsPacked kinds lists (drop i cells) values → AreNumbersOf kinds lists (get_or cells i d)
+  known_here packed = (left_packed packed).known.0
+
+  pub values_here : IsPacked kinds lists (drop i cells) values → length (kind_at kinds (get_or cells i d).kind).columns ≤ length values
+  values_here packed = let whole = (left_packed packed).whole in omega (arith, whole)
+
+  pub packed_on : IsPacked kinds lists (drop i cells) values → IsPacked kinds lists (drop (i + 1) cells) (drop (length (kind_at kinds (get_or cells i d).kind).columns) values)
+  packed_on packed =
+      let whole = (left_packed packed).whole in
+      record {
+        known = (left_packed packed).known.1;
+        whole = rw length-drop (omega (arith, whole));
+      }
+
+  pub unpacked_on : unpacked kinds lists (drop i cells) values
+      ≡ (record { cell = cell_of (kind_at kinds (get_or cells i d).kind) values; loads = get_or lists (get_or cells i d).loads [] })
+      ∷ unpacked kinds lists (drop (i + 1) cells) (drop (length (kind_at kinds (get_or cells i d).kind).columns) values)
+  unpacked_on = ap (λ (left : List Numbers). unpacked kinds lists left values) (drop_more cells i d inside)
+
+-- one thing more at the end, or none where memory is wanting
+
+pub added_kept : {A E : Type 0} (r : Result ℕ E) (before after : List A) (thing : A) → OnOk r (after ≡ before ++ thing ∷ []) → OnErr r (after ≡ before) → (more : List A) × (after ≡ before ++ more)
+added_kept (Ok number) before after thing ok err = (thing ∷ [], ok)
+added_kept (Err e) before after thing ok err = ([], err ∙ sym (append-nil before))
+
+pub added_number : {A E : Type 0} (r : Result ℕ E) (before after : List A) (thing other : A) → thing ≡ other → IfOk r (λ number. number ≡ length before) → OnOk r (after ≡ before ++ thing ∷ []) → IfOk r (λ number. slice_get after number ≡ Some other)
+added_number (Ok number) before after thing other same at ok =
+    let inside : number < length (before ++ thing ∷ []) = rw length-append (omega arith) in
+    let found : slice_get (before ++ thing ∷ []) number ≡ Some thing = slice_get_read (before ++ thing ∷ []) _ number thing refl inside (sym (get_or_push before thing thing number (sym at))) in
+    ap (λ things. slice_get things number) ok ∙ found ∙ ap Some same
+added_number (Err e) before after thing other same at ok = tt

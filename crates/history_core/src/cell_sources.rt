@@ -142,13 +142,30 @@ fn cell_with(alloc: Global, kind: &Kind, values: &[ValueId]) -> Result<Cell, Out
     let columns = kind.columns.as_slice();
     let mut at = Vec::with_capacity(alloc, columns.len())?;
     for i in 0..columns.len() {
-        at.push((columns[i], values[i]))?;
+        at.push_reserved((columns[i], values[i]));
     }
     Ok(Cell {
         cube: kind.cube,
         measure: kind.measure,
         at: List::from_vec(at),
     })
+}
+
+// The cell of a kind with some values, by itself with its loads.
+fn source_of(
+    alloc: Global,
+    kind: &Kind,
+    values: &[ValueId],
+    loads: &[u64],
+) -> Result<CellSource, OutOfMemory>
+    requires { length kind.now.columns ≤ length values.now }
+    ensures { IfOk result
+        (λ source. source
+        ≡ record { cell = cell_of kind.now values.now; loads = loads.now }) }
+{
+    let loads = List::from_vec(Vec::from_slice(alloc, loads)?);
+    let cell = cell_with(alloc, kind, values)?;
+    Ok(CellSource { cell, loads })
 }
 
 // The first of some cells, by itself with its loads, and the values of the others.
@@ -173,11 +190,33 @@ fn first_source<'v>(
 {
     let kind = kinds.get(first.kind).unwrap();
     let list = lists.get(first.loads).unwrap();
-    let source = CellSource {
-        cell: cell_with(alloc, kind, values)?,
-        loads: List::from_vec(Vec::from_slice(alloc, list.as_slice())?),
-    };
-    Ok((source, &values[kind.columns.len()..]))
+    let rest = &values[kind.columns.len()..];
+    let source = source_of(alloc, kind, values, list.as_slice())?;
+    Ok((source, rest))
+}
+
+// Adds cells, each by itself with its loads, for which there is room.
+fn add_sources(
+    alloc: Global,
+    kinds: &Register<Kind>,
+    lists: &Register<List<u64>>,
+    cells: &[Numbers],
+    values: &[ValueId],
+    sources: &mut Vec<CellSource>,
+) -> Result<(), OutOfMemory>
+    requires packed { IsPacked kinds.now lists.now cells.now values.now }
+    requires room { vec_len sources.old + length cells.now ≤ vec_capacity sources.old }
+    ensures { OnOk result
+        (sources.new.items
+        ≡ sources.old.items ++ unpacked kinds.now lists.now cells.now values.now) }
+{
+    let mut left = values;
+    for cell in cells {
+        let (source, rest) = first_source(alloc, kinds, lists, *cell, left)?;
+        sources.push_reserved(source);
+        left = rest;
+    }
+    Ok(())
 }
 
 // The cells as a list, each by itself with its loads.
@@ -193,11 +232,6 @@ fn sources_of(
         (λ sources. sources ≡ unpacked kinds.now lists.now cells.now values.now) }
 {
     let mut sources = Vec::with_capacity(alloc, cells.len())?;
-    let mut left = values;
-    for cell in cells {
-        let (source, rest) = first_source(alloc, kinds, lists, *cell, left)?;
-        sources.push(source)?;
-        left = rest;
-    }
+    add_sources(alloc, kinds, lists, cells, values, &mut sources)?;
     Ok(List::from_vec(sources))
 }

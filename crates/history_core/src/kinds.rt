@@ -38,7 +38,7 @@ fn columns_of(alloc: Global, at: &[(ColumnId, ValueId)]) -> Result<List<ColumnId
 {
     let mut columns = Vec::with_capacity(alloc, at.len())?;
     for pair in at {
-        columns.push(pair.0)?;
+        columns.push_reserved(pair.0);
     }
     Ok(List::from_vec(columns))
 }

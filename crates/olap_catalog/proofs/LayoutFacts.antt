@@ -6,7 +6,8 @@ use Rattle.olap_meaning.specs.declared.schema.SchemaDimension.{SchemaDimension}
 use Rattle.olap_meaning.specs.declared.schema.SchemaHierarchy.{SchemaHierarchy}
 use Rattle.olap_meaning.specs.declared.schema.SchemaLevel.{SchemaLevel}
 use Rattle.olap_meaning.specs.declared.tables.Column.{Column}
-use Rattle.olap_meaning.specs.Schema.{columns_from, all_columns, levels_of}
+use Rattle.olap_meaning.specs.declared.tables.Hierarchy.{Hierarchy}
+use Rattle.olap_meaning.specs.Schema.{columns_from, all_columns, levels_of, hierarchies_from, numbers_from, all_name}
 
 plus_one : (n : ℕ) → n + 1 ≡ suc n
 plus_one n = omega arith
@@ -55,6 +56,19 @@ schema_step columns after whole ds i d within at rest added =
     ∙ append_assoc columns (columns_from i 0 (levels_of d)) (all_columns (i + 1) (drop (i + 1) ds))
     ∙ ap (λ n. columns ++ (columns_from i 0 (levels_of d) ++ all_columns n (drop (i + 1) ds))) (plus_one i)
     ∙ ap (λ xs. columns ++ all_columns i xs) (sym (drop_here ds i d within at))
+    ∙ rest
+
+-- one hierarchy more of those of a dimension
+pub hierarchies_step : (built after whole : List Hierarchy) (d column count : ℕ) (hs : List SchemaHierarchy) (i : ℕ) (h : SchemaHierarchy) → i < length hs → h ≡ get_or hs i h
+    → built ++ hierarchies_from d column (drop i hs) ≡ whole → after ≡ built ++ (record { name = h.name; dimension = d; all_member = all_name h; levels = numbers_from column h.levels }) ∷ [] → count ≡ length h.levels
+    → after ++ hierarchies_from d (column + count) (drop (i + 1) hs) ≡ whole
+hierarchies_step built after whole d column count hs i h within at rest added counted =
+    let own : Hierarchy = record { name = h.name; dimension = d; all_member = all_name h; levels = numbers_from column h.levels } in
+    let later = drop (i + 1) hs in
+    ap (λ xs. xs ++ hierarchies_from d (column + count) later) added
+    ∙ ap (λ n. (built ++ own ∷ []) ++ hierarchies_from d (column + n) later) counted
+    ∙ append_assoc built (own ∷ []) (hierarchies_from d (column + length h.levels) later)
+    ∙ ap (λ xs. built ++ hierarchies_from d column xs) (sym (drop_here hs i h within at))
     ∙ rest
 
 -- the room that is left after one item more

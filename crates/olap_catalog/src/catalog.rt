@@ -1,17 +1,10 @@
 //! Catalogs: a schema with its dimensions' tables.
-ghost use Rattle.std.specs.Prelude.{◌≡◌, length, map, IfOk, OnOk, true};
-ghost use Rattle.std.specs.List.{list_all};
-ghost use Rattle.catalog_tables.specs.Tables.{have_fields, are_filled};
+ghost use Rattle.std.specs.Prelude.{◌≡◌, length, map, IfOk};
 ghost use Rattle.olap_meaning.specs.Schema.{catalog_of, levels_of};
 ghost use Rattle.olap_meaning.specs.Whole.{IsWhole};
 ghost use Rattle.olap_catalog.specs.Parts.{records_in};
 
-use crate::cubes::{
-    cube_names_of, cubes_of, full_names_of, measure_names_of, root_names_of, roots_of,
-    table_names_of,
-};
-use crate::layout::{columns_of, hierarchies_of, level_names_of};
-use crate::trees::trees_of;
+use crate::parts::{Parts, parts_of};
 use catalog_tables::{DimensionTable, Table};
 use member_trees::MemberTree;
 use olap_meaning::schema::Schema;
@@ -61,45 +54,26 @@ pub fn build_catalog(
         ≡ map (λ d. length (levels_of d)) schema.dimensions }
     ensures { IfOk result (λ catalog. catalog ≡ catalog_of schema (records_in tables)) }
 {
-    let dimensions = schema.dimensions.as_slice();
-    let columns = columns_of(alloc, dimensions)?;
-    let hierarchies = hierarchies_of(alloc, dimensions)?;
-    let cubes = cubes_of(alloc, dimensions, schema.cubes.as_slice())?;
-    let full_names = full_names_of(alloc, dimensions, hierarchies.as_slice())?;
-    let roots = roots_of(alloc, hierarchies.as_slice(), cubes.as_slice())?;
-    let cube_names = cube_names_of(alloc, cubes.as_slice())?;
-    let table_names = table_names_of(alloc, schema.aggregates.as_slice())?;
-    let measure_names = measure_names_of(alloc, cubes.as_slice())?;
-    let root_names = root_names_of(alloc, full_names.as_slice(), roots.as_slice())?;
-    let level_names = level_names_of(alloc, columns.as_slice(), hierarchies.as_slice())?;
-    let tables = numbered(alloc, tables)?;
-    let trees = trees_of(alloc, &schema, &tables, &columns, hierarchies.as_slice())?;
+    let parts = parts_of(alloc, &schema, tables)?;
+    let Parts {
+        tables,
+        layout,
+        trees,
+        names,
+    } = parts;
     Ok(Catalog {
         schema,
         tables,
-        columns,
-        hierarchies,
-        cubes,
+        columns: layout.columns,
+        hierarchies: layout.hierarchies,
+        cubes: layout.cubes,
         trees,
-        full_names,
-        roots,
-        cube_names,
-        table_names,
-        measure_names,
-        root_names,
-        level_names,
+        full_names: layout.full_names,
+        roots: layout.roots,
+        cube_names: names.cubes,
+        table_names: names.tables,
+        measure_names: names.measures,
+        root_names: names.roots,
+        level_names: names.levels,
     })
-}
-
-// The same tables with their texts numbered.
-fn numbered(alloc: Global, tables: List<Table>) -> Result<List<DimensionTable>, OutOfMemory>
-    ensures same { IfOk result (λ numbered. numbered ≡ tables) }
-    ensures even { OnOk result (list_all (λ t. have_fields t.levels t.records) tables ≡ true) }
-    ensures filled { OnOk result (list_all (λ t. are_filled t.records) tables ≡ true) }
-{
-    let mut numbered = List::new(alloc);
-    for table in tables.into_vec() {
-        numbered.push(DimensionTable::from_table(alloc, table)?)?;
-    }
-    Ok(numbered)
 }

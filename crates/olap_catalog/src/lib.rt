@@ -11,6 +11,7 @@ mod leaves;
 mod levels;
 mod lookups;
 mod members;
+mod parts;
 mod paths;
 mod shared;
 mod trees;

@@ -1,9 +1,9 @@
--- What holds at each turn of `run_calls`.
+-- What holds at each turn of `replies_to`.
 use Rattle.std.proofs.Common.{◌≡◌, ◌+◌, ◌≤◌}
 use Rattle.segment_header.specs.contracts.widener.WidenerAllowsValues.TheImpl.{answers-value}
 use Rattle.segment_header.specs.Widening.{Widened}
 use Rattle.cache_manager.specs.Runs.{IsRun, MayReplyAll, first_stage, rows_delivered, rows_over, rows_tried, stage_after, stage_of}
-use Rattle.cache_manager.proofs.calls.run_calls.Given as goal
+use Rattle.cache_manager.proofs.calls.replies_to.Given as goal
 
 -- the calls so far are made, and each reply has its cause
 abbrev pub invariant-loop-call : goal.invariant-loop-call

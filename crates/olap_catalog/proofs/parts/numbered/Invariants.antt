@@ -2,7 +2,7 @@
 use Rattle.std.proofs.Common.{◌≡◌, true}
 use Rattle.std.specs.List.{list_all}
 use Rattle.catalog_tables.specs.Tables.{have_fields, are_filled}
-use Rattle.olap_catalog.proofs.catalog.numbered.Given as goal
+use Rattle.olap_catalog.proofs.parts.numbered.Given as goal
 
 abbrev pub invariant-loop-table : goal.invariant-loop-table
 invariant-loop-table l = record {
