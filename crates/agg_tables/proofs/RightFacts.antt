@@ -1,22 +1,21 @@
 -- A file has no fault exactly where its records are the groups of the fact rows, in some order.
-use Rattle.std.proofs.Common.{◌≡◌, ◌∙◌, ◌⊎◌, ◌<◌, ◌≤◌, ◌+◌, ℕ, zero, suc, pos, Bool, true, false, not, ◌&&◌, ◌||◌, List, [], ◌∷◌, ◌++◌, Option, None, Some, All, Contains, length, map, filter, filter_map, get_or, bytes_eq, is_some, nat_lt, refl, sym, ap, subst, arith, inl, inr, if◌then◌else◌}
-use Rattle.std.specs.Prelude.{IsTrue, slice_index_or}
+use Rattle.std.proofs.Common.{◌≡◌, ◌∙◌, ◌⊎◌, ◌<◌, ◌≤◌, ℕ, zero, suc, pos, Bool, true, false, not, ◌&&◌, List, [], ◌∷◌, ◌++◌, Option, None, Some, All, Contains, length, map, filter, filter_map, bytes_eq, is_some, nat_lt, refl, sym, subst, arith, inl, inr}
+use Rattle.std.specs.Prelude.{IsTrue}
 use Rattle.std.specs.List.{AllByRecursion, IsDistinct, list_any, remove}
 use Rattle.std.specs.List.Sorted.{IsPermutation}
 use Rattle.std.specs.Option.{option_or}
 use Rattle.std.specs.Cmp.Lexicographic.{bytes_decides}
-use Rattle.std.proofs.lemmas.Bool.{and_from, and_parts, cases_Bool}
+use Rattle.std.proofs.lemmas.Bool.{and_parts, cases_Bool}
 use Rattle.std.proofs.lemmas.Bool.Decides.{nat_tests}
 use Rattle.std.proofs.lemmas.Cmp.{nat_list_eq_equiv}
 use Rattle.std.proofs.lemmas.List.{append-nil, append_assoc, length-append}
-use Rattle.std.proofs.lemmas.List.Elements.{All-cons, All-contains_itself, All-head, All-nil, All-tail}
+use Rattle.std.proofs.lemmas.List.Elements.{All-cons, All-head, All-nil, All-tail}
 use Rattle.std.proofs.lemmas.List.Sorted.{Contains-permutation, IsPermutation-cons, IsPermutation-refl, IsPermutation-remove, IsPermutation-sym, IsPermutation-trans, length_permutation}
 use Rattle.std.proofs.lemmas.Map.Keys.{IsDistinct-cons, IsDistinct-head, IsDistinct-tail, IsDistinct-push, IsDistinct-IsPermutation}
 use Rattle.std.proofs.lemmas.Map.Views.{list_any-from_Contains}
 use Rattle.csv_records.specs.Files.{file_records}
 use Rattle.olap_meaning.proofs.Appearances.{any-same}
 use Rattle.olap_meaning.specs.Catalog.{first_appearances}
-use Rattle.olap_meaning.specs.History.{is_some_and}
 use Rattle.olap_meaning.specs.Records.{field_in, header_of, is_csv, records_of}
 use Rattle.olap_meaning.specs.declared.CellValue.TheVariants.{Whole}
 use Rattle.olap_meaning.specs.declared.tables.Catalog.{Catalog}
@@ -24,9 +23,8 @@ use Rattle.olap_meaning.specs.declared.tables.Row.{Row}
 use Rattle.agg_tables.specs.declared.declared.Declared.{Declared}
 use Rattle.agg_tables.specs.declared.declared.FileColumn.{FileColumn}
 use Rattle.agg_tables.specs.declared.declared.TableLevel.{TableLevel}
-use Rattle.agg_tables.specs.declared.fault.AggFault.{AggFault}
 use Rattle.agg_tables.specs.declared.fault.AggFault.TheVariants.{NotCsv, UnknownValue, GroupTwice, GroupMissing}
-use Rattle.agg_tables.specs.Files.{computed, count_fault, differs, file_columns, file_fault, group_fault, group_rows, header_fault, level_fault, level_value, missing_fault, number_fault, record_values, records_fault, row_fault, says, twice_fault}
+use Rattle.agg_tables.specs.Files.{computed, count_fault, differs, file_columns, file_fault, group_fault, group_rows, header_fault, level_fault, level_value, number_fault, record_values, records_fault, row_fault, says, twice_fault}
 use Rattle.agg_tables.specs.RightFiles.{IsGroupRecord, IsRightFile, RightFilesHaveNoFault, record_rows}
 use Rattle.agg_tables.specs.Tables.{groups_over, table_values}
 

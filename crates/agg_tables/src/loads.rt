@@ -1,9 +1,10 @@
 //! What a load reads of an aggregate table in place of fact rows, and what that costs (Aggregate Tables).
-ghost use Rattle.std.specs.Prelude.{◌≡◌, ◌+◌, ◌≤◌, ◌==◌, Contains, IfOk, IsTrue, OnOk, length, position};
+ghost use Rattle.std.specs.Prelude.{◌≡◌, ◌≢◌, ◌+◌, ◌≤◌, ◌==◌, Contains, IfOk, IsTrue, OnOk, length, position};
 ghost use Rattle.std.specs.List.{list_all, list_any};
 ghost use Rattle.olap_meaning.specs.Rolled as rolled;
 ghost use Rattle.segment_header.specs.Headers.{is_header};
 ghost use Rattle.segment_body.specs.BodyOf.{different_values};
+ghost use Rattle.segment_body.specs.Narrowed.{IsNarrowed};
 ghost use Rattle.fact_reader.specs.BodyRows.{HoldsRows, are_batches, is_loadable, rows_in};
 ghost use Rattle.agg_tables.specs.Tables.{groups_in};
 ghost use Rattle.agg_tables.specs.Costs.{IsTableOver, is_usable, may_read, table_cost};
@@ -11,8 +12,8 @@ ghost use Rattle.agg_tables.specs.Costs as costs;
 
 use crate::laws::tables_are_placed;
 use crate::table::AggTable;
+use fact_reader::add_later;
 use fact_reader::laws::rows_are_valued;
-use fact_reader::{RowReader, add_pieces};
 use fact_versions::{Snapshot, Steps};
 use olap_catalog::Catalog;
 use olap_meaning::{Aggregator, Allowed, ColumnId, Header, OutOfMemory};
@@ -83,14 +84,30 @@ impl AggTable {
         rows_are_valued(catalog);
         // A snapshot has no more rows than a body has room for.
         let _rows = snapshot.rows();
-        let reader = RowReader::new(alloc, catalog, header)?;
-        let own = copy_header(alloc, header)?;
-        let mut body = self.body_for(header).narrowed(own, steps)?;
-        let mut values = Vec::with_capacity(alloc, header.columns.len())?;
+        let wide = self.body_for(header);
+        let mut body = narrowed_to(alloc, wide, header, steps)?;
         let first = self.first_later();
-        add_pieces(&reader, snapshot, first, &mut values, &mut body, steps)?;
+        add_later(alloc, catalog, header, snapshot, first, &mut body, steps)?;
         Ok(body)
     }
+}
+
+// The rows of a body that a header allows, by its groups.
+fn narrowed_to<L: Ledger>(
+    alloc: Global,
+    wide: &Body,
+    header: &Header,
+    steps: &mut Steps<L>,
+) -> Result<Body, OutOfMemory>
+    requires adds_up { wide.now.aggregator ≢ Aggregator.DistinctCount }
+    requires formed { IsTrue (is_header header.now) }
+    ensures body { IfOk result (IsNarrowed wide.now header.now) }
+    ensures cost { OnOk result
+        (steps.new ≡ steps.old + length (different_values wide.now.rows)) }
+    ensures at_least { steps.old ≤ steps.new }
+    ensures at_most { steps.new ≤ steps.old + length (different_values wide.now.rows) }
+{
+    wide.narrowed(copy_header(alloc, header)?, steps)
 }
 
 // Whether a body is of a header's cube and measure, adds up, and has each of the header's columns.

@@ -4,6 +4,7 @@ use crate::files::{
     apart_later, apart_sales, last_sales, later_sales, sales, schema, stores, times, wider_sales,
 };
 use crate::loads::tell_loads;
+use std::alloc::Global;
 use std::test::Fail;
 use test_samples::sales::Sales;
 
@@ -107,17 +108,6 @@ const AGGREGATORS: &str = "2 1@1 min: => table 1, 4 steps, 1 groups: -4
 4 1@1 avg: => table 1, 7 steps, 1 groups: 2.57
 ";
 
-#[test]
-fn loads_are_as_worked_by_hand(rt: HostRuntime) -> Result<(), Fail> {
-    let alloc = rt.alloc();
-    let batches = [sales(), later_sales(), last_sales(), wider_sales()];
-    let sales = Sales::open(alloc, schema(), &[times(), stores()], &batches)?;
-    for table in [STEPS, PASSED_OVER, CHEAPEST, NARROWER, AGGREGATORS] {
-        assert_eq!(rt; tell_loads(alloc, &sales, table)?.as_str(), table);
-    }
-    Ok(())
-}
-
 /// Each row is a group of its own in the tables by quarter and year and by city and year. The rows of version 1 are of 1997 Q1
 /// in LA 5, of 1997 Q2 in SF 7, and of 1998 Q1 in Seattle 3. Version 2 has one more for 1998 Q1 in LA, of 2: by quarter and
 /// year it has a row before it, and by city and year it has none.
@@ -131,12 +121,21 @@ const APART: &str = "1 8@1 sum:2 => table 8, 3 steps, 3 groups: 5 7 3
 2 8@2 sum:2 => table 8, 4 steps, 3 groups: 7 7 3
 ";
 
+// What is told of loads over some batches.
+fn told_over(alloc: Global, batches: &[&[u8]], table: &str) -> Result<String, Fail> {
+    let sales = Sales::open(alloc, schema(), &[times(), stores()], batches)?;
+    tell_loads(alloc, &sales, table)
+}
+
 #[test]
-fn a_table_that_costs_as_much_as_the_facts_is_read(rt: HostRuntime) -> Result<(), Fail> {
-    let alloc = rt.alloc();
-    let batches = [apart_sales(), apart_later()];
-    let sales = Sales::open(alloc, schema(), &[times(), stores()], &batches)?;
-    assert_eq!(rt; tell_loads(alloc, &sales, APART)?.as_str(), APART);
+fn loads_are_as_worked_by_hand(rt: HostRuntime) -> Result<(), Fail> {
+    let batches = [sales(), later_sales(), last_sales(), wider_sales()];
+    for table in [STEPS, PASSED_OVER, CHEAPEST, NARROWER, AGGREGATORS] {
+        assert_eq!(rt; told_over(rt.alloc(), &batches, table)?.as_str(), table);
+    }
+    // A table that costs as much as the facts is read.
+    let apart = [apart_sales(), apart_later()];
+    assert_eq!(rt; told_over(rt.alloc(), &apart, APART)?.as_str(), APART);
     Ok(())
 }
 

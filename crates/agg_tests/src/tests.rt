@@ -105,7 +105,7 @@ const OTHERS: &str = "1 => 3 groups of table 1 in version 1
 8 city,year,rows,units/1997,LA,2,8 => record 1 has an unknown value in column city
 ";
 
-/// The tables over both batches.
+/// The tables over the first two batches: each is of its version.
 const LATER: &str = "0 => 2 groups of table 0 in version 2
 0 year,fact_count,units_sum/1997,3,15/1998,2,-4 => 2 groups of table 0 in version 2
 0 year,fact_count,units_sum/1997,3,15/1998,2,-04 => 2 groups of table 0 in version 2
@@ -117,7 +117,7 @@ const LATER: &str = "0 => 2 groups of table 0 in version 2
 6 rows/5 => 1 groups of table 6 in version 2
 ";
 
-/// The tables over all three.
+/// The tables over all three: a sum of 0 is not empty.
 const LAST: &str = "0 => 2 groups of table 0 in version 3
 0 year,fact_count,units_sum/1997,3,15/1998,3,0 => 2 groups of table 0 in version 3
 0 year,fact_count,units_sum/1997,3,15/1998,3,-0 => 2 groups of table 0 in version 3
@@ -128,7 +128,7 @@ const LAST: &str = "0 => 2 groups of table 0 in version 3
 1 city,rows,avg_sum,avg_count,least,most,counted/Seattle,3,0,2,-4,-4,2 => record 1 has -4 in column most, where the facts give 4
 ";
 
-/// The tables over no row.
+/// The tables over no row: they have no group.
 const NO_ROWS: &str = "0 => 0 groups of table 0 in version 0
 0 year,fact_count,units_sum => 0 groups of table 0 in version 0
 0 year,fact_count,units_sum/1997,0, => record 1 has 0 in column fact_count, where the facts give 0
@@ -140,42 +140,25 @@ const NO_ROWS: &str = "0 => 0 groups of table 0 in version 0
 6 rows => 0 groups of table 6 in version 0
 ";
 
-/// What is told of a table of files over a version of the three batches.
-fn told_over(alloc: Global, version: u32, table: &str) -> Result<String, Fail> {
-    let batches = [sales(), later_sales(), last_sales()];
-    let sales = Sales::open(alloc, schema(), &[times(), stores()], &batches)?;
+// What is told of a table of files over a version of some batches.
+fn told_over(alloc: Global, batches: &[&[u8]], version: u32, table: &str) -> Result<String, Fail> {
+    let sales = Sales::open(alloc, schema(), &[times(), stores()], batches)?;
     tell_tables(alloc, &sales, version, table)
 }
 
 #[test]
-fn a_table_of_one_measure_is_checked(rt: HostRuntime) -> Result<(), Fail> {
-    assert_eq!(rt; told_over(rt.alloc(), 1, BY_YEAR)?.as_str(), BY_YEAR);
-    Ok(())
-}
-
-#[test]
-fn each_kind_of_table_is_checked(rt: HostRuntime) -> Result<(), Fail> {
-    assert_eq!(rt; told_over(rt.alloc(), 1, OTHERS)?.as_str(), OTHERS);
-    Ok(())
-}
-
-#[test]
-fn a_table_is_of_its_version(rt: HostRuntime) -> Result<(), Fail> {
-    assert_eq!(rt; told_over(rt.alloc(), 2, LATER)?.as_str(), LATER);
-    Ok(())
-}
-
-#[test]
-fn a_sum_of_0_is_not_empty(rt: HostRuntime) -> Result<(), Fail> {
-    assert_eq!(rt; told_over(rt.alloc(), 3, LAST)?.as_str(), LAST);
-    Ok(())
-}
-
-#[test]
-fn a_table_of_no_row_has_no_group(rt: HostRuntime) -> Result<(), Fail> {
-    let alloc = rt.alloc();
-    let sales = Sales::open(alloc, schema(), &[times(), stores()], &[])?;
-    assert_eq!(rt; tell_tables(alloc, &sales, 0, NO_ROWS)?.as_str(), NO_ROWS);
+fn tables_and_their_files_are_as_worked_by_hand(rt: HostRuntime) -> Result<(), Fail> {
+    let batches = [sales(), later_sales(), last_sales()];
+    for (count, version, table) in [
+        (3, 1, BY_YEAR),
+        (3, 1, OTHERS),
+        (3, 2, LATER),
+        (3, 3, LAST),
+        (0, 0, NO_ROWS),
+    ] {
+        let told = told_over(rt.alloc(), &batches[..count], version, table)?;
+        assert_eq!(rt; told.as_str(), table);
+    }
     Ok(())
 }
 

@@ -2,6 +2,7 @@
 use std::test::Fail;
 use test_plays::steps::{entries_handed_back, tell_steps};
 
+/// A cell is loaded once.
 const ONE: &str = "append 1/1 sales => version 1 at 1
 look 1/2 0:0=0 => load 2 of measure 0 by 0=0, 4 rows;
 count => 2 entries, busy
@@ -16,12 +17,7 @@ entry 5 => answer 1/3: cells 1
 entry 6 => nothing
 ";
 
-#[test]
-fn a_cell_is_loaded_once(rt: HostRuntime) -> Result<(), Fail> {
-    assert_eq!(rt; tell_steps(rt.alloc(), 100, ONE)?.as_str(), ONE);
-    Ok(())
-}
-
+/// An abandoned load is started again.
 const ABANDONED: &str = "append 1/1 sales => version 1 at 1
 look 1/2 0:0=0 => load 2 of measure 0 by 0=0, 4 rows;
 abandon => 3 entries, idle
@@ -37,12 +33,7 @@ entry 6 => answer 2/1: cells 1
 entry 7 => nothing
 ";
 
-#[test]
-fn an_abandoned_load_is_started_again(rt: HostRuntime) -> Result<(), Fail> {
-    assert_eq!(rt; tell_steps(rt.alloc(), 100, ABANDONED)?.as_str(), ABANDONED);
-    Ok(())
-}
-
+/// A load keeps the version of its start.
 const APPENDED: &str = "append 1/1 sales => version 1 at 1
 look 1/2 0:0=0 => load 2 of measure 0 by 0=0, 4 rows;
 append 2/1 later => version 2 at 3
@@ -62,12 +53,7 @@ entry 8 => answer 1/3: cells 2
 entry 9 => nothing
 ";
 
-#[test]
-fn a_load_keeps_the_version_of_its_start(rt: HostRuntime) -> Result<(), Fail> {
-    assert_eq!(rt; tell_steps(rt.alloc(), 100, APPENDED)?.as_str(), APPENDED);
-    Ok(())
-}
-
+/// Each group of cells is one load.
 const GROUPS: &str = "append 1/1 sales => version 1 at 1
 look 1/2 0:0=1 1:0=1 0:0=0 => load 2 of measure 0 by 0=0=1, 4 rows;load 3 of measure 1 by 0=1, 4 rows;
 deliver => 4 entries, busy
@@ -82,12 +68,7 @@ entry 6 => answer 1/2: cells 3
 entry 7 => nothing
 ";
 
-#[test]
-fn each_group_of_cells_is_one_load(rt: HostRuntime) -> Result<(), Fail> {
-    assert_eq!(rt; tell_steps(rt.alloc(), 100, GROUPS)?.as_str(), GROUPS);
-    Ok(())
-}
-
+/// A refused batch changes nothing.
 const REFUSED: &str = "append 1/1 sales => version 1 at 1
 append 1/2 later => version 2 at 2
 append 1/3 later => 6 rows are more than the limit of 5
@@ -101,13 +82,22 @@ entry 4 => nothing
 ";
 
 #[test]
-fn a_refused_batch_changes_nothing(rt: HostRuntime) -> Result<(), Fail> {
-    assert_eq!(rt; tell_steps(rt.alloc(), 5, REFUSED)?.as_str(), REFUSED);
+fn a_history_is_handed_back(rt: HostRuntime) -> Result<(), Fail> {
+    assert_eq!(rt; entries_handed_back(rt.alloc())?, 1);
     Ok(())
 }
 
 #[test]
-fn a_history_is_handed_back(rt: HostRuntime) -> Result<(), Fail> {
-    assert_eq!(rt; entries_handed_back(rt.alloc())?, 1);
+fn caches_come_to_what_is_told(rt: HostRuntime) -> Result<(), Fail> {
+    let tables = [
+        (100, ONE),
+        (100, ABANDONED),
+        (100, APPENDED),
+        (100, GROUPS),
+        (5, REFUSED),
+    ];
+    for (limit, table) in tables {
+        assert_eq!(rt; tell_steps(rt.alloc(), limit, table)?.as_str(), table);
+    }
     Ok(())
 }

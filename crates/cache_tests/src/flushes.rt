@@ -5,6 +5,7 @@ use test_plays::runs::tell_calls;
 use test_plays::shuts::tell_shuts;
 use test_plays::steps::tell_steps;
 
+/// An overtaken load is delivered without the flushed cells.
 const OVERTAKEN: &str = "append 1/1 sales => version 1 at 1
 look 1/2 0:0=0,1=0 0:0=0,1=1 => load 2 of measure 0 by 0=0 by 1=0=1, 4 rows;
 flush 2/1 [Sales]CROSSJOIN(MEASURES,MEMBER([Time].[1997].[Q1])) => entry 3
@@ -20,12 +21,7 @@ entry 5 => start 1/2: cube 0, measure 0, version 1, columns 2, for 2
 entry 8 => saw 2/2
 ";
 
-#[test]
-fn an_overtaken_load_is_delivered_without_the_flushed_cells(rt: HostRuntime) -> Result<(), Fail> {
-    assert_eq!(rt; tell_steps(rt.alloc(), 100, OVERTAKEN)?.as_str(), OVERTAKEN);
-    Ok(())
-}
-
+/// A flush before the start shuts nothing off.
 const BEFORE: &str = "append 1/1 sales => version 1 at 1
 flush 2/1 [Sales]CROSSJOIN(MEASURES,MEMBER([Time].[1997].[Q1])) => entry 2
 look 1/2 0:0=0,1=0 0:0=0,1=1 => load 3 of measure 0 by 0=0 by 1=0=1, 4 rows;
@@ -34,12 +30,7 @@ look 1/2 0:0=0,1=0 0:0=0,1=1 => answer 5: Whole(12) of 1 Whole(3) of 1
 show 2/2 => view 6: load 3 of version 1 of measure 0 by 0=0 by 1=0=1, 0 flushes;
 ";
 
-#[test]
-fn a_flush_before_the_start_shuts_nothing_off(rt: HostRuntime) -> Result<(), Fail> {
-    assert_eq!(rt; tell_steps(rt.alloc(), 100, BEFORE)?.as_str(), BEFORE);
-    Ok(())
-}
-
+/// A kept load serves on where nothing was flushed.
 const AFTER: &str = "append 1/1 sales => version 1 at 1
 look 1/2 0:0=0,1=0 0:0=0,1=1 => load 2 of measure 0 by 0=0 by 1=0=1, 4 rows;
 deliver => 3 entries, idle
@@ -51,12 +42,7 @@ deliver => 8 entries, idle
 look 1/5 0:0=0,1=0 0:0=0,1=1 => answer 9: Whole(112) of 2 Whole(3) of 1
 ";
 
-#[test]
-fn a_kept_load_serves_on_where_nothing_was_flushed(rt: HostRuntime) -> Result<(), Fail> {
-    assert_eq!(rt; tell_steps(rt.alloc(), 100, AFTER)?.as_str(), AFTER);
-    Ok(())
-}
-
+/// A flush reaches the cells above.
 const ABOVE: &str = "append 1/1 sales => version 1 at 1
 look 1/2 0:0=0 0:2=0 0: => load 2 of measure 0 by 0=0, 4 rows;load 3 of measure 0 by 2=0, 4 rows;load 4 of measure 0, 4 rows;
 deliver => 5 entries, busy
@@ -66,12 +52,6 @@ flush 2/1 [Sales]CROSSJOIN(MEASURES,MEMBER([Time].[1997].[Q1])) => entry 8
 show 2/2 => view 9: load 2 of version 1 of measure 0 by 0=0, 1 flushes; load 3 of version 1 of measure 0 by 2=0, 1 flushes; load 4 of version 1 of measure 0, 1 flushes;
 look 1/3 0:0=0 => load 10 of measure 0 by 0=0, 4 rows;
 ";
-
-#[test]
-fn a_flush_reaches_the_cells_above(rt: HostRuntime) -> Result<(), Fail> {
-    assert_eq!(rt; tell_steps(rt.alloc(), 100, ABOVE)?.as_str(), ABOVE);
-    Ok(())
-}
 
 const TURNED: &str = "append 1 sales => version 1 at 1
 look 1 0:0=0 1:0=0 => loading
@@ -92,6 +72,7 @@ fn loads_are_shown_by_number_and_flushed_by_measure(rt: HostRuntime) -> Result<(
     Ok(())
 }
 
+/// Each flush counts and one without boxes touches nothing.
 const TWICE: &str = "append 1/1 sales => version 1 at 1
 look 1/2 0:0=0,2=0 => load 2 of measure 0 by 0=0 by 2=0, 4 rows;
 flush 2/1 [Sales]CROSSJOIN(MEASURES,MEMBER([Store].[CA])) => entry 3
@@ -102,12 +83,7 @@ show 2/4 => view 7: load 2 of version 1 of measure 0 by 0=0 by 2=0, 2 flushes;
 entry 6 => flush 2/3: cube 0, boxes 0
 ";
 
-#[test]
-fn each_flush_counts_and_one_without_boxes_touches_nothing(rt: HostRuntime) -> Result<(), Fail> {
-    assert_eq!(rt; tell_steps(rt.alloc(), 100, TWICE)?.as_str(), TWICE);
-    Ok(())
-}
-
+/// A flush beside a load leaves it live.
 const BESIDE: &str = "append 1/1 sales => version 1 at 1
 look 1/2 0:2=0 => load 2 of measure 0 by 2=0, 4 rows;
 deliver => 3 entries, idle
@@ -115,12 +91,6 @@ flush 2/1 [Sales]CROSSJOIN(MEASURES,MEMBER([Store].[WA])) => entry 4
 show 2/2 => view 5: load 2 of version 1 of measure 0 by 2=0, 0 flushes;
 look 1/2 0:2=0 => answer 6: Whole(15) of 1
 ";
-
-#[test]
-fn a_flush_beside_a_load_leaves_it_live(rt: HostRuntime) -> Result<(), Fail> {
-    assert_eq!(rt; tell_steps(rt.alloc(), 100, BESIDE)?.as_str(), BESIDE);
-    Ok(())
-}
 
 const SHUT: &str =
     "0:2=0 [Sales]CROSSJOIN(MEASURES,MEMBER([Store].[WA])) 0:2=0 => 0 touch it, live true
@@ -153,5 +123,13 @@ fn a_flush_reaches_kept_loads_and_one_in_flight(rt: HostRuntime) -> Result<(), F
         play_overtaken(rt.alloc())?.as_str(),
         "flushed true, 8 and 9 entries, 4 loads"
     );
+    Ok(())
+}
+
+#[test]
+fn flushes_come_to_what_is_told(rt: HostRuntime) -> Result<(), Fail> {
+    for table in [OVERTAKEN, BEFORE, AFTER, ABOVE, TWICE, BESIDE] {
+        assert_eq!(rt; tell_steps(rt.alloc(), 100, table)?.as_str(), table);
+    }
     Ok(())
 }

@@ -2,6 +2,7 @@
 use std::test::Fail;
 use test_plays::steps::tell_steps;
 
+/// Cells of one look are rolled up by two plans and one is loaded.
 const PLANS: &str = "append 1/1 sales => version 1 at 1
 look 1/2 0:0=0,1=0 0:0=0,1=1 1:0=0,2=0 1:0=0,2=1 => load 2 of measure 0 by 0=0 by 1=0=1, 4 rows;load 3 of measure 1 by 0=0 by 2=0=1, 4 rows;
 deliver => 4 entries, busy
@@ -14,14 +15,7 @@ look 1/3 0:0=0 0:0=1 0:0=0 => answer 9: Whole(15) of 1 Empty of 1 Whole(15) of 1
 sources 9 => 2; 7; 2
 ";
 
-#[test]
-fn cells_of_one_look_are_rolled_up_by_two_plans_and_one_is_loaded(
-    rt: HostRuntime,
-) -> Result<(), Fail> {
-    assert_eq!(rt; tell_steps(rt.alloc(), 100, PLANS)?.as_str(), PLANS);
-    Ok(())
-}
-
+/// An exact source comes before a rolled one of a later version.
 const EXACT: &str = "append 1/1 sales => version 1 at 1
 look 1/2 0:0=0 => load 2 of measure 0 by 0=0, 4 rows;
 deliver => 3 entries, idle
@@ -34,14 +28,7 @@ flush 2/1 [Sales]CROSSJOIN(MEASURES,MEMBER([Time].[1997].[Q2])) => entry 8
 look 1/5 0:0=0 => load 9 of measure 0 by 0=0, 5 rows;
 ";
 
-#[test]
-fn an_exact_source_comes_before_a_rolled_one_of_a_later_version(
-    rt: HostRuntime,
-) -> Result<(), Fail> {
-    assert_eq!(rt; tell_steps(rt.alloc(), 100, EXACT)?.as_str(), EXACT);
-    Ok(())
-}
-
+/// All loads of a plan are named and a flush of one ends it.
 const PARTS: &str = "append 1/1 sales => version 1 at 1
 look 1/2 0:0=0,1=0 => load 2 of measure 0 by 0=0 by 1=0, 4 rows;
 deliver => 3 entries, idle
@@ -59,12 +46,7 @@ sources 12 => 2; 9
 look 1/7 0:0=0 => load 13 of measure 0 by 0=0, 4 rows;
 ";
 
-#[test]
-fn all_loads_of_a_plan_are_named_and_a_flush_of_one_ends_it(rt: HostRuntime) -> Result<(), Fail> {
-    assert_eq!(rt; tell_steps(rt.alloc(), 100, PARTS)?.as_str(), PARTS);
-    Ok(())
-}
-
+/// The later of two plans is taken.
 const LATER: &str = "append 1/1 sales => version 1 at 1
 look 1/2 0:0=0,1=0 0:0=0,1=1 => load 2 of measure 0 by 0=0 by 1=0=1, 4 rows;
 deliver => 3 entries, idle
@@ -76,7 +58,9 @@ sources 7 => 5
 ";
 
 #[test]
-fn the_later_of_two_plans_is_taken(rt: HostRuntime) -> Result<(), Fail> {
-    assert_eq!(rt; tell_steps(rt.alloc(), 100, LATER)?.as_str(), LATER);
+fn rolled_up_cells_are_told(rt: HostRuntime) -> Result<(), Fail> {
+    for table in [PLANS, EXACT, PARTS, LATER] {
+        assert_eq!(rt; tell_steps(rt.alloc(), 100, table)?.as_str(), table);
+    }
     Ok(())
 }

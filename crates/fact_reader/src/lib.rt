@@ -6,5 +6,5 @@ mod pieces;
 mod places;
 mod reader;
 
-pub use pieces::add_pieces;
+pub use pieces::add_later;
 pub use reader::RowReader;

@@ -5,6 +5,7 @@ use index_samples::steps::{Step, play_both};
 use segment_index::SegmentIndex;
 use std::test::Fail;
 
+/// Columns 0 and 64 share a mask and no loads.
 const SHARED: [Step; 9] = [
     Keep(1, (0, 0), &[(0, None)]),
     Find((0, 0), &[(64, 5)], None),
@@ -18,12 +19,7 @@ const SHARED: [Step; 9] = [
     Candidates((0, 0), &[(64, 5)], &[3]),
 ];
 
-#[test]
-fn columns_0_and_64_share_a_mask_and_no_loads(rt: HostRuntime) -> Result<(), Fail> {
-    assert_eq!(rt; play_both(rt.alloc(), &SHARED)?, [None, None]);
-    Ok(())
-}
-
+/// The greatest number is found and lists rise.
 const UNORDERED: [Step; 10] = [
     Numbers(&[]),
     Keep(7, (0, 0), &[(0, None), (1, None)]),
@@ -37,12 +33,7 @@ const UNORDERED: [Step; 10] = [
     Numbers(&[3, 4, 5, 7, 9]),
 ];
 
-#[test]
-fn the_greatest_number_is_found_and_lists_rise(rt: HostRuntime) -> Result<(), Fail> {
-    assert_eq!(rt; play_both(rt.alloc(), &UNORDERED)?, [None, None]);
-    Ok(())
-}
-
+/// A load is live for a cell and shut off for the next.
 const SHUT: [Step; 16] = [
     Keep(1, (0, 0), &[(0, None)]),
     Keep(2, (0, 0), &[(0, None)]),
@@ -63,12 +54,7 @@ const SHUT: [Step; 16] = [
     Find((0, 0), &[(0, 1), (1, 4)], None),
 ];
 
-#[test]
-fn a_load_is_live_for_a_cell_and_shut_off_for_the_next(rt: HostRuntime) -> Result<(), Fail> {
-    assert_eq!(rt; play_both(rt.alloc(), &SHUT)?, [None, None]);
-    Ok(())
-}
-
+/// A cell is live beside what each region names.
 const NAMED: [Step; 13] = [
     Keep(1, (0, 0), &[(0, None)]),
     Keep(2, (0, 0), &[(0, None), (1, None)]),
@@ -87,12 +73,7 @@ const NAMED: [Step; 13] = [
     Find((0, 0), &[(0, 2), (1, 5)], None),
 ];
 
-#[test]
-fn a_cell_is_live_beside_what_each_region_names(rt: HostRuntime) -> Result<(), Fail> {
-    assert_eq!(rt; play_both(rt.alloc(), &NAMED)?, [None, None]);
-    Ok(())
-}
-
+/// A cell of no column is found in a load of none.
 const TOTALS: [Step; 13] = [
     Keep(1, (0, 0), &[(0, None)]),
     Keep(2, (0, 1), &[(0, None)]),
@@ -111,15 +92,18 @@ const TOTALS: [Step; 13] = [
 ];
 
 #[test]
-fn a_cell_of_no_column_is_found_in_a_load_of_none(rt: HostRuntime) -> Result<(), Fail> {
-    assert_eq!(rt; play_both(rt.alloc(), &TOTALS)?, [None, None]);
-    Ok(())
-}
-
-#[test]
 fn each_of_many_cells_is_found_in_its_load(rt: HostRuntime) -> Result<(), Fail> {
     // Each load from 1 to 1,000 is found ten times.
     let mut index = SegmentIndex::new(rt.alloc());
     assert_eq!(rt; find_many(rt.alloc(), &mut index, 10, 1)?, 5_005_000);
+    Ok(())
+}
+
+#[test]
+fn loads_are_found_as_on_the_plain_shelf(rt: HostRuntime) -> Result<(), Fail> {
+    let tables: [&[Step]; 5] = [&SHARED, &UNORDERED, &SHUT, &NAMED, &TOTALS];
+    for steps in tables {
+        assert_eq!(rt; play_both(rt.alloc(), steps)?, [None, None]);
+    }
     Ok(())
 }

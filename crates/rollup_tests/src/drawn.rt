@@ -1,7 +1,8 @@
 //! Loads, flushes, cells and rows that are drawn from a seed: whether there is a plan, beside a search through all sets of
 //! loads, and what is rolled up by it, beside a fold over the rows.
-ghost use Rattle.std.specs.Prelude.{All};
-ghost use Rattle.rollup_tests.specs.Held.{IsFrom};
+ghost use Rattle.std.specs.Prelude.{All, IsTrue};
+ghost use Rattle.olap_meaning.specs.Legal as legal;
+ghost use Rattle.rollup_tests.specs.Held.{IsFrom, IsPlanFor};
 
 use crate::files::{schema, stores, times};
 use crate::rolling::{plan_for, rolled};
@@ -252,7 +253,52 @@ fn count_none(
     Ok(())
 }
 
+// Rolls a cell up by its plan.
+fn compare_plan<S: CacheShelf>(
+    alloc: Global,
+    world: &World,
+    shelf: &S,
+    of: Aggregator,
+    at: &[(u16, u32)],
+    cell: &Cell,
+    version: u32,
+    plan: &Plan,
+) -> Result<(), Fail>
+    requires from { All (IsFrom world.now.sales) (S.loads shelf.now) }
+    requires plan { IsPlanFor world.now.sales (S.loads shelf.now) plan.now cell.now }
+{
+    let worth = rolled(alloc, &world.sales, shelf, plan, cell).finish();
+    if worth != worth_in(alloc, world, version, of, at)? {
+        return Err(Fail::from("another worth"));
+    }
+    Ok(())
+}
+
 // Looks for the plan of a cell, and rolls the cell up by it.
+fn compare_cell<S: CacheShelf>(
+    alloc: Global,
+    world: &World,
+    shelf: &S,
+    steps: &[Step],
+    of: Aggregator,
+    at: &[(u16, u32)],
+    cell: &Cell,
+    counts: &mut Counts,
+) -> Result<(), Fail>
+    requires from { All (IsFrom world.now.sales) (S.loads shelf.now) }
+    requires cell { IsTrue (legal.is_cell world.now.sales.catalog cell.now) }
+{
+    match plan_for(alloc, &world.sales, shelf, cell) {
+        Ok(Some(plan)) => {
+            let version = count_plan(alloc, steps, at, &plan, counts)?;
+            compare_plan(alloc, world, shelf, of, at, cell, version, &plan)
+        }
+        Ok(None) => count_none(alloc, steps, at, of, counts),
+        Err(fault) => Err(no_memory(fault)),
+    }
+}
+
+// Compares what a cell of a measure is rolled up to, where it has a plan.
 fn compare<S: CacheShelf>(
     alloc: Global,
     world: &World,
@@ -268,17 +314,7 @@ fn compare<S: CacheShelf>(
     if !is_cell(world.sales.catalog(), &cell) {
         return Err(Fail::from("no cell"));
     }
-    let plan = match plan_for(alloc, &world.sales, shelf, &cell) {
-        Ok(Some(plan)) => plan,
-        Ok(None) => return count_none(alloc, steps, at, of.1, counts),
-        Err(fault) => return Err(no_memory(fault)),
-    };
-    let version = count_plan(alloc, steps, at, &plan, counts)?;
-    let worth = rolled(alloc, &world.sales, shelf, &plan, &cell).finish();
-    if worth != worth_in(alloc, world, version, of.1, at)? {
-        return Err(Fail::from("another worth"));
-    }
-    Ok(())
+    compare_cell(alloc, world, shelf, steps, of.1, at, &cell, counts)
 }
 
 // Draws four cells on a shelf, one after another.
@@ -300,7 +336,21 @@ fn compare_four<S: CacheShelf>(
     Ok(())
 }
 
-// Draws a shelf, and cells on it.
+// Takes steps on a shelf, and draws cells on it.
+fn play_steps(
+    alloc: Global,
+    world: &World,
+    of: (u16, Aggregator),
+    steps: &[Step],
+    random: &mut Random,
+    counts: &mut Counts,
+) -> Result<(), Fail> {
+    let mut shelf = SegmentIndex::new(alloc);
+    take_steps(alloc, &world.sales, &mut shelf, of.0, steps)?;
+    compare_four(alloc, world, &shelf, steps, of, random, counts)
+}
+
+// Draws a measure and steps, and cells behind them.
 fn play_shelf(
     alloc: Global,
     world: &World,
@@ -310,9 +360,7 @@ fn play_shelf(
     let measure = random.below(6);
     let of = (measure as u16, AGGREGATORS[measure as usize]);
     let steps = draw_steps(alloc, random)?;
-    let mut shelf = SegmentIndex::new(alloc);
-    take_steps(alloc, &world.sales, &mut shelf, of.0, &steps)?;
-    compare_four(alloc, world, &shelf, &steps, of, random, counts)
+    play_steps(alloc, world, of, &steps, random, counts)
 }
 
 /// Draws so many shelves over drawn rows, and four cells on each. It counts the cells with a plan and without, where all are

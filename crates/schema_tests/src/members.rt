@@ -1,8 +1,9 @@
 //! Members, by paths of names, and their boxes.
+use std::alloc::Global;
 use std::test::Fail;
 use test_samples::files::{counting_schema, odd_stores, times};
 use test_samples::members::tell_paths;
-use test_samples::open_catalog;
+use test_samples::opened::open_shared;
 
 /// Paths, and what they mean. Time has no all member, so that its default is the first year; Store has one, of the name by
 /// default. The exact text goes before the first that differs in case: WA is the second state, and wa the fourth.
@@ -27,17 +28,6 @@ Store/Wa => box 1 2=1
 Shop => no Shop
 ";
 
-#[test]
-fn names_lead_to_members_and_their_boxes(rt: HostRuntime) -> Result<(), Fail> {
-    let alloc = rt.alloc();
-    let Some(catalog) = open_catalog(alloc, counting_schema(), &[times(), odd_stores()]) else {
-        return Err(Fail::from("no catalog"));
-    };
-    assert_eq!(rt; tell_paths(alloc, &catalog, PATHS)?.as_str(), PATHS);
-    assert!(rt; catalog.find_cube("Budget").is_none());
-    Ok(())
-}
-
 /// Tables whose columns repeat their texts, in another order than that of the texts.
 const LATE_TIMES: &[u8] = b"quarter,time_id,year\nQ2,3,1998\nQ1,4,1998\nQ2,2,1997\nQ1,1,1997\n";
 
@@ -54,15 +44,25 @@ Store/OR/Rome => box 1 2=2 3=2
 Store/OR/LA => no LA
 ";
 
+// What is told of paths in the catalog of some tables.
+fn told_over(alloc: Global, tables: &[&[u8]], paths: &str) -> Result<String, Fail> {
+    let catalog = open_shared(alloc, counting_schema(), tables)?;
+    if catalog.find_cube("Budget").is_some() {
+        return Err(Fail::from("a cube that is not there"));
+    }
+    tell_paths(alloc, &catalog, paths)
+}
+
 #[test]
-fn values_are_numbered_by_first_appearance(rt: HostRuntime) -> Result<(), Fail> {
-    let alloc = rt.alloc();
-    let Some(catalog) = open_catalog(alloc, counting_schema(), &[LATE_TIMES, LATE_STORES]) else {
-        return Err(Fail::from("no catalog"));
-    };
-    assert_eq!(rt;
-        tell_paths(alloc, &catalog, LATE_PATHS)?.as_str(),
-        LATE_PATHS
-    );
+fn names_lead_to_members_and_values_are_numbered_by_first_appearance(
+    rt: HostRuntime,
+) -> Result<(), Fail> {
+    for (times, stores, paths) in [
+        (times(), odd_stores(), PATHS),
+        (LATE_TIMES, LATE_STORES, LATE_PATHS),
+    ] {
+        let told = told_over(rt.alloc(), &[times, stores], paths)?;
+        assert_eq!(rt; told.as_str(), paths);
+    }
     Ok(())
 }

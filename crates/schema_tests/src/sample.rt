@@ -5,7 +5,7 @@ use olap_meaning::{Aggregator, Text};
 use std::alloc::{AllocError, Global};
 use std::test::Fail;
 use test_samples::files::{stores, times};
-use test_samples::open_catalog;
+use test_samples::opened::open_shared;
 
 // The texts stand behind functions, so that no proof reads their bytes.
 
@@ -219,33 +219,38 @@ fn fields_of(alloc: Global, json: &str) -> Result<String, Fail> {
     }
 }
 
+// The schema of the sample files with the aggregate tables.
+fn with_tables(alloc: Global) -> Result<String, AllocError> {
+    sales().replacen(alloc, "{", tables(), 1)
+}
+
+// The fields of the schema with the aggregate tables.
+fn fields_with_tables(alloc: Global) -> Result<String, Fail> {
+    let json = with_tables(alloc)?;
+    fields_of(alloc, json.as_str())
+}
+
+// What the catalog of the schema with the aggregate tables finds by two names.
+fn found(alloc: Global) -> Result<[Option<u32>; 2], Fail> {
+    let json = with_tables(alloc)?;
+    let catalog = open_shared(alloc, json.as_bytes(), &[times(), stores()])?;
+    Ok([catalog.find_agg("B"), catalog.find_agg("Sales")])
+}
+
 #[test]
 fn schemas_are_read_field_by_field(rt: HostRuntime) -> Result<(), Fail> {
     let alloc = rt.alloc();
     for (json, want) in [(sales(), sales_fields()), (odd(), odd_fields())] {
         assert_eq!(rt; fields_of(alloc, json)?.as_str(), want);
     }
-    Ok(())
-}
-
-#[test]
-fn aggregate_tables_are_read_field_by_field(rt: HostRuntime) -> Result<(), Fail> {
-    let alloc = rt.alloc();
-    let json = sales().replacen(alloc, "{", tables(), 1)?;
-    let mut want = String::from_str(alloc, sales_fields())?;
-    want.push_str(table_fields())?;
-    assert_eq!(rt; fields_of(alloc, json.as_str())?.as_str(), want.as_str());
+    // The aggregate tables stand behind what is told of the rest.
+    let fields = fields_with_tables(alloc)?;
+    assert_eq!(rt; fields.strip_prefix(sales_fields()), Some(table_fields()));
     Ok(())
 }
 
 #[test]
 fn aggregate_tables_are_found_by_name(rt: HostRuntime) -> Result<(), Fail> {
-    let alloc = rt.alloc();
-    let json = sales().replacen(alloc, "{", tables(), 1)?;
-    let Some(catalog) = open_catalog(alloc, json.as_bytes(), &[times(), stores()]) else {
-        return Err(Fail::from("no catalog"));
-    };
-    assert_eq!(rt; catalog.find_agg("B"), Some(1));
-    assert!(rt; catalog.find_agg("Sales").is_none());
+    assert_eq!(rt; found(rt.alloc())?, [Some(1), None]);
     Ok(())
 }

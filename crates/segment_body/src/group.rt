@@ -1,8 +1,9 @@
 //! Groups: the rows that have the same values on the header's columns.
-ghost use Rattle.std.specs.Prelude.{◌≡◌, ◌≢◌, ◌+◌, ◌++◌, ◌≤◌, ◌<◌, ◌∷◌, [], false, All, IfOk, OnErr, OnOk, bytes_eq, length, position, slice_index_or, slice_set};
+ghost use Rattle.std.specs.Prelude.{◌≡◌, ◌≢◌, ◌+◌, ◌++◌, ◌≤◌, ◌<◌, ◌∷◌, [], false, All, IfOk, IfSome, OnErr, OnOk, Some, bytes_eq, length, position, slice_index_or, slice_set};
 ghost use Rattle.std.specs.List.{list_any};
 ghost use Rattle.segment_body.specs.Groups.{Group, IsAdded, IsMerged, group, values_of, with_numbers};
 
+use crate::hints::Hints;
 use crate::key::Key;
 use fact_versions::Steps;
 use indexmap::IndexMap;
@@ -21,10 +22,11 @@ pub(crate) struct Block {
 }
 
 /// Groups in the order in which they came: the tally of the rows that have some values, one value for each column. A group
-/// is found by the hash of its values.
+/// is found by a hint, or else by the hash of its values.
 #[derive(Drop)]
 pub(crate) struct GroupTable {
     tallies: IndexMap<Key, Tally>,
+    hints: Hints,
 }
 
 impl Model for GroupTable {
@@ -43,6 +45,7 @@ impl GroupTable {
     {
         GroupTable {
             tallies: IndexMap::new(alloc),
+            hints: Hints::new(alloc),
         }
     }
 
@@ -53,11 +56,44 @@ impl GroupTable {
         self.tallies.len()
     }
 
+    // The place of the group that has some values, where a hint tells of it.
+    fn hinted(&self, values: &[ValueId]) -> Option<usize>
+        ensures { IfSome result
+            (λ place. position (λ group. bytes_eq values.now group.values) self.now ≡ Some place) }
+    {
+        let place = self.hints.place(values)?;
+        // No two keys are equal.
+        let _groups = self.tallies.len();
+        let (key, _) = self.tallies.get_index(place)?;
+        if key.as_slice() == values {
+            Some(place)
+        } else {
+            None
+        }
+    }
+
     /// The place of the group that has some values.
     pub(crate) fn place_of(&self, values: &[ValueId]) -> Option<usize>
         ensures { result ≡ position (λ group. bytes_eq values.now group.values) self.now }
     {
-        self.tallies.get_index_of(values)
+        match self.hinted(values) {
+            Some(place) => Some(place),
+            None => self.tallies.get_index_of(values),
+        }
+    }
+
+    // Has a hint tell of the group of some values, which is the last. Where memory is wanting, there is no hint.
+    fn note(&mut self, alloc: Global, values: &[ValueId], place: usize)
+        ensures { self.new ≡ self.old }
+    {
+        if self.hints.has_room(place) {
+            self.hints.note(values, place);
+            return;
+        }
+        match self.hints.doubled(alloc, &self.tallies, values.len()) {
+            Ok(hints) => self.hints = hints,
+            Err(OutOfMemory) => self.hints = Hints::new(alloc),
+        }
     }
 
     /// The values of the group at a place, and its tally.
@@ -102,6 +138,7 @@ impl GroupTable {
         let place = self.tallies.len();
         let key = Key::new(alloc, values)?;
         self.tallies.insert(key, tally)?;
+        self.note(alloc, values, place);
         Ok(place)
     }
 
@@ -118,7 +155,7 @@ impl GroupTable {
             (λ place. IsAdded aggregator values.now number self.old self.new place) }
         ensures err { OnErr result (self.new ≡ self.old) }
     {
-        match self.tallies.get_index_of(values) {
+        match self.place_of(values) {
             Some(place) => {
                 let tally = &mut self.tallies[place];
                 tally.step(number)?;
@@ -167,7 +204,7 @@ impl GroupTable {
             (λ place. IsMerged aggregator values.now tally.now.values self.old self.new place) }
         ensures err { OnErr result (self.new ≡ self.old) }
     {
-        match self.tallies.get_index_of(values) {
+        match self.place_of(values) {
             Some(place) => {
                 let group = &mut self.tallies[place];
                 group.merge(tally);

@@ -7,7 +7,7 @@ ghost use Rattle.segment_load.specs.Loads.{IsOffered, job_cost};
 
 use crate::choice::{cheapest, cost_of};
 use agg_tables::AggTable;
-use fact_reader::{RowReader, add_pieces};
+use fact_reader::add_later;
 use fact_versions::{Snapshot, Steps};
 use olap_catalog::Catalog;
 use olap_meaning::{Aggregator, Header, OutOfMemory, ROW_LIMIT, Who};
@@ -169,11 +169,10 @@ impl LoadJob {
         ensures at_least { steps.old ≤ steps.new }
         ensures at_most { steps.new ≤ steps.old + length (rows_in self.now.snapshot) }
     {
-        let reader = RowReader::new(alloc, &self.catalog, &self.header)?;
         let header = copy_header(alloc, &self.header)?;
         let mut body = Body::new(alloc, header, self.aggregator())?;
-        let mut values = Vec::with_capacity(alloc, self.header.columns.len())?;
-        add_pieces(&reader, &self.snapshot, 0, &mut values, &mut body, steps)?;
+        let (catalog, own) = (self.catalog(), self.header());
+        add_later(alloc, catalog, own, &self.snapshot, 0, &mut body, steps)?;
         Ok(body)
     }
 

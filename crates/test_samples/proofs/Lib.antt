@@ -1,2 +1,2 @@
 mod LevelFacts
-mod SampleFacts
+mod SalesFacts

@@ -2,23 +2,13 @@
 ghost use Rattle.std.specs.Prelude.{◌≡◌};
 
 use crate::files::{counting_schema, odd_stores, times};
-use crate::open_catalog;
-use crate::opened::batch_of;
-use fact_rows::BatchFault;
+use crate::opened::{open_shared, read};
 use fact_versions::{Batch, Piece, Steps};
 use olap_meaning::OutOfMemory;
 use std::alloc::Global;
 use std::marker::Brand;
 use std::sync::ledger::{Blank, Ledger};
 use std::test::Fail;
-
-/// The batch of a file of the cube with a distinct count, or its fault.
-fn batch(alloc: Global, file: &[u8]) -> Result<Result<Batch, BatchFault>, Fail> {
-    match open_catalog(alloc, counting_schema(), &[times(), odd_stores()]) {
-        Some(catalog) => batch_of(alloc, &catalog, file),
-        None => Err(Fail::from("no catalog")),
-    }
-}
 
 /// A row: its leaves in time and store, its units and its customer.
 pub type Line = (u32, u32, Option<i64>, Option<i64>);
@@ -51,10 +41,9 @@ fn read_lines<L: Ledger>(
     lines_of(alloc, &batch.read(&mut steps))
 }
 
-/// The rows of a file, read by a piece.
+/// The rows of a file of the cube with a distinct count, read by a piece.
 pub fn rows_of(alloc: Global, file: &[u8]) -> Result<Vec<Line>, Fail> {
-    let Ok(batch) = batch(alloc, file)? else {
-        return Err(Fail::from("no batch"));
-    };
+    let catalog = open_shared(alloc, counting_schema(), &[times(), odd_stores()])?;
+    let batch = read(alloc, &catalog, file)?;
     Ok(read_lines::<Brand>(alloc, &batch, Blank::new(1))?)
 }

@@ -5,8 +5,8 @@ ghost use Rattle.std.specs.List.{list_all};
 ghost use Rattle.olap_meaning.specs.Covering.{header_covers};
 ghost use Rattle.segment_header.specs.Headers.{is_header as holds_header};
 
-use crate::jobs::no_memory;
 use crate::lines::{add_line, asked, measured, number, place, words};
+use crate::no_memory;
 use crate::random::Random;
 use olap_meaning::{
     Aggregator, Allowed, Cell, CellValue, ColumnId, CubeId, Header, List, MeasureId, OutOfMemory,

@@ -8,23 +8,28 @@ ghost use Rattle.olap_meaning.specs.Schema.{IsWithinLimits, levels_of};
 pub mod batches;
 pub mod bodies;
 pub mod files;
-mod jobs;
+pub mod headers;
 pub mod lines;
 pub mod loads;
 pub mod members;
 pub mod opened;
 pub mod random;
 pub mod sales;
-mod samples;
 pub mod wideners;
 
 use catalog_tables::Table;
 use cube_schema::read_schema;
 use dim_tables::read_table;
 use olap_catalog::{Catalog, build_catalog};
-use olap_meaning::List;
 use olap_meaning::schema::Schema;
+use olap_meaning::{List, OutOfMemory};
 use std::alloc::Global;
+use std::test::Fail;
+
+/// Want of memory, as a failed test.
+pub fn no_memory(_fault: OutOfMemory) -> Fail {
+    Fail::from("no memory")
+}
 
 /// The catalog of a schema and of its dimensions' tables, in the schema's order. None where any of them is refused, or
 /// memory is wanting.

@@ -1,11 +1,17 @@
 //! Loads of four rows, which come in two batches. The measures are the customers, the units and their count.
 ghost use Rattle.std.specs.Prelude.{◌≡◌, ◌<◌, IfOk, IsTrue, map};
 ghost use Rattle.olap_meaning.specs.Legal.{rise};
+ghost use Rattle.segment_header.specs.Headers.{is_header as holds_header};
 
-use crate::jobs::{Line, job};
+use crate::files::times;
+use crate::headers::{OnColumn, header_of, is_loadable};
 use crate::lines::{Only, add_line, asked, measured, number, words};
+use crate::no_memory;
+use crate::sales::Sales;
 use fact_versions::Steps;
-use olap_meaning::{Cell, CellValue, ColumnId, CubeId, List, MeasureId, OutOfMemory, ValueId, Who};
+use olap_meaning::{
+    Cell, CellValue, ColumnId, CubeId, Header, List, MeasureId, OutOfMemory, ValueId, Who,
+};
 use segment_body::Body;
 use segment_header::{covers, same_columns};
 use segment_load::{Delivery, LoadJob, run_load};
@@ -14,20 +20,36 @@ use std::marker::Brand;
 use std::sync::ledger::{Blank, Ledger};
 use std::test::Fail;
 
-const ROWS: [Line; 4] = [
-    (0, 0, 10, Some(5)),
-    (0, 1, 11, Some(7)),
-    (1, 0, 10, Some(3)),
-    (2, 2, 12, None),
-];
+// The cube of sales by year, quarter and city.
+fn schema() -> &'static [u8] {
+    b"{\"dimensions\":[{\"name\":\"Time\",\"table\":\"time.csv\",\"primaryKey\":\"time_id\",\"hierarchies\":[{\"levels\":[{\"name\":\"Year\",\"column\":\"year\"},{\"name\":\"Quarter\",\"column\":\"quarter\"}]}]},{\"name\":\"Store\",\"table\":\"store.csv\",\"primaryKey\":\"store_id\",\"hierarchies\":[{\"levels\":[{\"name\":\"City\",\"column\":\"city\"}]}]}],\"cubes\":[{\"name\":\"Sales\",\"fact\":\"sales.csv\",\"dimensions\":[{\"source\":\"Time\",\"foreignKey\":\"time_id\"},{\"source\":\"Store\",\"foreignKey\":\"store_id\"}],\"measures\":[{\"name\":\"Customers\",\"column\":\"customer\",\"aggregator\":\"distinct-count\"},{\"name\":\"Units\",\"column\":\"units\",\"aggregator\":\"sum\"},{\"name\":\"Count\",\"column\":\"units\",\"aggregator\":\"count\"}]}]}"
+}
 
-fn run<L: Ledger>(alloc: Global, job: LoadJob, blank: Blank) -> Result<Delivery, LoadJob>
-    requires name { blank.name ≡ L.name }
-    requires parts { blank.parts ≡ L.parts }
-    requires one { blank.parts ≡ 1 }
-{
-    let mut steps: Steps<L> = Steps::new(blank);
-    run_load(alloc, job, &mut steps)
+// Three cities.
+fn cities() -> &'static [u8] {
+    b"store_id,city\n1,LA\n2,SF\n3,Seattle\n"
+}
+
+const ROWS: [&str; 4] = ["1,1,10,5\n", "1,2,11,7\n", "2,1,10,3\n", "3,3,12,\n"];
+
+fn file_of(alloc: Global, rows: &[&str]) -> Result<String, Fail> {
+    let mut file = String::from_str(alloc, "time_id,store_id,customer,units\n")?;
+    for row in rows {
+        file.push_str(row)?;
+    }
+    Ok(file)
+}
+
+// The cube of the rows in two batches, of which the first has so many.
+fn sales_of(alloc: Global, cut: u32) -> Result<Sales, Fail> {
+    if cut > 4 {
+        return Err(Fail::from("no row"));
+    }
+    let (first, second) = ROWS.split_at(cut as usize);
+    let first = file_of(alloc, first)?;
+    let second = file_of(alloc, second)?;
+    let batches = [first.as_bytes(), second.as_bytes()];
+    Sales::open(alloc, schema(), &[times(), cities()], &batches)
 }
 
 fn one(alloc: Global, pair: (u16, u32)) -> Result<List<(ColumnId, ValueId)>, OutOfMemory>
@@ -103,7 +125,7 @@ fn seen(alloc: Global, delivery: &Delivery, cell: &str) -> Result<String, Fail> 
     }
     let (measure, columns) = measured(alloc, cell)?;
     let at = pairs_of(alloc, columns.as_slice())?;
-    let worth = worth(alloc, &delivery.body, measure, at.as_slice())?;
+    let worth = worth(alloc, &delivery.body, measure, at.as_slice()).map_err(no_memory)?;
     Ok(format!(in alloc; "{} groups, {worth:?}", delivery.body.groups())?)
 }
 
@@ -116,14 +138,54 @@ fn is_wanted(job: &LoadJob) -> bool {
         && job.catalog().leaf_count(0) == 3
 }
 
-// A load of a header from two batches, of which the first has so many rows, and one of its cells.
-fn loaded(alloc: Global, header: &str, cell: &str, cut: u32) -> Result<String, Fail> {
-    if cut > 4 {
-        return Err(Fail::from("no row"));
+// What a load allows on columns that have one value, or any.
+fn allowed_on(alloc: Global, columns: &[Only]) -> Result<Vec<OnColumn>, Fail> {
+    let mut allowed = Vec::new(alloc);
+    for (column, value) in columns {
+        let values = match value {
+            None => None,
+            Some(value) => Some(Vec::from_slice(alloc, &[*value])?),
+        };
+        allowed.push(OnColumn {
+            column: *column,
+            values,
+        })?;
     }
-    let (first, second) = ROWS.split_at(cut as usize);
+    Ok(allowed)
+}
+
+// A load of a header from the second version.
+fn job(sales: &Sales, header: Header) -> Result<LoadJob, Fail>
+    requires { IsTrue (holds_header header) }
+{
+    if header.cube != CubeId(0) || !is_loadable(sales.catalog(), &header) {
+        return Err(Fail::from("no load"));
+    }
+    let snapshot = sales.snapshot(2)?;
+    let catalog = sales.share_catalog()?;
+    let who = Who { seat: 1, call: 2 };
+    LoadJob::new(catalog, 7, who, header, snapshot, &[]).map_err(no_memory)
+}
+
+fn job_for(alloc: Global, sales: &Sales, header: &str) -> Result<LoadJob, Fail> {
     let (measure, columns) = measured(alloc, header)?;
-    let job = job(alloc, measure, columns.as_slice(), &[first, second])?;
+    let allowed = allowed_on(alloc, &columns)?;
+    let header = header_of(alloc, measure, &allowed)?;
+    job(sales, header)
+}
+
+fn run<L: Ledger>(alloc: Global, job: LoadJob, blank: Blank) -> Result<Delivery, LoadJob>
+    requires name { blank.name ≡ L.name }
+    requires parts { blank.parts ≡ L.parts }
+    requires one { blank.parts ≡ 1 }
+{
+    let mut steps: Steps<L> = Steps::new(blank);
+    run_load(alloc, job, &mut steps)
+}
+
+// What a load of a header comes to, and one of its cells.
+fn loaded(alloc: Global, sales: &Sales, header: &str, cell: &str) -> Result<String, Fail> {
+    let job = job_for(alloc, sales, header)?;
     if !is_wanted(&job) {
         return Err(Fail::from("another job"));
     }
@@ -136,7 +198,7 @@ fn loaded(alloc: Global, header: &str, cell: &str, cut: u32) -> Result<String, F
 fn said_of(alloc: Global, asked: &str) -> Result<String, Fail> {
     let words = words(alloc, asked)?;
     match words.as_slice() {
-        [header, cell, cut] => loaded(alloc, header, cell, number(cut)?),
+        [header, cell, cut] => loaded(alloc, &sales_of(alloc, number(cut)?)?, header, cell),
         _ => Err(Fail::from("no load")),
     }
 }

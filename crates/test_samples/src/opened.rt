@@ -4,7 +4,7 @@ ghost use Rattle.fact_reader.specs.BodyRows.{is_batch};
 
 use crate::files::{schema, stores, times};
 use crate::open_catalog;
-use fact_rows::{BatchFault, read_batch};
+use fact_rows::read_batch;
 use fact_versions::Batch;
 use olap_catalog::Catalog;
 use olap_meaning::CubeId;
@@ -25,27 +25,15 @@ pub fn open(alloc: Global) -> Result<Arc<Catalog>, Fail> {
     open_shared(alloc, schema(), &[times(), stores()])
 }
 
-/// The batch of a file of the first cube, or its fault.
-pub(crate) fn batch_of(
-    alloc: Global,
-    catalog: &Catalog,
-    file: &[u8],
-) -> Result<Result<Batch, BatchFault>, Fail>
-    ensures known { IfOk result (λ batch. 0 < length catalog.now.cubes) }
-    ensures fit { IfOk result (λ read. IfOk read (λ batch. IsTrue (is_batch catalog.now 0 batch))) }
-{
-    if catalog.cube_count() == 0 {
-        return Err(Fail::from("no cube"));
-    }
-    Ok(read_batch(alloc, catalog, CubeId(0), file))
-}
-
 /// The batch of a file of the first cube.
 pub fn read(alloc: Global, catalog: &Catalog, file: &[u8]) -> Result<Batch, Fail>
     ensures known { IfOk result (λ batch. 0 < length catalog.now.cubes) }
     ensures fit { IfOk result (λ batch. IsTrue (is_batch catalog.now 0 batch)) }
 {
-    match batch_of(alloc, catalog, file)? {
+    if catalog.cube_count() == 0 {
+        return Err(Fail::from("no cube"));
+    }
+    match read_batch(alloc, catalog, CubeId(0), file) {
         Ok(batch) => Ok(batch),
         Err(_) => Err(Fail::from("no batch")),
     }

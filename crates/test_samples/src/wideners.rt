@@ -5,8 +5,8 @@ ghost use Rattle.olap_meaning.specs.Covering as covering;
 ghost use Rattle.segment_header.specs.Widening.{Serves, are_below, are_wanted as may_be_wanted, is_within};
 ghost use Rattle.segment_header.specs.Headers as headers;
 
-use crate::jobs::no_memory;
 use crate::lines::{add_line, asked, number, words};
+use crate::no_memory;
 use olap_meaning::{Allowed, List, OutOfMemory, ValueId};
 use segment_header::{Widener, allows, are_wanted, is_set};
 use std::alloc::Global;

@@ -1,5 +1,5 @@
 -- That `groups` ensures what it says.
-use Rattle.std.proofs.Common.{◌∙◌, ◌≡◌, ◌≤◌, List, ℕ, ℤ, Option, length, map, ap, arith}
+use Rattle.std.proofs.Common.{◌∙◌, List, ℕ, ℤ, Option, length, ap, arith}
 use Rattle.std.proofs.lemmas.List.{length-map}
 use Rattle.catalog_tables.proofs.FieldFacts.{appearances_le}
 use Rattle.segment_body.specs.BodyOf.{BodyOf, different_values}

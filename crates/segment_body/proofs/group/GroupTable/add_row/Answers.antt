@@ -1,12 +1,12 @@
 -- That `add_row` ensures what it says.
-use Rattle.std.proofs.Common.{◌≡◌, ◌∙◌, ◌∷◌, ◌++◌, [], Ok, Err, false, inl, inr, length, refl, sym, bytes_eq, List, Option, ℕ, ℤ}
+use Rattle.std.proofs.Common.{◌≡◌, ◌∙◌, ◌∷◌, ◌++◌, [], Ok, Err, false, inl, inr, length, sym, bytes_eq, List, Option, ℕ, ℤ}
 use Rattle.std.specs.Prelude.{IfOk, OnErr, OnOk, Result}
 use Rattle.std.specs.List.{list_any}
 use Rattle.indexmap.specs.IndexMap.{set_value_at}
 use Rattle.olap_meaning.specs.declared.Aggregator.{Aggregator}
 use Rattle.segment_body.specs.Groups.{Group, IsAdded, group, groups_by, values_of}
 use Rattle.segment_body.proofs.GroupFacts.{found, unfound}
-use Rattle.segment_body.proofs.MapFacts.{position_groups, tally_at, groups_set, groups_kept}
+use Rattle.segment_body.proofs.MapFacts.{tally_at, groups_set, groups_kept}
 use Rattle.segment_body.proofs.group.GroupTable.add_row.Goals as goal
 
 at_the_end : {E : Type 0} (result : Result ℕ E) (aggregator : Aggregator) (values : List ℕ) (number : Option ℤ) (old new : List Group) → list_any (bytes_eq values) (values_of old) ≡ false
@@ -30,16 +30,16 @@ returns-in_err-step-in-Some-clause-err c =
 pub returns-in_ok-step-in-Some-clause-ok : goal.returns-in_ok-step-in-Some-clause-ok
 returns-in_ok-step-in-Some-clause-ok c =
     let d : Group = group c.args.values.now c.index_mut-tally.result.now in
-    let some = sym (c.get_index_of.ensures.index ∙ position_groups (λ key. key) (bytes_eq c.args.values.now) c.self.inside.tallies.entries) ∙ c.in-Some.is in
+    let some = rw (← c.self.view_is) at (sym c.place_of.ensures ∙ c.in-Some.is) in
     let there = found c.args.values.now (groups_by (λ key. key) c.self.inside.tallies.entries) c.in-Some.place d some in
     rw (← c.self.view_is)
     (inl (there.1, λ e. groups_set (λ key. key) c.self.inside.tallies.entries c.in-Some.place c.index_mut-tally.result.now c.step.new.self e c.args.number c.index_mut-tally.ensures.value c.in_ok-step-in-Some.ensures.ok))
 
 pub push_group-requires : goal.push_group-requires
 push_group-requires c =
-    rw (← c.self.view_is) (unfound c.args.values.now (groups_by (λ key. key) c.self.inside.tallies.entries) (sym (c.get_index_of.ensures.index ∙ position_groups (λ key. key) (bytes_eq c.args.values.now) c.self.inside.tallies.entries) ∙ c.in-None.is))
+    unfound c.args.values.now c.args.self.now (sym c.place_of.ensures ∙ c.in-None.is)
 
 pub returns-in_ok-tally-in-None-clause-ok : goal.returns-in_ok-tally-in-None-clause-ok
 returns-in_ok-tally-in-None-clause-ok c =
-    let none = rw c.self.view_is at (unfound c.args.values.now (groups_by (λ key. key) c.self.inside.tallies.entries) (sym (c.get_index_of.ensures.index ∙ position_groups (λ key. key) (bytes_eq c.args.values.now) c.self.inside.tallies.entries) ∙ c.in-None.is)) in
+    let none = unfound c.args.values.now c.args.self.now (sym c.place_of.ensures ∙ c.in-None.is) in
     at_the_end c.push_group.result c.args.aggregator c.args.values.now c.args.number c.args.self.now c.push_group.new.self none c.push_group.ensures.place (rw c.in_ok-tally-in-None.ensures at c.push_group.ensures.ok)

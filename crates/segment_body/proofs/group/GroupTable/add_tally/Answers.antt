@@ -5,7 +5,7 @@ use Rattle.std.specs.List.{list_any}
 use Rattle.olap_meaning.specs.declared.Aggregator.{Aggregator}
 use Rattle.segment_body.specs.Groups.{Group, IsMerged, group, groups_by, values_of}
 use Rattle.segment_body.proofs.GroupFacts.{found, unfound}
-use Rattle.segment_body.proofs.MapFacts.{position_groups, tally_at, groups_merged}
+use Rattle.segment_body.proofs.MapFacts.{tally_at, groups_merged}
 use Rattle.segment_body.proofs.group.GroupTable.add_tally.Goals as goal
 
 at_the_end : {E : Type 0} (result : Result ℕ E) (aggregator : Aggregator) (values : List ℕ) (numbers : List (Option ℤ)) (old new : List Group) → list_any (bytes_eq values) (values_of old) ≡ false
@@ -34,16 +34,16 @@ merge-requires-clause-room c =
 pub returns-in-Some-clause-ok : goal.returns-in-Some-clause-ok
 returns-in-Some-clause-ok c =
     let d : Group = group c.args.values.now c.index_mut-group.result.now in
-    let there = found c.args.values.now (groups_by (λ key. key) c.self.inside.tallies.entries) c.in-Some.place d (sym (c.get_index_of.ensures.index ∙ position_groups (λ key. key) (bytes_eq c.args.values.now) c.self.inside.tallies.entries) ∙ c.in-Some.is) in
+    let there = found c.args.values.now (groups_by (λ key. key) c.self.inside.tallies.entries) c.in-Some.place d (rw (← c.self.view_is) at (sym c.place_of.ensures ∙ c.in-Some.is)) in
     rw (← c.self.view_is)
     (inl (there.1, λ e. groups_merged (λ key. key) c.self.inside.tallies.entries c.in-Some.place c.index_mut-group.result.now c.merge.new.self e c.args.tally.now.values c.index_mut-group.ensures.value c.merge.ensures))
 
 pub push_group-requires : goal.push_group-requires
 push_group-requires c =
-    rw (← c.self.view_is) (unfound c.args.values.now (groups_by (λ key. key) c.self.inside.tallies.entries) (sym (c.get_index_of.ensures.index ∙ position_groups (λ key. key) (bytes_eq c.args.values.now) c.self.inside.tallies.entries) ∙ c.in-None.is))
+    unfound c.args.values.now c.args.self.now (sym c.place_of.ensures ∙ c.in-None.is)
 
 pub returns-in-None-clause-ok : goal.returns-in-None-clause-ok
 returns-in-None-clause-ok c =
-    let none = rw c.self.view_is at (unfound c.args.values.now (groups_by (λ key. key) c.self.inside.tallies.entries) (sym (c.get_index_of.ensures.index ∙ position_groups (λ key. key) (bytes_eq c.args.values.now) c.self.inside.tallies.entries) ∙ c.in-None.is)) in
+    let none = unfound c.args.values.now c.args.self.now (sym c.place_of.ensures ∙ c.in-None.is) in
     let first = rw c.new-first.ensures at c.merge-in-None.ensures in
     at_the_end c.push_group.result c.args.aggregator c.args.values.now c.args.tally.now.values c.args.self.now c.push_group.new.self none c.push_group.ensures.place (rw first at c.push_group.ensures.ok)

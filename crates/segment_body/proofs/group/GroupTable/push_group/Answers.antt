@@ -10,4 +10,4 @@ pub returns-clause-ok : goal.returns-clause-ok
 returns-clause-ok c =
     let none = rw (← c.self.view_is) at c.requires in
     let new = groups_new (λ key. key) bytes_eq c.in_ok-key.key c.args.tally c.args.values.now (λ j. ap (λ (v : List ℕ). bytes_eq v j) c.in_ok-key.ensures) c.self.inside.tallies.entries none in
-    rw (← c.self.view_is) (rw (c.in_ok-insert.ensures.entries, new, c.in_ok-key.ensures) refl)
+    rw (← c.self.view_is) (c.note.ensures ∙ rw (c.in_ok-insert.ensures.entries, new, c.in_ok-key.ensures) refl)

@@ -2,7 +2,7 @@
 use Rattle.std.proofs.Common.{sym, ap}
 use Rattle.fact_versions.specs.Facts.{batches_of}
 use Rattle.test_samples.specs.Sales.{SalesOf}
-use Rattle.test_samples.proofs.SampleFacts.{snapshot_fits}
+use Rattle.test_samples.proofs.SalesFacts.{snapshot_fits}
 use Rattle.test_samples.proofs.sales.Sales.snapshot.Goals as goal
 
 pub returns-in-Ok-clause-fit : goal.returns-in-Ok-clause-fit
