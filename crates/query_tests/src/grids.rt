@@ -11,7 +11,7 @@ use shown_values::{Formatter, Showing, shown_plainly, shown_with_commas};
 use std::alloc::Global;
 use std::test::Fail;
 use test_samples::files::{schema, stores, times};
-use test_samples::open_catalog;
+use test_samples::opened::open_shared;
 
 // A query, the values of its cells, and its grid.
 type Case = (&'static str, &'static [&'static str], &'static str);
@@ -175,13 +175,6 @@ const WITH_COMMAS: &str = "GRID 1 2 2\nC\t[Measures].[Units]\nC\t[Measures].[Cou
 const WITH_SPACES: &str = "GRID 1 2 2\nC\t[Measures].[Units]\nC\t[Measures].[Count]\n\
     R\t[Time].[1997]\t1 2 3 4 5 6 7 \t-1 2 3 4 5 6 7 .8 9 \nR\t[Time].[1998]\t\t0 .0 5 \n.\n";
 
-fn opened(alloc: Global, schema: &[u8], tables: &[&[u8]]) -> Result<Catalog, Fail> {
-    match open_catalog(alloc, schema, tables) {
-        None => Err(Fail::from("no catalog")),
-        Some(catalog) => Ok(catalog),
-    }
-}
-
 // The grid of a case.
 fn grid_of(
     alloc: Global,
@@ -228,25 +221,24 @@ fn show_each(
 }
 
 fn show_samples(alloc: Global, formatter: &Formatter) -> Result<(), Fail> {
-    let catalog = opened(alloc, schema(), &[times(), stores()])?;
+    let catalog = open_shared(alloc, schema(), &[times(), stores()])?;
     show_each(alloc, &catalog, samples(), formatter)
 }
 
 fn show_odd(alloc: Global, formatter: &Formatter) -> Result<(), Fail> {
-    let catalog = opened(alloc, odd_schema(), &[odd_table()])?;
+    let catalog = open_shared(alloc, odd_schema(), &[odd_table()])?;
     show_each(alloc, &catalog, odd(), formatter)
 }
 
 fn show_formatted(alloc: Global, formatter: &Formatter, wanted: &'static str) -> Result<(), Fail> {
-    let catalog = opened(alloc, schema(), &[times(), stores()])?;
+    let catalog = open_shared(alloc, schema(), &[times(), stores()])?;
     show(alloc, &catalog, formatted(), formatter, wanted)
 }
 
 // Whether the grid that is shown by a formatter takes more memory than there is.
 fn lacks_memory(alloc: Global, formatter: &Formatter) -> Result<bool, Fail> {
-    let catalog = opened(alloc, schema(), &[times(), stores()])?;
-    let fault = grid_of(alloc, &catalog, formatted(), formatter)?.err();
-    Ok(fault == Some(OutOfMemory))
+    let catalog = open_shared(alloc, schema(), &[times(), stores()])?;
+    Ok(grid_of(alloc, &catalog, formatted(), formatter)?.is_err())
 }
 
 #[test]
@@ -389,7 +381,7 @@ fn many_grid(
     formatter: &Formatter,
 ) -> Result<Result<Text, OutOfMemory>, Fail> {
     let query = many_query(alloc)?;
-    let catalog = opened(alloc, schema(), &[times(), stores()])?;
+    let catalog = open_shared(alloc, schema(), &[times(), stores()])?;
     laid_out(alloc, &catalog, query.as_str(), answer, formatter)
 }
 

@@ -4,9 +4,10 @@ use olap_catalog::Catalog;
 use query_meaning::Axes;
 use query_samples::{asked, tell_axes, tell_cells, wide_catalog};
 use std::alloc::Global;
+use std::sync::Arc;
 use std::test::Fail;
 use test_samples::files::{products, schema, stock_schema, stores, times};
-use test_samples::open_catalog;
+use test_samples::opened::open_shared;
 
 // Queries, and the titles on their axes, or why they mean none.
 const AXES: &str = "\
@@ -86,33 +87,31 @@ fn tree_table() -> &'static [u8] {
     b"k,a,b\n1,x,u\n2,y,u\n3,x,v\n4,y,w\n5,x,u\n6,z,v\n"
 }
 
-fn opened(alloc: Global, schema: &[u8], tables: &[&[u8]]) -> Result<Catalog, Fail> {
-    match open_catalog(alloc, schema, tables) {
-        None => Err(Fail::from("no catalog")),
-        Some(catalog) => Ok(catalog),
-    }
+// A catalog of dimensions of so many members, and so many measures.
+fn wide(alloc: Global, members: &[u32], measures: usize) -> Result<Arc<Catalog>, Fail> {
+    Ok(Arc::new(alloc, wide_catalog(alloc, members, measures)?)?)
 }
 
 // What is said of a table of queries over the sample files.
 fn told_axes(alloc: Global, table: &str) -> Result<String, Fail> {
-    let catalog = opened(alloc, schema(), &[times(), stores()])?;
+    let catalog = open_shared(alloc, schema(), &[times(), stores()])?;
     tell_axes(alloc, &catalog, table)
 }
 
 // What is said of the cells of queries over two cubes.
 fn told_cells(alloc: Global, table: &str) -> Result<String, Fail> {
-    let catalog = opened(alloc, stock_schema(), &[times(), stores(), products()])?;
+    let catalog = open_shared(alloc, stock_schema(), &[times(), stores(), products()])?;
     tell_cells(alloc, &catalog, table)
 }
 
 fn told_trees(alloc: Global, table: &str) -> Result<String, Fail> {
-    let catalog = opened(alloc, tree_schema(), &[tree_table()])?;
+    let catalog = open_shared(alloc, tree_schema(), &[tree_table()])?;
     tell_axes(alloc, &catalog, table)
 }
 
 // What is said of queries over dimensions of so many members.
 fn told_wide(alloc: Global, members: &[u32], table: &str) -> Result<String, Fail> {
-    let catalog = wide_catalog(alloc, members, 1)?;
+    let catalog = wide(alloc, members, 1)?;
     tell_axes(alloc, &catalog, table)
 }
 
@@ -169,8 +168,8 @@ const TEN_BY_D: &str =
 const ELEVEN_BY_E: &str = "SELECT [Measures].Members ON 0, [E].[L].Members ON 1 FROM [C]";
 
 // Eleven measures, and dimensions of 10,000 and 9,091 members.
-fn largest(alloc: Global) -> Result<Catalog, Fail> {
-    wide_catalog(alloc, &[10_000, 9_091], 11)
+fn largest(alloc: Global) -> Result<Arc<Catalog>, Fail> {
+    wide(alloc, &[10_000, 9_091], 11)
 }
 
 // How many columns and rows axes have.

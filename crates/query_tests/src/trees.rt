@@ -1,7 +1,6 @@
 //! The tree of a query in which each rule stands once.
-use mdx_reader::{Picks, SetShape, SetText, read_query};
+use mdx_reader::{Picks, Query, SetShape, SetText, read_query};
 use olap_meaning::{List, Text};
-use std::panic::Expect;
 use std::test::Fail;
 
 const WHOLE: &str = "SELECT NON EMPTY {[a], [b].[c].Members, [d]]].CHILDREN} ON COLUMNS, \
@@ -61,22 +60,52 @@ fn parts(shape: &SetShape, byte: u32) -> Option<(&SetText, &SetText)> {
     }
 }
 
+// Whether a set is the three picks in braces.
+fn has_columns(shape: &SetShape) -> bool {
+    match items(shape, 17) {
+        Some([first, second, third]) => {
+            is_picked(first.shape(), 18, &["a"], Picks::Itself)
+                && is_picked(second.shape(), 23, &["b", "c"], Picks::Members)
+                && is_picked(third.shape(), 40, &["d]"], Picks::Children)
+        }
+        _ => false,
+    }
+}
+
+fn is_empty(shape: &SetShape, byte: u32) -> bool {
+    match items(shape, byte) {
+        Some([]) => true,
+        _ => false,
+    }
+}
+
+// Whether a set is the Crossjoin of a tuple and of no set.
+fn has_rows(shape: &SetShape) -> bool {
+    match parts(shape, 68) {
+        Some((first, second)) => {
+            is_tuple(first.shape(), 78, &[&["e"], &["f", "g"]]) && is_empty(second.shape(), 94)
+        }
+        None => false,
+    }
+}
+
+fn has_each(query: &Query) -> bool {
+    let Some(rows) = &query.rows else {
+        return false;
+    };
+    query.columns.non_empty
+        && has_columns(query.columns.set.shape())
+        && !rows.non_empty
+        && has_rows(rows.set.shape())
+        && query.cube.as_str() == "h i"
+        && has_paths(&query.slicer, &[&["j"], &["k", "l"]])
+}
+
 #[test]
 fn a_tree_has_each_set_and_its_byte(rt: HostRuntime) -> Result<(), Fail> {
-    let found = read_query(rt.alloc(), WHOLE).ok();
-    let query = found.expect(&rt, "no query");
-    assert!(rt; query.columns.non_empty);
-    let columns = items(query.columns.set.shape(), 17).expect(&rt, "no braces");
-    assert_eq!(rt; columns.len(), 3);
-    assert!(rt; is_picked(columns[0].shape(), 18, &["a"], Picks::Itself));
-    assert!(rt; is_picked(columns[1].shape(), 23, &["b", "c"], Picks::Members));
-    assert!(rt; is_picked(columns[2].shape(), 40, &["d]"], Picks::Children));
-    let rows = query.rows.as_ref().expect(&rt, "no rows");
-    assert!(rt; !rows.non_empty);
-    let (first, second) = parts(rows.set.shape(), 68).expect(&rt, "no Crossjoin");
-    assert!(rt; is_tuple(first.shape(), 78, &[&["e"], &["f", "g"]]));
-    assert_eq!(rt; items(second.shape(), 94).expect(&rt, "no braces").len(), 0);
-    assert_eq!(rt; query.cube.as_str(), "h i");
-    assert!(rt; has_paths(&query.slicer, &[&["j"], &["k", "l"]]));
+    match read_query(rt.alloc(), WHOLE) {
+        Ok(query) => assert!(rt; has_each(&query)),
+        Err(_) => return Err(Fail::from("no query")),
+    }
     Ok(())
 }
