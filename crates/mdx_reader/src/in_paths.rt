@@ -2,32 +2,85 @@
 ghost use Rattle.std.specs.Prelude.{◌≡◌, ℕ, IfOk, IfSome};
 ghost use Rattle.query_meaning.specs.Tokens.{At};
 ghost use Rattle.tokens.specs.Grammars.{Took};
-ghost use Rattle.query_meaning.specs.declared.token.Token.TheVariants.{Word};
+ghost use Rattle.query_meaning.specs.declared.token.Token.TheVariants.{Word, Sign};
 ghost use Rattle.query_meaning.specs.Keywords.{keyword_text};
 ghost use Rattle.mdx_reader.specs.Words.{suffix_key};
 ghost use Rattle.mdx_reader.specs.Places.{rest_of, stands, sliced};
+ghost use Rattle.mdx_reader.specs.declared.place.PathOf.TheVariants.{InTuple, InSlicer};
 ghost use Rattle.mdx_reader.specs.declared.place.Place.TheVariants.{AfterName, AfterDot};
 
 use crate::in_sets::end_set;
 use crate::kept::Kept;
-use crate::place::{Base, PathOf, Place};
+use crate::place::{Base, Frame, Head, PathOf, Place};
 use olap_meaning::{List, OutOfMemory, Text};
 use query_meaning::{Keyword, Picks, Query, SetText, Token};
 use std::alloc::Global;
-use tokens::{is_sign, is_word, name_of};
+use tokens::{Stack, is_sign, is_word, name_of};
+
+// A token behind a name of a path in a tuple, which is no dot.
+fn end_in_tuple(
+    head: Head,
+    around: Stack<Frame>,
+    from: u32,
+    mut front: List<List<Text>>,
+    path: List<Text>,
+    token: &Token,
+) -> Result<Option<Place>, OutOfMemory>
+    requires { ¬ token.now ≡ Sign 46 }
+    ensures kept { IfOk result (λ next. IfSome next stands) }
+    ensures takes { IfOk result (λ next. (at : ℕ)
+        → Took rest_of
+        (rest_of (AfterName (InTuple head around from front) path))
+        (At at token.now) next) }
+{
+    if is_sign(token, ',') {
+        front.push(path)?;
+        return Ok(Some(Place::APath(PathOf::InTuple(head, around, from, front))));
+    }
+    if is_sign(token, ')') {
+        front.push(path)?;
+        return Ok(Some(Place::AfterSet(head, around, SetText::tuple(from, front))));
+    }
+    Ok(None)
+}
+
+// A token behind a name of a path in the slicer's tuple, which is no dot.
+fn end_in_slicer(
+    alloc: Global,
+    base: Base,
+    mut front: List<List<Text>>,
+    path: List<Text>,
+    token: &Token,
+) -> Result<Option<Place>, OutOfMemory>
+    requires { ¬ token.now ≡ Sign 46 }
+    ensures kept { IfOk result (λ next. IfSome next stands) }
+    ensures takes { IfOk result (λ next. (at : ℕ)
+        → Took rest_of (rest_of (AfterName (InSlicer base front) path)) (At at token.now) next) }
+{
+    if is_sign(token, ',') {
+        front.push(path)?;
+        return Ok(Some(Place::APath(PathOf::InSlicer(base, front))));
+    }
+    if is_sign(token, ')') {
+        front.push(path)?;
+        let query = Kept::new(alloc, query_by(base, front))?;
+        return Ok(Some(Place::Done(query)));
+    }
+    Ok(None)
+}
 
 // A token behind a name of a path.
 pub(crate) fn end_name(
     alloc: Global,
     of: PathOf,
     path: List<Text>,
-    token: Token,
+    token: &Token,
 ) -> Result<Option<Place>, OutOfMemory>
     ensures kept { IfOk result (λ next. IfSome next stands) }
-    ensures takes { IfOk result
-        (λ next. (at : ℕ) → Took rest_of (rest_of (AfterName of path)) (At at token) next) }
+    ensures takes { IfOk result (λ next. (at : ℕ)
+        → Took rest_of (rest_of (AfterName of path)) (At at token.now) next) }
 {
-    if is_sign(&token, '.') {
+    if is_sign(token, '.') {
         return Ok(Some(Place::AfterDot(of, path)));
     }
     match of {
@@ -35,30 +88,11 @@ pub(crate) fn end_name(
             let set = SetText::picked(from, path, Picks::Itself);
             end_set(alloc, head, around, set, token)
         }
-        PathOf::InTuple(head, around, from, mut front) => {
-            if is_sign(&token, ',') {
-                front.push(path)?;
-                return Ok(Some(Place::APath(PathOf::InTuple(head, around, from, front))));
-            }
-            if is_sign(&token, ')') {
-                front.push(path)?;
-                return Ok(Some(Place::AfterSet(head, around, SetText::tuple(from, front))));
-            }
-            Ok(None)
+        PathOf::InTuple(head, around, from, front) => {
+            end_in_tuple(head, around, from, front, path, token)
         }
         PathOf::Slicer(_) => Ok(None),
-        PathOf::InSlicer(base, mut front) => {
-            if is_sign(&token, ',') {
-                front.push(path)?;
-                return Ok(Some(Place::APath(PathOf::InSlicer(base, front))));
-            }
-            if is_sign(&token, ')') {
-                front.push(path)?;
-                let query = Kept::new(alloc, query_by(base, front))?;
-                return Ok(Some(Place::Done(query)));
-            }
-            Ok(None)
-        }
+        PathOf::InSlicer(base, front) => end_in_slicer(alloc, base, front, path, token),
     }
 }
 

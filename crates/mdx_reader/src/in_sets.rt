@@ -4,6 +4,7 @@ ghost use Rattle.query_meaning.specs.Tokens.{At};
 ghost use Rattle.tokens.specs.Grammars.{Took};
 ghost use Rattle.mdx_reader.specs.Places.{rest_of, stands};
 ghost use Rattle.mdx_reader.specs.declared.place.Place.TheVariants.{ASet, AnItem, Crossing, AfterSet};
+ghost use Rattle.mdx_reader.specs.declared.place.Frame.TheVariants.{Braces, First, Second};
 
 use crate::kept::Kept;
 use crate::place::{Frame, Head, PathOf, Place};
@@ -97,52 +98,118 @@ pub(crate) fn begin_cross(
     Ok(None)
 }
 
+// A token behind the set of an axis.
+fn end_whole(
+    alloc: Global,
+    head: Head,
+    set: SetText,
+    token: &Token,
+) -> Result<Option<Place>, OutOfMemory>
+    ensures kept { IfOk result (λ next. IfSome next stands) }
+    ensures takes { IfOk result
+        (λ next. (at : ℕ) → Took rest_of (rest_of (AfterSet head [] set)) (At at token.now) next) }
+{
+    if is_word(token, Keyword::On) {
+        let Head { which, non_empty } = head;
+        let axis = Kept::new(alloc, AxisText { non_empty, set })?;
+        return Ok(Some(Place::On(which, axis)));
+    }
+    Ok(None)
+}
+
+// A token behind an item in braces.
+fn end_item(
+    head: Head,
+    mut around: Stack<Frame>,
+    opening: (u32, u8),
+    mut front: SetTexts,
+    set: SetText,
+    token: &Token,
+) -> Result<Option<Place>, OutOfMemory>
+    ensures kept { IfOk result (λ next. IfSome next stands) }
+    ensures takes { IfOk result (λ next. (at : ℕ)
+        → Took rest_of
+        (rest_of (AfterSet head (Braces opening.0 opening.1 front ∷ around) set))
+        (At at token.now) next) }
+{
+    let (from, left) = opening;
+    if is_sign(token, '}') {
+        front.push(set)?;
+        return Ok(Some(Place::AfterSet(head, around, SetText::braces(from, front))));
+    }
+    if is_sign(token, ',') {
+        front.push(set)?;
+        around.push(Frame::Braces(from, left, front))?;
+        return Ok(Some(Place::ASet(head, around, left)));
+    }
+    Ok(None)
+}
+
+// A token behind the first part of a Crossjoin.
+fn end_first(
+    head: Head,
+    mut around: Stack<Frame>,
+    opening: (u32, u8),
+    set: SetText,
+    token: &Token,
+) -> Result<Option<Place>, OutOfMemory>
+    ensures kept { IfOk result (λ next. IfSome next stands) }
+    ensures takes { IfOk result (λ next. (at : ℕ)
+        → Took rest_of
+        (rest_of (AfterSet head (First opening.0 opening.1 ∷ around) set))
+        (At at token.now) next) }
+{
+    let (from, left) = opening;
+    if is_sign(token, ',') {
+        around.push(Frame::Second(from, set))?;
+        return Ok(Some(Place::ASet(head, around, left)));
+    }
+    Ok(None)
+}
+
+// A token behind the second part of a Crossjoin.
+fn end_second(
+    alloc: Global,
+    head: Head,
+    around: Stack<Frame>,
+    from: u32,
+    first: SetText,
+    set: SetText,
+    token: &Token,
+) -> Result<Option<Place>, OutOfMemory>
+    ensures kept { IfOk result (λ next. IfSome next stands) }
+    ensures takes { IfOk result (λ next. (at : ℕ)
+        → Took rest_of
+        (rest_of (AfterSet head (Second from first ∷ around) set))
+        (At at token.now) next) }
+{
+    if is_sign(token, ')') {
+        let cross = SetText::cross(alloc, from, first, set)?;
+        return Ok(Some(Place::AfterSet(head, around, cross)));
+    }
+    Ok(None)
+}
+
 // A token behind a set.
 pub(crate) fn end_set(
     alloc: Global,
     head: Head,
     mut around: Stack<Frame>,
     set: SetText,
-    token: Token,
+    token: &Token,
 ) -> Result<Option<Place>, OutOfMemory>
     ensures kept { IfOk result (λ next. IfSome next stands) }
-    ensures takes { IfOk result
-        (λ next. (at : ℕ) → Took rest_of (rest_of (AfterSet head around set)) (At at token) next) }
+    ensures takes { IfOk result (λ next. (at : ℕ)
+        → Took rest_of (rest_of (AfterSet head around set)) (At at token.now) next) }
 {
     match around.pop() {
-        None => {
-            if is_word(&token, Keyword::On) {
-                let Head { which, non_empty } = head;
-                let axis = Kept::new(alloc, AxisText { non_empty, set })?;
-                return Ok(Some(Place::On(which, axis)));
-            }
-            Ok(None)
+        None => end_whole(alloc, head, set, token),
+        Some(Frame::Braces(from, left, front)) => {
+            end_item(head, around, (from, left), front, set, token)
         }
-        Some(Frame::Braces(from, left, mut front)) => {
-            if is_sign(&token, '}') {
-                front.push(set)?;
-                return Ok(Some(Place::AfterSet(head, around, SetText::braces(from, front))));
-            }
-            if is_sign(&token, ',') {
-                front.push(set)?;
-                around.push(Frame::Braces(from, left, front))?;
-                return Ok(Some(Place::ASet(head, around, left)));
-            }
-            Ok(None)
-        }
-        Some(Frame::First(from, left)) => {
-            if is_sign(&token, ',') {
-                around.push(Frame::Second(from, set))?;
-                return Ok(Some(Place::ASet(head, around, left)));
-            }
-            Ok(None)
-        }
+        Some(Frame::First(from, left)) => end_first(head, around, (from, left), set, token),
         Some(Frame::Second(from, first)) => {
-            if is_sign(&token, ')') {
-                let cross = SetText::cross(alloc, from, first, set)?;
-                return Ok(Some(Place::AfterSet(head, around, cross)));
-            }
-            Ok(None)
+            end_second(alloc, head, around, from, first, set, token)
         }
     }
 }

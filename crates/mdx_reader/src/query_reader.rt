@@ -58,7 +58,7 @@ fn take_outside_sets(
 {
     match place {
         Place::APath(of) => begin_path(alloc, of, token),
-        Place::AfterName(of, path) => end_name(alloc, of, path, token),
+        Place::AfterName(of, path) => end_name(alloc, of, path, &token),
         Place::AfterDot(of, path) => end_dot(of, path, token),
         other => take_around_axes(alloc, other, at, token),
     }
@@ -121,7 +121,7 @@ impl Grammar for Place {
             Place::Crossing(head, around, from, left) => {
                 begin_cross(head, around, from, left, token)
             }
-            Place::AfterSet(head, around, set) => end_set(alloc, head, around, set, token),
+            Place::AfterSet(head, around, set) => end_set(alloc, head, around, set, &token),
             other => take_outside_sets(alloc, other, at, token),
         }
     }

@@ -7,6 +7,31 @@ ghost use Rattle.tokens.specs.Words.{Begins};
 use olap_meaning::Text;
 use query_meaning::{Keyword, Token};
 
+// What a keyword is written as, in capital letters.
+fn word_of(keyword: Keyword) -> &'static str
+    ensures { result.now ≡ keyword_text keyword }
+{
+    match keyword {
+        Keyword::Select => "SELECT",
+        Keyword::On => "ON",
+        Keyword::Columns => "COLUMNS",
+        Keyword::Zero => "0",
+        Keyword::Rows => "ROWS",
+        Keyword::One => "1",
+        Keyword::From => "FROM",
+        Keyword::Where => "WHERE",
+        Keyword::Non => "NON",
+        Keyword::Empty => "EMPTY",
+        Keyword::Crossjoin => "CROSSJOIN",
+        Keyword::Members => "MEMBERS",
+        Keyword::Children => "CHILDREN",
+        Keyword::Member => "MEMBER",
+        Keyword::Range => "RANGE",
+        Keyword::Measures => "MEASURES",
+        Keyword::Union => "UNION",
+    }
+}
+
 // Whether a word begins so.
 fn begins(front: &[u8], word: &[u8]) -> bool
     ensures { MatchBool result (Begins front.now word.now) (¬ Begins front.now word.now) }
@@ -20,26 +45,7 @@ pub fn begins_keyword(front: &str, keyword: Keyword) -> bool
         (Begins front.now (keyword_text keyword))
         (¬ Begins front.now (keyword_text keyword)) }
 {
-    let front = front.as_bytes();
-    match keyword {
-        Keyword::Select => begins(front, b"SELECT"),
-        Keyword::On => begins(front, b"ON"),
-        Keyword::Columns => begins(front, b"COLUMNS"),
-        Keyword::Zero => begins(front, b"0"),
-        Keyword::Rows => begins(front, b"ROWS"),
-        Keyword::One => begins(front, b"1"),
-        Keyword::From => begins(front, b"FROM"),
-        Keyword::Where => begins(front, b"WHERE"),
-        Keyword::Non => begins(front, b"NON"),
-        Keyword::Empty => begins(front, b"EMPTY"),
-        Keyword::Crossjoin => begins(front, b"CROSSJOIN"),
-        Keyword::Members => begins(front, b"MEMBERS"),
-        Keyword::Children => begins(front, b"CHILDREN"),
-        Keyword::Member => begins(front, b"MEMBER"),
-        Keyword::Range => begins(front, b"RANGE"),
-        Keyword::Measures => begins(front, b"MEASURES"),
-        Keyword::Union => begins(front, b"UNION"),
-    }
+    begins(front.as_bytes(), word_of(keyword).as_bytes())
 }
 
 // Whether a word in capital letters is the keyword.
@@ -48,25 +54,7 @@ fn is_text(word: &str, keyword: Keyword) -> bool
         (word.now ≡ keyword_text keyword)
         (¬ word.now ≡ keyword_text keyword) }
 {
-    match keyword {
-        Keyword::Select => word == "SELECT",
-        Keyword::On => word == "ON",
-        Keyword::Columns => word == "COLUMNS",
-        Keyword::Zero => word == "0",
-        Keyword::Rows => word == "ROWS",
-        Keyword::One => word == "1",
-        Keyword::From => word == "FROM",
-        Keyword::Where => word == "WHERE",
-        Keyword::Non => word == "NON",
-        Keyword::Empty => word == "EMPTY",
-        Keyword::Crossjoin => word == "CROSSJOIN",
-        Keyword::Members => word == "MEMBERS",
-        Keyword::Children => word == "CHILDREN",
-        Keyword::Member => word == "MEMBER",
-        Keyword::Range => word == "RANGE",
-        Keyword::Measures => word == "MEASURES",
-        Keyword::Union => word == "UNION",
-    }
+    word == word_of(keyword)
 }
 
 /// Whether the token is the keyword.
