@@ -1,13 +1,15 @@
 """Measures grids of many groups in a folder of its own. usage: measure_groups.py OLAPD PLAIN ROUNDS
 
-In each round each program runs once on each case, one after the other, so that what else the machine does falls on all alike. The time of
-a case is the time that processors were busy, the best round; the time from start to end is printed beside it.
+olapd and the plain program are given a line at a time, and what is told of a line is the time that its processor was busy from the line to
+the end of its reply, as the system counts it to the nanosecond. In each round each program is begun anew, one after the other, so that
+what else the machine does falls on both alike. Of `sqlite3` it is what a run with the query takes longer than one without. Told is the
+best round of each.
 """
 import os
 import sys
 
 from group_sales import OTHER, make
-from timed import run, run_on_files
+from timed import Talk, run, run_on_files
 
 ROWS, AGAIN, FEW = 1_000_000, 4, 20
 olapd, plain, rounds = sys.argv[1], sys.argv[2], int(sys.argv[3])
@@ -25,59 +27,70 @@ CREATE TABLE facts (flat_id INTEGER, other_id INTEGER, units INTEGER);
 .mode tabs
 """
 QUERY = "SELECT member, side, sum(units) FROM facts JOIN flat USING (flat_id) JOIN other USING (other_id) GROUP BY member, side;\n"
-
-
-def asked(lines):
-    return [olapd, "run", "--schema", "groups.json"], lines
-
-
-cases = {
-    "olapd open": asked(""),
-    "olapd cold": asked(ALL),
-    "olapd warm": asked(ALL * (1 + AGAIN)),
-    "olapd few": asked(ALL + SOME * FEW),
-    "olapd cold deep": asked(DEEP),
-    "olapd warm deep": asked(DEEP * (1 + AGAIN)),
-    "plain open": ([plain, "0", "0"], ""),
-    "plain cold": ([plain, "1", "0"], ""),
-    "plain warm": ([plain, str(1 + AGAIN), "0"], ""),
-    "plain few": ([plain, "1", str(FEW)], ""),
-    "sqlite3 open": (["sqlite3", "-batch", ":memory:"], TABLES),
-    "sqlite3 cold": (["sqlite3", "-batch", ":memory:"], TABLES + QUERY),
+# How each program is asked: whether it is ready, for all cells, for few, and for all of six columns.
+PROGRAMS = {
+    "olapd": ([olapd, "run", "--schema", "groups.json"], ("AFTER 1\n", "\n"), {"all": ALL, "few": SOME, "deep": DEEP}),
+    "plain": ([plain], ("ready\n", ".\n"), {"all": "all\n", "few": "few\n"}),
 }
-make(ROWS)
-best, told = {}, {}
-for _ in range(rounds):
-    for case, (words, given) in cases.items():
-        *taken, text = run_on_files(words, given)
-        if told.setdefault(case, text) != text:
-            sys.exit(f"{case}: two rounds differ")
-        best[case] = [min(it) for it in zip(taken, best.get(case, taken))]
 
 
-def grids(text):
-    """The grids of an output, each without the line with its position."""
-    return [it.split("\n", 1)[1] for it in text.split("GRID ")[1:]]
+def grid(text):
+    """A grid without the line with its position."""
+    return text.split("\n", 1)[1]
 
 
-for kind in ("cold", "warm", "few"):
-    if grids(told[f"olapd {kind}"]) != grids(told[f"plain {kind}"]):
-        sys.exit(f"{kind}: olapd and the plain program differ")
-
-
-def values(grid):
+def values(text):
     """The values of a grid, row by row."""
-    return [line.split("\t")[2:] for line in grid.splitlines() if line.startswith("R\t")]
+    return [line.split("\t")[2:] for line in text.splitlines() if line.startswith("R\t")]
 
 
-if [values(it) for it in grids(told["olapd warm deep"])] != [values(it) for it in grids(told["olapd warm"])]:
-    sys.exit("the grids of six columns and those of two differ")
+def cases(program, kind):
+    """The cases that are measured on one run of a program."""
+    if kind == "deep":
+        return [("cold deep", "deep", 1), ("warm deep", "deep", AGAIN)]
+    return [("cold", "all", 1), ("warm", "all", AGAIN), ("few", "few", FEW)]
+
+
+best, told = {}, {}
+
+
+def note(case, seconds, text, shown=grid):
+    if told.setdefault(case, shown(text)) != shown(text):
+        sys.exit(f"{case}: two rounds differ")
+    best[case] = min(seconds, best.get(case, seconds))
+
+
+def talk(program, kind):
+    """Runs a program once, and notes what each case takes for each time."""
+    words, (ready, end), lines = PROGRAMS[program]
+    talk = Talk(words)
+    talk.ask(ready, end)
+    for case, asked, times in cases(program, kind):
+        each = [talk.ask(lines[asked]) for _ in range(times)]
+        for _, text in each:
+            note(f"{program} {case}", sum(seconds for seconds, _ in each) / times, text)
+    talk.end()
+
+
+make(ROWS)
+for _ in range(rounds):
+    for program, kind in (("olapd", "flat"), ("plain", "flat"), ("olapd", "deep")):
+        talk(program, kind)
+    for case, given in (("sqlite3 open", TABLES), ("sqlite3 cold", TABLES + QUERY)):
+        _, seconds, text = run_on_files(["sqlite3", "-batch", ":memory:"], given)
+        note(case, seconds, text, str)
+
+for case in ("cold", "warm", "few"):
+    if told[f"olapd {case}"] != told[f"plain {case}"]:
+        sys.exit(f"{case}: olapd and the plain program differ")
+for case in ("cold", "warm"):
+    if values(told[f"olapd {case} deep"]) != values(told[f"olapd {case}"]):
+        sys.exit("the grids of six columns and those of two differ")
 sums = {}
 for line in told["sqlite3 cold"].splitlines():
     member, side, units = line.split("\t")
     sums[member, side] = units
-lines = grids(told["olapd cold"])[0].splitlines()
-for line in lines[OTHER:-1]:
+for line in told["olapd cold"].splitlines()[OTHER:-1]:
     title, *row = line[2:].split("\t")
     member = title.removeprefix("[Flat].[").removesuffix("]")
     if row != [sums.pop((member, f"S{k + 1}"), "") for k in range(OTHER)]:
@@ -85,37 +98,20 @@ for line in lines[OTHER:-1]:
 if sums:
     sys.exit("sqlite3 has groups that olapd has not")
 
-
-def ms(case, whole=False):
-    return best[case][not whole] * 1e3
-
-
-def cold(program, whole=False, deep=""):
-    return ms(f"{program} cold{deep}", whole) - ms(f"{program} open", whole)
-
-
-def warm(program, whole=False, deep=""):
-    return (ms(f"{program} warm{deep}", whole) - ms(f"{program} cold{deep}", whole)) / AGAIN
-
-
-def few(program, whole=False):
-    return (ms(f"{program} few", whole) - ms(f"{program} cold", whole)) / FEW
-
-
+best["sqlite3 cold"] -= best["sqlite3 open"]
 rustc, version = (run([it, "--version"], "")[1].split() for it in ("rustc", "sqlite3"))
 print(f"{len(os.sched_getaffinity(0))} cores, rustc {rustc[1]}, sqlite3 {version[0]}, best of {rounds} rounds; {ROWS:,} rows, 100,000 groups\n")
-print("| grid | olapd busy ms | plain busy ms | sqlite3 busy ms | olapd ms | plain ms | sqlite3 ms |\n|---|---|---|---|---|---|---|")
-for name, of, programs in (("cold, 100,000 cells", cold, 3), ("warm, 100,000 cells", warm, 2), ("warm, 10,000 cells", few, 2)):
-    times = [f"{of(it, whole):.1f}" if n < programs else "" for whole in (False, True) for n, it in enumerate(("olapd", "plain", "sqlite3"))]
+print("| grid | olapd busy ms | plain busy ms | sqlite3 busy ms |\n|---|---|---|---|")
+for name, case in (("cold, 100,000 cells", "cold"), ("warm, 100,000 cells", "warm"), ("warm, 10,000 cells", "few"), ("cold, 100,000 cells, six columns", "cold deep"), ("warm, 100,000 cells, six columns", "warm deep")):
+    times = [f"{best[f'{it} {case}'] * 1e3:.1f}" if f"{it} {case}" in best else "" for it in ("olapd", "plain", "sqlite3")]
     print(f"| {name} | {' | '.join(times)} |")
-for name, of in (("cold", cold), ("warm", warm)):
-    print(f"| {name}, 100,000 cells, six columns | {of('olapd', False, ' deep'):.1f} | | | {of('olapd', True, ' deep'):.1f} | | |")
-print(f"\ncold: {cold('olapd') / cold('plain'):.2f} times the plain program, sqlite3 {cold('sqlite3') / cold('olapd'):.1f} times olapd; warm: {warm('olapd') / few('olapd'):.1f} times that of 10,000")
+cold, warm, few = (best[f"olapd {it}"] for it in ("cold", "warm", "few"))
+print(f"\ncold: {cold / best['plain cold']:.2f} times the plain program, sqlite3 {best['sqlite3 cold'] / cold:.1f} times olapd; warm: {warm / few:.1f} times that of 10,000")
 marks = {
-    "cold within twice the plain program": cold("olapd") <= 2 * cold("plain"),
-    "cold five times as fast as sqlite3": cold("sqlite3") >= 5 * cold("olapd"),
-    "warm below a second": warm("olapd") < 1000,
-    "warm within 12 times that of 10,000 cells": warm("olapd") <= 12 * few("olapd"),
+    "cold within twice the plain program": cold <= 2 * best["plain cold"],
+    "cold five times as fast as sqlite3": best["sqlite3 cold"] >= 5 * cold,
+    "warm below a second": warm < 1,
+    "warm within 12 times that of 10,000 cells": warm <= 12 * few,
 }
 for mark, met in marks.items():
     print(f"{mark}: {'met' if met else 'NOT met'}")

@@ -25,9 +25,9 @@ cases = {
     "olapd all": asked(ALL),
     "olapd one": asked(ALL + ONE * TIMES),
     "olapd many": asked(ALL + MANY * TIMES),
-    "plain all": ([plain, "1", "0"], ""),
-    "plain one": ([plain, "1", "0", str(TIMES), "0"], ""),
-    "plain many": ([plain, "1", "0", "0", str(TIMES)], ""),
+    "plain all": ([plain], "all\n"),
+    "plain one": ([plain], "all\n" + "one\n" * TIMES),
+    "plain many": ([plain], "all\n" + "many\n" * TIMES),
 }
 make(ROWS)
 best, told = {}, {}

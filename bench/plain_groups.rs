@@ -1,9 +1,10 @@
 //! The plain program that grids of many groups are measured beside: std alone, no quotes in its files, and a panic at each fault.
 //!
-//! plain_groups LARGE SMALL [ONE MANY]: reads flat.csv and other.csv into hash maps by key, and groups.csv into columns of numbers; sums
-//! the units up by both members, in a hash map by the two members' numbers packed into one; and writes the grid of all members so many
-//! times, and then the grid of the first ten other members so many times. Each grid looks its cells up anew. Then it rolls the groups up
-//! to the first flat member, and to all flat members, so many times each, anew each time, and writes these grids.
+//! plain_groups: reads flat.csv and other.csv into hash maps by key, and groups.csv into columns of numbers. Then it answers lines: `ready`;
+//! `all` and `few`, the grid of all members, and that of the first ten other members; `one` and `many`, the groups rolled up to the first
+//! flat member, and to all flat members. At the first line that asks for numbers it sums the units up by both members, in a hash map by the
+//! two members' numbers packed into one. Each grid looks its cells up anew, and each roll goes over the groups anew. Each answer ends with a
+//! line of one dot.
 
 use std::collections::HashMap;
 use std::io::Write;
@@ -85,34 +86,39 @@ fn many(sums: &HashMap<u64, i128>) -> HashMap<u64, i128> {
     cells
 }
 
+fn sums(facts: &(Vec<u32>, Vec<u32>, Vec<i64>)) -> HashMap<u64, i128> {
+    let mut sums: HashMap<u64, i128> = HashMap::new();
+    for ((row, column), units) in facts.0.iter().zip(&facts.1).zip(&facts.2) {
+        *sums.entry((*row as u64) << 32 | *column as u64).or_insert(0) += i128::from(*units);
+    }
+    sums
+}
+
+fn answer(asked: &str, sums: &HashMap<u64, i128>, rows: &[String], columns: &[String], out: &mut Vec<u8>) {
+    match asked {
+        "all" => grid(sums, rows, columns, out),
+        "few" => grid(sums, rows, &columns[..10], out),
+        "one" => row(&rows[..1], [one(sums)].into_iter(), out),
+        "many" => {
+            let cells = many(sums);
+            row(rows, (0..rows.len() as u64).map(|i| cells.get(&i).copied()), out);
+        }
+        _ => panic!("{asked}"),
+    }
+}
+
 fn main() {
-    let mut times: Vec<usize> = std::env::args().skip(1).map(|word| word.parse().unwrap()).collect();
-    times.resize(4, 0);
     let (flat, rows) = table("flat.csv");
     let (other, columns) = table("other.csv");
     let facts = facts(&flat, &other);
-    let mut sums: HashMap<u64, i128> = HashMap::new();
-    if times.iter().sum::<usize>() > 0 {
-        for ((row, column), units) in facts.0.iter().zip(&facts.1).zip(&facts.2) {
-            *sums.entry((*row as u64) << 32 | *column as u64).or_insert(0) += i128::from(*units);
-        }
-    }
-    for (count, columns) in [(times[0], &columns[..]), (times[1], &columns[..10])] {
-        for _ in 0..count {
-            let mut out = Vec::new();
-            grid(&sums, &rows, columns, &mut out);
-            std::io::stdout().write_all(&out).unwrap();
-        }
-    }
-    for _ in 0..times[2] {
+    let mut groups = None;
+    for line in std::io::stdin().lines() {
         let mut out = Vec::new();
-        row(&rows[..1], [one(&sums)].into_iter(), &mut out);
+        match line.unwrap().as_str() {
+            "ready" => out.extend(b".\n"),
+            asked => answer(asked, groups.get_or_insert_with(|| sums(&facts)), &rows, &columns, &mut out),
+        }
         std::io::stdout().write_all(&out).unwrap();
-    }
-    for _ in 0..times[3] {
-        let mut out = Vec::new();
-        let cells = many(&sums);
-        row(&rows, (0..rows.len() as u64).map(|i| cells.get(&i).copied()), &mut out);
-        std::io::stdout().write_all(&out).unwrap();
+        std::io::stdout().flush().unwrap();
     }
 }

@@ -6,10 +6,20 @@ set -euo pipefail
 here=$(cd "$(dirname "${BASH_SOURCE[0]}")" && pwd)
 folder=$(mktemp -d)
 trap 'rm -rf "$folder"' EXIT
-mkdir -p "$folder/crates/aggregates/src"
+mkdir -p "$folder/crates/aggregates/src" "$folder/crates/aggregates/proofs/tell_built" "$folder/crates/aggregates/proofs/tell_file"
 cp "$here/../HANDLES" "$here/../LICENSE" "$here/../crates.txt" "$folder"
 cp -r "$here/../crates/." "$folder/crates"
-echo "aggregates: olap_meaning segment_body measure_folds test_samples load_samples" >> "$folder/crates.txt"
+echo "aggregates: olap_meaning olap_catalog segment_body measure_folds fact_reader fact_versions agg_tables test_samples load_samples" >> "$folder/crates.txt"
+for of in "tell_built run_build" "tell_file run_check"; do
+    read -r teller runner <<< "$of"
+    cat > "$folder/crates/aggregates/proofs/$teller/Invariants.antt" <<END_OF_PICK
+-- The counter of the steps is new.
+use Rattle.aggregates.proofs.$teller.Given as goal
+
+abbrev pub ghosts-$runner : goal.ghosts-$runner
+ghosts-$runner a = record { name = a.blank.name; parts = a.blank.parts }
+END_OF_PICK
+done
 cat > "$folder/crates/aggregates/src/main.rt" <<'END_OF_PROGRAM'
 //! Builds and checks aggregate tables, and runs loads. Its input is a line with what is to be done and how often; and behind it,
 //! parted by lines with an equals sign, the schema, two tables of dimensions, two batches, and a file of an aggregate table. The
@@ -17,16 +27,81 @@ cat > "$folder/crates/aggregates/src/main.rt" <<'END_OF_PROGRAM'
 //! TABLES are the tables that the load may read, each with the version over which it is built, as `0@1`, or `-` for none.
 #![tactic(auto)]
 
-use load_samples::cases::{tell_built, tell_file};
+ghost use Rattle.std.specs.Prelude.{◌≡◌, ◌<◌, IfSome, IsTrue, length};
+ghost use Rattle.olap_meaning.specs.Catalog.{table_cube};
+ghost use Rattle.fact_reader.specs.BodyRows.{are_batches};
+
+use agg_tables::{AggFault, AggTable, check};
+use fact_versions::{Snapshot, Steps};
 use load_samples::headers::{header_in, places_in};
 use load_samples::runs::{Loaded, built_tables, load};
+use load_samples::tables::{is_table, run_build};
 use measure_folds::Tally;
+use olap_catalog::Catalog;
 use olap_meaning::{CellValue, plain_text};
-use std::alloc::Global;
+use std::alloc::{AllocError, Global};
 use std::io::Read;
+use std::marker::Brand;
+use std::sync::ledger::{Blank, Ledger};
 use std::test::Fail;
 use test_samples::lines::{number, words};
 use test_samples::sales::Sales;
+
+fn run_check<L: Ledger>(
+    alloc: Global,
+    catalog: &Catalog,
+    table: u32,
+    bytes: &[u8],
+    snapshot: &Snapshot,
+    blank: Blank,
+) -> Result<AggTable, AggFault>
+    requires name { blank.name ≡ L.name }
+    requires parts { blank.parts ≡ L.parts }
+    requires one { blank.parts ≡ 1 }
+    requires known { table < length catalog.now.schema.aggregates }
+    requires fit { IfSome (table_cube catalog.now table)
+        (λ cube. IsTrue (are_batches catalog.now cube snapshot.now)) }
+{
+    let mut steps: Steps<L> = Steps::new(blank);
+    check(alloc, catalog, table, bytes, snapshot, &mut steps)
+}
+
+// What is told of a table.
+fn table_text(alloc: Global, table: &AggTable) -> Result<String, AllocError> {
+    let place = table.table();
+    let version = table.version().0;
+    format!(in alloc; "{} groups of table {place} in version {version}", table.groups())
+}
+
+// What is told of a file that is checked against a table over a version.
+fn tell_file(
+    alloc: Global,
+    sales: &Sales,
+    version: u32,
+    table: u32,
+    file: &[u8],
+) -> Result<String, Fail> {
+    if !is_table(sales.catalog(), table) {
+        return Err(Fail::from("no table"));
+    }
+    let snapshot = sales.snapshot(version)?;
+    match run_check::<Brand>(alloc, sales.catalog(), table, file, &snapshot, Blank::new(1)) {
+        Ok(table) => Ok(table_text(alloc, &table)?),
+        Err(fault) => Ok(format!(in alloc; "{fault}")?),
+    }
+}
+
+// What is told of a table that is built over a version.
+fn tell_built(alloc: Global, sales: &Sales, version: u32, table: u32) -> Result<String, Fail> {
+    if !is_table(sales.catalog(), table) {
+        return Err(Fail::from("no table"));
+    }
+    let snapshot = sales.snapshot(version)?;
+    match run_build::<Brand>(alloc, sales.catalog(), table, &snapshot, Blank::new(1)) {
+        Ok(table) => Ok(table_text(alloc, &table)?),
+        Err(_) => Err(Fail::from("no memory")),
+    }
+}
 
 fn part(text: &str) -> Result<(&str, &str), Fail> {
     match text.split_once("=\n") {

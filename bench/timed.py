@@ -34,6 +34,50 @@ def run_on_files(words, given):
     return seconds, used.ru_utime + used.ru_stime, text
 
 
+class Talk:
+    """A program that is given its lines one at a time. Its output is a file, so that no reader of the output is waited for."""
+
+    def __init__(self, words):
+        self.told, self.faults = open("told", "w+b"), open("faults", "w+b")
+        self.ran = subprocess.Popen(words, stdin=subprocess.PIPE, stdout=self.told, stderr=self.faults)
+        self.begun = 0
+
+    def of_tasks(self, file):
+        """A file that the system has of each thread."""
+        tasks = f"/proc/{self.ran.pid}/task"
+        for task in os.listdir(tasks):
+            with open(f"{tasks}/{task}/{file}") as it:
+                yield it.read()
+
+    def busy(self):
+        """The seconds that the threads that there are were busy, to the nanosecond."""
+        return sum(int(it.split()[0]) for it in self.of_tasks("schedstat")) / 1e9
+
+    def waits(self):
+        return all(it.rsplit(")", 1)[1].split()[0] == "S" for it in self.of_tasks("stat"))
+
+    def ask(self, line, end=".\n"):
+        """Gives a line, waits until the reply ends so and the program waits for more, and returns the seconds that it was busy, and the reply."""
+        before = self.busy()
+        self.ran.stdin.write(line.encode())
+        self.ran.stdin.flush()
+        while True:
+            if self.ran.poll() is not None:
+                self.faults.seek(0)
+                sys.exit(f"{line}: status {self.ran.returncode}\n{self.faults.read().decode()}")
+            size = os.fstat(self.told.fileno()).st_size
+            if size > self.begun and os.pread(self.told.fileno(), len(end), size - len(end)) == end.encode() and self.waits():
+                break
+            time.sleep(0.0005)
+        told = os.pread(self.told.fileno(), size - self.begun, self.begun).decode()
+        self.begun = size
+        return self.busy() - before, told
+
+    def end(self):
+        self.ran.stdin.close()
+        self.ran.wait()
+
+
 def busy(words, given):
     """The seconds that processors were busy in a run, over all of its threads: the best of three."""
     taken = []

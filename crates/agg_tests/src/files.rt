@@ -32,16 +32,6 @@ pub fn last_sales() -> &'static [u8] {
     b"time_id,store_id,units\n3,3,4\n"
 }
 
-/// A header that is not UTF-8.
-pub fn odd_header() -> &'static [u8] {
-    b"year,fact_count,units_sum,\xff\n1997,3,15,\n1998,1,,\n"
-}
-
-/// A record that is not.
-pub fn odd_record() -> &'static [u8] {
-    b"year,fact_count,units_sum,more\n1997,3,15,\n1998,1,,\xff\n"
-}
-
 /// And one more: a row above and a row below what was there in their cities.
 pub fn wider_sales() -> &'static [u8] {
     b"time_id,store_id,units\n1,1,9\n2,2,-6\n"

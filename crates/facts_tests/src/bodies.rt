@@ -1,5 +1,5 @@
 //! Rows by year, quarter, customer and units, and what the cells over them are worth.
-ghost use Rattle.std.specs.Prelude.{◌≤◌, IfOk, IsTrue, length, map};
+ghost use Rattle.std.specs.Prelude.{◌≡◌, ◌≤◌, [], IfOk, IsTrue, length, map};
 ghost use Rattle.olap_meaning.specs.Legal.{rise};
 
 use crate::headers::{no_memory, years_and_quarters};
@@ -12,6 +12,20 @@ use segment_header::{covers, is_allowed, same_columns};
 use std::alloc::Global;
 use std::test::Fail;
 
+/// Adds rows, each a year, a quarter and a number, to a body of none, but for those that its header does not allow.
+fn fill(body: &mut Body, rows: &[(u32, u32, Option<i64>)]) -> Result<(), OutOfMemory>
+    requires none { body.old.rows ≡ [] }
+    requires few { length rows.now ≤ 100 }
+{
+    for (year, quarter, number) in rows {
+        let values = [ValueId(*year), ValueId(*quarter)];
+        if is_allowed(body.header(), &values) {
+            body.add(&values, *number)?;
+        }
+    }
+    Ok(())
+}
+
 /// The body of rows, each a year, a quarter and a number, but for those that its header does not allow.
 fn body_of(
     alloc: Global,
@@ -21,12 +35,7 @@ fn body_of(
     requires { length rows.now ≤ 100 }
 {
     let mut body = Body::new(alloc, years_and_quarters(alloc)?, aggregator)?;
-    for (year, quarter, number) in rows {
-        let values = [ValueId(*year), ValueId(*quarter)];
-        if is_allowed(body.header(), &values) {
-            body.add(&values, *number)?;
-        }
-    }
+    fill(&mut body, rows)?;
     Ok(body)
 }
 
@@ -67,6 +76,16 @@ fn rows_at(body: &Body, year: u32, quarter: u32) -> Option<u32> {
     }
 }
 
+/// What a body is worth in the year 0 by its quarters, and then in the year 1.
+fn worths_in(alloc: Global, body: &Body) -> Result<[Option<CellValue>; 4], OutOfMemory> {
+    Ok([
+        worth(alloc, body, 0, 0)?,
+        worth(alloc, body, 0, 1)?,
+        worth(alloc, body, 1, 0)?,
+        worth(alloc, body, 1, 1)?,
+    ])
+}
+
 /// What four rows are worth in the year 0 by its quarters, and then in the year 1.
 fn worths(
     alloc: Global,
@@ -74,12 +93,7 @@ fn worths(
     rows: &[(u32, u32, Option<i64>); 4],
 ) -> Result<[Option<CellValue>; 4], OutOfMemory> {
     let body = body_of(alloc, aggregator, rows)?;
-    Ok([
-        worth(alloc, &body, 0, 0)?,
-        worth(alloc, &body, 0, 1)?,
-        worth(alloc, &body, 1, 0)?,
-        worth(alloc, &body, 1, 1)?,
-    ])
+    worths_in(alloc, &body)
 }
 
 /// An aggregator with what it makes of the cells of `worths`.

@@ -56,16 +56,21 @@ fn an_average_is_of_the_rows_and_not_of_averages(rt: HostRuntime) -> Result<(), 
     Ok(())
 }
 
-/// What five rows are worth at one value of a column, by each aggregator but the distinct count.
+/// What some rows are worth at one value of a column, by each aggregator but the distinct count.
+fn folds_of(alloc: Global, rows: &[SampleRow], split: (u16, u32)) -> Result<[CellValue; 5], Fail> {
+    Ok([
+        folds_at_value(alloc, Aggregator::Sum, rows, split)?,
+        folds_at_value(alloc, Aggregator::Count, rows, split)?,
+        folds_at_value(alloc, Aggregator::Min, rows, split)?,
+        folds_at_value(alloc, Aggregator::Max, rows, split)?,
+        folds_at_value(alloc, Aggregator::Avg, rows, split)?,
+    ])
+}
+
+/// The same of five rows.
 fn at_value(alloc: Global, split: (u16, u32)) -> Result<[CellValue; 5], Fail> {
     let rows = rows_in(alloc, "0,0:5 0,0:7 0,1:3 1,0:- 2,1:8")?;
-    Ok([
-        folds_at_value(alloc, Aggregator::Sum, &rows, split)?,
-        folds_at_value(alloc, Aggregator::Count, &rows, split)?,
-        folds_at_value(alloc, Aggregator::Min, &rows, split)?,
-        folds_at_value(alloc, Aggregator::Max, &rows, split)?,
-        folds_at_value(alloc, Aggregator::Avg, &rows, split)?,
-    ])
+    folds_of(alloc, &rows, split)
 }
 
 #[test]
@@ -95,27 +100,49 @@ fn cells_of(alloc: Global, column: u16, values: u32) -> Result<Vec<Cell>, Fail> 
     Ok(cells)
 }
 
+/// What the cells of one column are worth over some rows.
+fn column_worths(
+    alloc: Global,
+    aggregator: Aggregator,
+    rows: &[SampleRow],
+    column: u16,
+    values: u32,
+) -> Result<Vec<CellValue>, Fail> {
+    let cells = cells_of(alloc, column, values)?;
+    worths_of(alloc, aggregator, 2, rows, &cells)
+}
+
+/// How many cells of a column are told of, over rows that are drawn.
+fn told_count(alloc: Global) -> Result<usize, Fail> {
+    let rows = drawn_rows(alloc, 7, 3_000, (1_000, 4))?;
+    let worths = column_worths(alloc, Aggregator::Sum, &rows, 0, 1_000)?;
+    Ok(worths.len())
+}
+
 #[test]
 fn a_thousand_cells_are_folded_in_one_pass(rt: HostRuntime) -> Result<(), Fail> {
-    let alloc = rt.alloc();
-    let rows = drawn_rows(alloc, 7, 3_000, (1_000, 4))?;
-    let cells = cells_of(alloc, 0, 1_000)?;
-    let worths = worths_of(alloc, Aggregator::Sum, 2, &rows, &cells)?;
-    assert_eq!(rt; worths.len(), 1_000);
+    assert_eq!(rt; told_count(rt.alloc())?, 1_000);
     Ok(())
 }
 
+/// How many cells of one column are not empty.
+fn some_of(
+    alloc: Global,
+    aggregator: Aggregator,
+    rows: &[SampleRow],
+    column: u16,
+    values: u32,
+) -> Result<usize, Fail> {
+    let worths = column_worths(alloc, aggregator, rows, column, values)?;
+    Ok(worths.iter().filter(|worth| **worth != Empty).count())
+}
+
 /// How many of the cells of either column are not empty, over rows that are drawn.
-fn drawn(alloc: Global, aggregator: Aggregator, seed: u64) -> Result<u32, Fail> {
+fn drawn(alloc: Global, aggregator: Aggregator, seed: u64) -> Result<usize, Fail> {
     let rows = drawn_rows(alloc, seed, 200, (40, 3))?;
-    let mut some: u32 = 0;
-    for (column, values) in [(0, 45), (1, 4)] {
-        let cells = cells_of(alloc, column, values)?;
-        for worth in worths_of(alloc, aggregator, 2, &rows, &cells)? {
-            some = some.saturating_add(u32::from(worth != Empty));
-        }
-    }
-    Ok(some)
+    let first = some_of(alloc, aggregator, &rows, 0, 45)?;
+    let second = some_of(alloc, aggregator, &rows, 1, 4)?;
+    Ok(first.saturating_add(second))
 }
 
 #[test]
@@ -148,21 +175,32 @@ fn wide_row(alloc: Global, value: u32, last: u32, number: i64) -> Result<SampleR
     })
 }
 
-/// What 65 columns with these values are worth over three rows.
-fn wide_worth(alloc: Global, value: u32, last: u32) -> Result<CellValue, Fail> {
-    let rows = [
-        wide_row(alloc, 1, 2, 10)?,
-        wide_row(alloc, 1, 3, 20)?,
-        wide_row(alloc, 1, 2, 30)?,
-    ];
+/// Three rows of 65 columns.
+fn wide_rows(alloc: Global) -> Result<Vec<SampleRow>, Fail> {
+    let mut rows = Vec::new(alloc);
+    for (last, number) in [(2, 10), (3, 20), (2, 30)] {
+        rows.push(wide_row(alloc, 1, last, number)?)?;
+    }
+    Ok(rows)
+}
+
+/// The cell of 65 columns with these values.
+fn wide_cell(alloc: Global, value: u32, last: u32) -> Result<Cell, Fail> {
     let mut at = Vec::new(alloc);
     for column in 0..64 {
         at.push((column, value))?;
     }
     at.push((64, last))?;
-    let Ok(cell) = cell_at(alloc, &at) else {
-        return Err(Fail::from("no memory"));
-    };
+    match cell_at(alloc, &at) {
+        Ok(cell) => Ok(cell),
+        Err(_) => Err(Fail::from("no memory")),
+    }
+}
+
+/// What 65 columns with these values are worth over three rows.
+fn wide_worth(alloc: Global, value: u32, last: u32) -> Result<CellValue, Fail> {
+    let rows = wide_rows(alloc)?;
+    let cell = wide_cell(alloc, value, last)?;
     worth_of_all_columns(alloc, Aggregator::DistinctCount, 65, &rows, &cell)
 }
 

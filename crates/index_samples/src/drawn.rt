@@ -143,6 +143,28 @@ fn compared<A: CacheShelf, B: CacheShelf>(
     Ok(counts)
 }
 
+// Puts drawn loads on two shelves, and looks for drawn cells, before and after drawn regions are shut off.
+fn play_on<A: CacheShelf, B: CacheShelf>(
+    alloc: Global,
+    index: &mut A,
+    plain: &mut B,
+    seed: u64,
+    loads: u32,
+    cells: u32,
+    regions: u32,
+) -> Result<[Counts; 2], Fail>
+    requires index { A.has_places index.old [] }
+    requires plain { B.has_places plain.old [] }
+{
+    fill(alloc, index, seed, loads)?;
+    fill(alloc, plain, seed, loads)?;
+    let before = compared(alloc, index, plain, seed, cells)?;
+    shut_drawn(alloc, index, seed, regions)?;
+    shut_drawn(alloc, plain, seed, regions)?;
+    let after = compared(alloc, index, plain, seed, cells)?;
+    Ok([before, after])
+}
+
 /// Puts drawn loads into an index and on the plain shelf, and looks for drawn cells, before and after drawn regions are shut
 /// off. It says what was found each time, where the shelves agree.
 pub fn play_drawn(
@@ -154,11 +176,5 @@ pub fn play_drawn(
 ) -> Result<[Counts; 2], Fail> {
     let mut index = SegmentIndex::new(alloc);
     let mut plain = PlainShelf::new(alloc);
-    fill(alloc, &mut index, seed, loads)?;
-    fill(alloc, &mut plain, seed, loads)?;
-    let before = compared(alloc, &index, &plain, seed, cells)?;
-    shut_drawn(alloc, &mut index, seed, regions)?;
-    shut_drawn(alloc, &mut plain, seed, regions)?;
-    let after = compared(alloc, &index, &plain, seed, cells)?;
-    Ok([before, after])
+    play_on(alloc, &mut index, &mut plain, seed, loads, cells, regions)
 }

@@ -129,6 +129,27 @@ fn count_cells(
     Ok(())
 }
 
+// Shuts drawn regions off, and counts drawn cells after each.
+fn shut_each(
+    alloc: Global,
+    shuts: &mut Shuts,
+    state: &mut u64,
+    named: Option<u16>,
+    many: u32,
+    steps: [u32; 2],
+    lives: &mut Lives,
+) -> Result<(), Fail>
+    requires { 0 < many }
+{
+    let [regions, cells] = steps;
+    for _ in 0..regions {
+        let region = drawn_region(alloc, state, named, many).map_err(no_memory)?;
+        shut_off(alloc, shuts, region)?;
+        count_cells(alloc, shuts, state, cells, lives)?;
+    }
+    Ok(())
+}
+
 /// Shuts drawn regions off part of a load, and says after each of drawn cells whether they are live. Each box of each region
 /// names a column, if one is given, and has fewer than so many boxes. The steps tell how many regions there are, and how many
 /// cells are drawn after each.
@@ -141,15 +162,12 @@ pub fn play_shuts(
 ) -> Result<Lives, Fail>
     requires { 0 < many }
 {
-    let [regions, cells] = steps;
     let mut shuts = no_shuts(alloc)?;
     let mut state = seed;
     let mut lives = Lives { live: 0, shut: 0 };
-    for _ in 0..regions {
-        let region = drawn_region(alloc, &mut state, named, many).map_err(no_memory)?;
-        shut_off(alloc, &mut shuts, region)?;
-        count_cells(alloc, &shuts, &mut state, cells, &mut lives)?;
-    }
+    shut_each(
+        alloc, &mut shuts, &mut state, named, many, steps, &mut lives,
+    )?;
     Ok(lives)
 }
 
@@ -168,18 +186,33 @@ fn region_from(alloc: Global, first: u32, count: u32) -> Result<Region, OutOfMem
     })
 }
 
+// Shuts a region of 60 boxes off, each with another value of one column, from a multiple of 60 on. It is said of one value of
+// the region whether it is live, and of one beside all such regions.
+fn shut_values(alloc: Global, shuts: &mut Shuts, i: u32, lives: &mut Lives) -> Result<(), Fail>
+    requires { i < 25 }
+{
+    let region = region_from(alloc, i * 60, 60).map_err(no_memory)?;
+    shut_off(alloc, shuts, region)?;
+    for value in [i * 60 + i, 1_500] {
+        let cell = cell_of(alloc, (0, 0), &[(0, value)]).map_err(no_memory)?;
+        count(lives, is_live(shuts, &cell)?);
+    }
+    Ok(())
+}
+
+// The same for 25 regions, one after another.
+fn shut_many(alloc: Global, shuts: &mut Shuts, lives: &mut Lives) -> Result<(), Fail> {
+    for i in 0..25 {
+        shut_values(alloc, shuts, i, lives)?;
+    }
+    Ok(())
+}
+
 /// Shuts regions of 60 boxes off part of a load, 25 one after another, each box with another value of one column. It is said of
 /// one value of each region whether it is live, and of one beside them all.
 pub fn play_many_values(alloc: Global) -> Result<Lives, Fail> {
     let mut shuts = no_shuts(alloc)?;
     let mut lives = Lives { live: 0, shut: 0 };
-    for i in 0..25 {
-        let region = region_from(alloc, i * 60, 60).map_err(no_memory)?;
-        shut_off(alloc, &mut shuts, region)?;
-        for value in [i * 60 + i, 1_500] {
-            let cell = cell_of(alloc, (0, 0), &[(0, value)]).map_err(no_memory)?;
-            count(&mut lives, is_live(&shuts, &cell)?);
-        }
-    }
+    shut_many(alloc, &mut shuts, &mut lives)?;
     Ok(lives)
 }

@@ -3,8 +3,8 @@ ghost use Rattle.std.specs.Prelude.{◌≡◌, ◌+◌, All, IfOk, IsTrue, OnOk}
 ghost use Rattle.segment_header.specs.Headers.{is_header as holds_header};
 ghost use Rattle.agg_tables.specs.Costs.{IsTableOver};
 
-use crate::cases::{is_table, run_build};
 use crate::headers::{is_loadable, no_memory};
+use crate::tables::{is_table, run_build};
 use agg_tables::AggTable;
 use fact_versions::Steps;
 use olap_meaning::{CubeId, Header, Who};

@@ -17,17 +17,29 @@ fn copy(alloc: Global, bytes: &[u8]) -> Result<List<u8>, OutOfMemory> {
     Ok(List::from_vec(Vec::from_slice(alloc, bytes)?))
 }
 
-/// A depot of these files.
-pub(crate) fn depot(
+// Adds files to those that a depot is to hold.
+fn hold(
     alloc: Global,
+    held: &mut List<(Text, List<u8>)>,
     files: &Stored,
-    failing: Option<u64>,
-) -> Result<MemoryDepot, OutOfMemory> {
-    let mut held = List::new(alloc);
+) -> Result<(), OutOfMemory> {
     for (name, bytes) in files {
         let name = Text::from_str(alloc, name.as_str())?;
         held.push((name, copy(alloc, bytes.as_slice())?))?;
     }
+    Ok(())
+}
+
+/// A depot of these files, and of more.
+pub(crate) fn depot(
+    alloc: Global,
+    files: &Stored,
+    more: &Stored,
+    failing: Option<u64>,
+) -> Result<MemoryDepot, OutOfMemory> {
+    let mut held = List::new(alloc);
+    hold(alloc, &mut held, files)?;
+    hold(alloc, &mut held, more)?;
     Ok(MemoryDepot::new(held, calls(alloc, failing)?))
 }
 

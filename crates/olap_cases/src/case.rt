@@ -1,7 +1,7 @@
 //! A case: what stands around a run, and what is to come of it.
 //!
-//! A case is an object. It has a `name`, and may have `words` and `files` of its own, in place of its group's; an `input`,
-//! a content; `cuts`, each the most bytes that a read gives, 0 for no limit: the case is carried out once for each; the
+//! A case is an object. It has a `name`, and may have `words` and `files` of its own, in place of its group's; `more` files,
+//! beside these; an `input`, a content; `cuts`, each the most bytes that a read gives, 0 for no limit: the case is carried out once for each; the
 //! `room` of the output in bytes; and the numbers, from 0, of a `fetch`, a `read` and a `write` that fails. It wants a
 //! `status`, 0 where none is named; what is `written`, a content; and where a history is there, how many `entries` it has
 //! and how many `rows` the versions of its Starts have, 0 where they are not named. Words are a text that is parted at
@@ -23,6 +23,7 @@ pub(crate) type Stored = Vec<(String, Vec<u8>)>;
 pub(crate) struct Case {
     pub words: Words,
     pub files: Option<Stored>,
+    pub more: Stored,
     pub input: Vec<u8>,
     pub cuts: Vec<u64>,
     pub room: Option<u64>,
@@ -116,6 +117,14 @@ fn files_at(rt: &(impl Files + AllocGlobal), object: &Value) -> Result<Option<St
     }
 }
 
+// The files of a case beside those.
+fn more_at(rt: &(impl Files + AllocGlobal), object: &Value) -> Result<Stored> {
+    match object.get("more") {
+        Some(files) => files_of(rt, files),
+        None => Ok(Vec::new(rt.alloc())),
+    }
+}
+
 // What a case says in numbers.
 #[derive(Clone, Copy)]
 struct Numbers {
@@ -142,6 +151,7 @@ fn case_of(
     object: &Value,
     words: Words,
     files: Option<Stored>,
+    more: Stored,
 ) -> Result<Case> {
     let input = bytes_at(rt, object, "input")?;
     let cuts = cuts_of(rt.alloc(), object)?;
@@ -149,6 +159,7 @@ fn case_of(
     Ok(Case {
         words,
         files,
+        more,
         input,
         cuts,
         room: numbers.room,
@@ -168,5 +179,6 @@ pub(crate) fn read_case(
 ) -> Result<Case> {
     let words = words_at(rt.alloc(), object, words)?;
     let files = files_at(rt, object)?;
-    case_of(rt, object, words, files)
+    let more = more_at(rt, object)?;
+    case_of(rt, object, words, files, more)
 }

@@ -74,7 +74,7 @@ fn difference_at(
     most: u64,
 ) -> Result<Option<String>> {
     let most = if most == 0 { None } else { Some(most as usize) };
-    let mut depot = depot(rt.alloc(), files, case.fetch).map_err(no_memory)?;
+    let mut depot = depot(rt.alloc(), files, &case.more, case.fetch).map_err(no_memory)?;
     difference_over(rt, tools, case, &mut depot, most)
 }
 

@@ -1,5 +1,6 @@
 //! Grids of answers to queries, and what is read back of them.
 ghost use Rattle.std.specs.Prelude.{IsTrue};
+ghost use Rattle.query_meaning.specs.OwnAxes.{AreAxesOf};
 ghost use Rattle.result_layout.specs.Axes.{IsAnswerTo};
 
 use crate::queries::asked;
@@ -7,7 +8,7 @@ use grid_reader::read_grid;
 use history_core::Answer;
 use olap_catalog::Catalog;
 use olap_meaning::{OutOfMemory, Text, plain_text};
-use query_meaning::{Axes, GridRow};
+use query_meaning::{Axes, Grid, GridRow};
 use result_layout::grid;
 use shown_values::Formatter;
 use std::alloc::Global;
@@ -24,6 +25,22 @@ fn is_whole(axes: &Axes, answer: &Answer) -> bool
     rows.checked_mul(axes.columns.tuples.len()) == Some(answer.cells.len())
 }
 
+// The grid of an answer over axes, where it has a cell for each row and column.
+fn laid_over(
+    alloc: Global,
+    catalog: &Catalog,
+    axes: &Axes,
+    answer: &Answer,
+    formatter: &Formatter,
+) -> Result<Result<Text, OutOfMemory>, Fail>
+    requires { AreAxesOf catalog.now axes.now }
+{
+    if !is_whole(axes, answer) {
+        return Err(Fail::from("not as many cells"));
+    }
+    Ok(grid(alloc, catalog, axes, answer, formatter))
+}
+
 /// The grid of an answer to a query, where it has a cell for each row and column.
 pub fn laid_out(
     alloc: Global,
@@ -33,12 +50,7 @@ pub fn laid_out(
     formatter: &Formatter,
 ) -> Result<Result<Text, OutOfMemory>, Fail> {
     match asked(alloc, catalog, query)? {
-        Ok(axes) => {
-            if !is_whole(&axes, answer) {
-                return Err(Fail::from("not as many cells"));
-            }
-            Ok(grid(alloc, catalog, &axes, answer, formatter))
-        }
+        Ok(axes) => laid_over(alloc, catalog, &axes, answer, formatter),
         Err(_) => Err(Fail::from("no axes")),
     }
 }
@@ -55,19 +67,40 @@ fn add_row(alloc: Global, text: &mut String, row: &GridRow) -> Result<(), OutOfM
     Ok(())
 }
 
+fn add_titles(alloc: Global, text: &mut String, titles: &[Text]) -> Result<(), OutOfMemory> {
+    for title in titles {
+        text.push_str(format!(in alloc; "C\t{title}\n")?.as_str())?;
+    }
+    Ok(())
+}
+
+fn add_rows(alloc: Global, text: &mut String, rows: &[GridRow]) -> Result<(), OutOfMemory> {
+    for row in rows {
+        add_row(alloc, text, row)?;
+    }
+    Ok(())
+}
+
+fn add_grid(alloc: Global, text: &mut String, grid: &Grid) -> Result<(), OutOfMemory> {
+    let (columns, rows) = (grid.columns.as_slice(), grid.rows.as_slice());
+    let head = format!(in alloc; "GRID {} {} {}\n", grid.position, columns.len(), rows.len())?;
+    text.push_str(head.as_str())?;
+    add_titles(alloc, text, columns)?;
+    add_rows(alloc, text, rows)?;
+    text.push_str(".\n")?;
+    Ok(())
+}
+
+fn grid_text(alloc: Global, grid: &Grid) -> Result<String, OutOfMemory> {
+    let mut text = String::new(alloc);
+    add_grid(alloc, &mut text, grid)?;
+    Ok(text)
+}
+
 /// What is read back of a grid, as the grid that shows each value plainly; None where the text is no grid.
 pub fn told_grid(alloc: Global, text: &[u8]) -> Result<Option<String>, OutOfMemory> {
-    let Ok(grid) = read_grid(alloc, text) else {
-        return Ok(None);
-    };
-    let (columns, rows) = (grid.columns.as_slice(), grid.rows.as_slice());
-    let mut told = format!(in alloc; "GRID {} {} {}\n", grid.position, columns.len(), rows.len())?;
-    for title in columns {
-        told.push_str(format!(in alloc; "C\t{title}\n")?.as_str())?;
+    match read_grid(alloc, text) {
+        Ok(grid) => Ok(Some(grid_text(alloc, &grid)?)),
+        Err(_) => Ok(None),
     }
-    for row in rows {
-        add_row(alloc, &mut told, row)?;
-    }
-    told.push_str(".\n")?;
-    Ok(Some(told))
 }

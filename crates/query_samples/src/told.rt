@@ -11,7 +11,25 @@ use std::alloc::{AllocError, Global};
 use std::test::Fail;
 use test_samples::lines;
 
-// The titles of tuples, a semicolon between each two.
+// Adds the titles of tuples, a semicolon between each two.
+fn add_titles(
+    alloc: Global,
+    catalog: &Catalog,
+    cube: CubeId,
+    tuples: &[List<Member>],
+    text: &mut String,
+) -> Result<(), OutOfMemory>
+    requires { AreTuplesOf catalog.now cube tuples.now }
+{
+    let mut between = "";
+    for tuple in tuples {
+        text.push_str(between)?;
+        text.push_str(tuple_title(alloc, catalog, cube, tuple.as_slice())?.as_str())?;
+        between = "; ";
+    }
+    Ok(())
+}
+
 fn titles(
     alloc: Global,
     catalog: &Catalog,
@@ -21,12 +39,7 @@ fn titles(
     requires { AreTuplesOf catalog.now cube tuples.now }
 {
     let mut text = String::new(alloc);
-    let mut between = "";
-    for tuple in tuples {
-        text.push_str(between)?;
-        text.push_str(tuple_title(alloc, catalog, cube, tuple.as_slice())?.as_str())?;
-        between = "; ";
-    }
+    add_titles(alloc, catalog, cube, tuples, &mut text)?;
     Ok(text)
 }
 
@@ -97,12 +110,17 @@ fn told_cells(alloc: Global, cells: &[Cell]) -> Result<String, AllocError> {
     Ok(text)
 }
 
+// The cells of axes.
+fn cells_over(alloc: Global, catalog: &Catalog, axes: &Axes) -> Result<String, Fail>
+    requires { AreAxesOf catalog.now axes.now }
+{
+    let cells = cells(alloc, catalog, axes)?;
+    Ok(told_cells(alloc, cells.as_slice())?)
+}
+
 fn cells_of(alloc: Global, catalog: &Catalog, query: &str) -> Result<String, Fail> {
     match asked(alloc, catalog, query)? {
-        Ok(axes) => {
-            let cells = cells(alloc, catalog, &axes)?;
-            Ok(told_cells(alloc, cells.as_slice())?)
-        }
+        Ok(axes) => cells_over(alloc, catalog, &axes),
         Err(fault) => told_fault(alloc, &fault),
     }
 }

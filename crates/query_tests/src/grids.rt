@@ -257,7 +257,7 @@ fn grids_are_laid_out_and_read_back(rt: HostRuntime) -> Result<(), Fail> {
 }
 
 #[test]
-fn each_formatter_shows_the_same_grid(rt: HostRuntime) -> Result<(), Fail> {
+fn the_plain_formatter_shows_a_grid(rt: HostRuntime) -> Result<(), Fail> {
     let alloc = rt.alloc();
     let plainly: Showing = Box::new(
         alloc,
@@ -266,7 +266,12 @@ fn each_formatter_shows_the_same_grid(rt: HostRuntime) -> Result<(), Fail> {
             ensures { IfOk result (Shows shown.now) }
         { shown_plainly(alloc, shown) },
     )?;
-    show_formatted(alloc, &Formatter::new(plainly), PLAINLY)?;
+    show_formatted(alloc, &Formatter::new(plainly), PLAINLY)
+}
+
+#[test]
+fn a_formatter_with_commas_shows_the_same_grid(rt: HostRuntime) -> Result<(), Fail> {
+    let alloc = rt.alloc();
     let thousands: Showing = Box::new(
         alloc,
         move |shown: &CellValue| -> Result<Text, OutOfMemory>
@@ -274,7 +279,12 @@ fn each_formatter_shows_the_same_grid(rt: HostRuntime) -> Result<(), Fail> {
             ensures { IfOk result (Shows shown.now) }
         { shown_with_commas(alloc, shown) },
     )?;
-    show_formatted(alloc, &Formatter::new(thousands), WITH_COMMAS)?;
+    show_formatted(alloc, &Formatter::new(thousands), WITH_COMMAS)
+}
+
+#[test]
+fn a_formatter_with_spaces_shows_the_same_grid(rt: HostRuntime) -> Result<(), Fail> {
+    let alloc = rt.alloc();
     let spaced: Showing = Box::new(
         alloc,
         move |shown: &CellValue| -> Result<Text, OutOfMemory>
@@ -341,20 +351,36 @@ fn many_values(alloc: Global) -> Result<Vec<String>, OutOfMemory> {
     Ok(values)
 }
 
-// The grid of many cells, line by line.
-fn many_lines(alloc: Global, values: &[String]) -> Result<String, OutOfMemory> {
-    let mut text = String::from_str(alloc, "GRID 1 100 1000\n")?;
+// Adds a row of many cells.
+fn add_row(text: &mut String, row: &[String]) -> Result<(), OutOfMemory> {
+    text.push_str("R\t[Time].[1997]")?;
+    for value in row {
+        text.push_str("\t")?;
+        text.push_str(value.as_str())?;
+    }
+    text.push_str("\n")?;
+    Ok(())
+}
+
+fn add_columns(text: &mut String) -> Result<(), OutOfMemory> {
     for _ in 0..WIDTH {
         text.push_str("C\t[Measures].[Units]\n")?;
     }
+    Ok(())
+}
+
+fn add_rows(text: &mut String, values: &[String]) -> Result<(), OutOfMemory> {
     for row in values.chunks(WIDTH) {
-        text.push_str("R\t[Time].[1997]")?;
-        for value in row {
-            text.push_str("\t")?;
-            text.push_str(value.as_str())?;
-        }
-        text.push_str("\n")?;
+        add_row(text, row)?;
     }
+    Ok(())
+}
+
+// The grid of many cells, line by line.
+fn many_lines(alloc: Global, values: &[String]) -> Result<String, OutOfMemory> {
+    let mut text = String::from_str(alloc, "GRID 1 100 1000\n")?;
+    add_columns(&mut text)?;
+    add_rows(&mut text, values)?;
     text.push_str(".\n")?;
     Ok(text)
 }

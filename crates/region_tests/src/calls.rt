@@ -68,6 +68,26 @@ fn united(
 }
 
 // The crossjoin or the union of two members.
+fn made_of(
+    alloc: Global,
+    catalog: &Catalog,
+    cube: CubeId,
+    call: &str,
+    first: &Member,
+    second: &Member,
+) -> Result<Region, RegionFault>
+    requires known { cube < length catalog.now.cubes }
+    requires first { IsMemberOf catalog.now cube first.now }
+    requires second { IsMemberOf catalog.now cube second.now }
+{
+    if call == "union" {
+        united(alloc, catalog, cube, first, second)
+    } else {
+        crossed(alloc, catalog, cube, first, second)
+    }
+}
+
+// The same of members by their paths.
 fn made(
     alloc: Global,
     catalog: &Catalog,
@@ -79,11 +99,7 @@ fn made(
 {
     let first = member_of(alloc, catalog, cube, paths.0)?;
     let second = member_of(alloc, catalog, cube, paths.1)?;
-    if call == "union" {
-        Ok(united(alloc, catalog, cube, &first, &second))
-    } else {
-        Ok(crossed(alloc, catalog, cube, &first, &second))
-    }
+    Ok(made_of(alloc, catalog, cube, call, &first, &second))
 }
 
 // Adds a region, and whether it can be flushed.

@@ -7,7 +7,7 @@ use std::alloc::Global;
 use std::test::Fail;
 use test_samples::files::{schema, stores, times};
 use test_samples::lines::asked;
-use test_samples::open_catalog;
+use test_samples::opened::open_shared;
 
 /// What the lines of a table ask.
 #[derive(Clone, Copy)]
@@ -66,10 +66,8 @@ pub fn told_over(
     asks: Asks,
     table: &str,
 ) -> Result<String, Fail> {
-    match open_catalog(alloc, schema, tables) {
-        None => Err(Fail::from("no catalog")),
-        Some(catalog) => told(alloc, &catalog, asks, table),
-    }
+    let catalog = open_shared(alloc, schema, tables)?;
+    told(alloc, &catalog, asks, table)
 }
 
 /// The same over the sample files.

@@ -15,6 +15,7 @@ use olap_meaning::{Aggregator, Cell, CellValue, ValueId};
 use rollup_plan::Plan;
 use segment_index::SegmentIndex;
 use std::alloc::Global;
+use std::slice;
 use std::test::Fail;
 use test_samples::bodies::{SampleRow, cell_at, worths_of};
 use test_samples::random::Random;
@@ -33,12 +34,14 @@ const AGGREGATORS: [Aggregator; 6] = [
     Aggregator::DistinctCount,
 ];
 
-/// Sales with two batches, and the rows of each version.
+/// How many rows the first batch has, and how many the later one.
+const ROWS: [u32; 2] = [8, 4];
+
+/// Sales with two batches, and the rows of both, those of the first before the others.
 #[derive(Drop)]
 struct World {
     sales: Sales,
-    first: Vec<SampleRow>,
-    all: Vec<SampleRow>,
+    rows: Vec<SampleRow>,
 }
 
 /// How many cells had a plan, how many of these one of several loads, how many had none, and how many of these were of a
@@ -51,53 +54,92 @@ pub struct Counts {
     pub distinct: u32,
 }
 
-// Draws rows, and writes each to a file and to some lists of rows.
+// The units of a row, as a field of its file.
+fn units_text(alloc: Global, number: Option<i64>) -> Result<String, Fail> {
+    match number {
+        Some(number) => Ok(format!(in alloc; "{number}")?),
+        None => Ok(String::new(alloc)),
+    }
+}
+
+// A row of a time, a store and a number.
+fn row_of(alloc: Global, time: u32, store: u32, number: Option<i64>) -> Result<SampleRow, Fail> {
+    let values = [ValueId(time / 2), ValueId(time % 2), ValueId(store)];
+    Ok(SampleRow {
+        values: Vec::from_slice(alloc, &values)?,
+        number,
+    })
+}
+
+// Adds the record of a row to a file.
+fn add_record(
+    alloc: Global,
+    file: &mut String,
+    time: u32,
+    store: u32,
+    number: Option<i64>,
+) -> Result<(), Fail> {
+    let units = units_text(alloc, number)?;
+    let record = format!(in alloc;
+        "{},{},{units}\n",
+        u64::from(time) + 1,
+        u64::from(store) + 1
+    )?;
+    file.push_str(record.as_str())?;
+    Ok(())
+}
+
+// Draws a row, and writes it to a file.
+fn draw_row(alloc: Global, random: &mut Random, file: &mut String) -> Result<SampleRow, Fail> {
+    let (time, store, drawn) = (random.below(3), random.below(3), random.below(40));
+    let number = (drawn < 30).then_some(i64::from(drawn) - 10);
+    add_record(alloc, file, time, store, number)?;
+    row_of(alloc, time, store, number)
+}
+
+// Draws rows, and writes them to a file.
 fn draw_rows(
     alloc: Global,
     random: &mut Random,
     count: u32,
+    rows: &mut Vec<SampleRow>,
     file: &mut String,
-) -> Result<Vec<SampleRow>, Fail> {
-    let mut rows = Vec::new(alloc);
-    file.push_str("time_id,store_id,units\n")?;
+) -> Result<(), Fail> {
     for _ in 0..count {
-        let (time, store, drawn) = (random.below(3), random.below(3), random.below(40));
-        let number = i64::from(drawn) - 10;
-        let known = drawn < 30;
-        let units = if known {
-            format!(in alloc; "{number}")?
-        } else {
-            String::new(alloc)
-        };
-        file.push_str(format!(in alloc; "{},{},{units}\n", time + 1, store + 1)?.as_str())?;
-        let values = [ValueId(time / 2), ValueId(time % 2), ValueId(store)];
-        rows.push(SampleRow {
-            values: Vec::from_slice(alloc, &values)?,
-            number: known.then_some(number),
-        })?;
+        rows.push(draw_row(alloc, random, file)?)?;
     }
-    Ok(rows)
+    Ok(())
 }
 
-fn copy_row(alloc: Global, row: &SampleRow) -> Result<SampleRow, Fail> {
-    Ok(SampleRow {
-        values: Vec::from_slice(alloc, &row.values)?,
-        number: row.number,
-    })
+// The file of a batch of drawn rows.
+fn draw_batch(
+    alloc: Global,
+    random: &mut Random,
+    count: u32,
+    rows: &mut Vec<SampleRow>,
+) -> Result<String, Fail> {
+    let mut file = String::from_str(alloc, "time_id,store_id,units\n")?;
+    draw_rows(alloc, random, count, rows, &mut file)?;
+    Ok(file)
+}
+
+// The sales of two batches that are drawn, whose rows are put into a list.
+fn draw_sales(
+    alloc: Global,
+    random: &mut Random,
+    rows: &mut Vec<SampleRow>,
+) -> Result<Sales, Fail> {
+    let first = draw_batch(alloc, random, ROWS[0], rows)?;
+    let later = draw_batch(alloc, random, ROWS[1], rows)?;
+    let batches = [first.as_bytes(), later.as_bytes()];
+    Sales::open(alloc, schema(), &[times(), stores()], &batches)
 }
 
 // Draws two batches.
 fn draw_world(alloc: Global, random: &mut Random) -> Result<World, Fail> {
-    let mut file = String::new(alloc);
-    let mut later = String::new(alloc);
-    let first = draw_rows(alloc, random, 8, &mut file)?;
-    let mut all = draw_rows(alloc, random, 4, &mut later)?;
-    for row in &first {
-        all.push(copy_row(alloc, row)?)?;
-    }
-    let batches = [file.as_bytes(), later.as_bytes()];
-    let sales = Sales::open(alloc, schema(), &[times(), stores()], &batches)?;
-    Ok(World { sales, first, all })
+    let mut rows = Vec::new(alloc);
+    let sales = draw_sales(alloc, random, &mut rows)?;
+    Ok(World { sales, rows })
 }
 
 // Draws some values of a column.
@@ -191,6 +233,15 @@ fn version_of(steps: &[Step], plan: &Plan) -> Result<u32, Fail> {
     }
 }
 
+// The rows of a version.
+fn rows_of(world: &World, version: u32) -> &[SampleRow] {
+    let first = ROWS[0] as usize;
+    if version == 1 && first < world.rows.len() {
+        return &world.rows[..first];
+    }
+    &world.rows
+}
+
 // What a cell is worth over the rows of a version.
 fn worth_in(
     alloc: Global,
@@ -199,13 +250,14 @@ fn worth_in(
     aggregator: Aggregator,
     at: &[(u16, u32)],
 ) -> Result<CellValue, Fail> {
-    let rows = if version == 1 {
-        &world.first
-    } else {
-        &world.all
-    };
-    let cells = [cell_at(alloc, at).map_err(no_memory)?];
-    let worths = worths_of(alloc, aggregator, 3, rows, &cells)?;
+    let cell = cell_at(alloc, at).map_err(no_memory)?;
+    let worths = worths_of(
+        alloc,
+        aggregator,
+        3,
+        rows_of(world, version),
+        slice::from_ref(&cell),
+    )?;
     match worths.first() {
         Some(worth) => Ok(*worth),
         None => Err(Fail::from("no worth")),
@@ -337,6 +389,22 @@ fn compare_four<S: CacheShelf>(
 }
 
 // Takes steps on a shelf, and draws cells on it.
+fn play_on<S: CacheShelf>(
+    alloc: Global,
+    world: &World,
+    shelf: &mut S,
+    of: (u16, Aggregator),
+    steps: &[Step],
+    random: &mut Random,
+    counts: &mut Counts,
+) -> Result<(), Fail>
+    requires { All (IsFrom world.now.sales) (S.loads shelf.old) }
+{
+    take_steps(alloc, &world.sales, shelf, of.0, steps)?;
+    compare_four(alloc, world, shelf, steps, of, random, counts)
+}
+
+// The same on an index.
 fn play_steps(
     alloc: Global,
     world: &World,
@@ -346,8 +414,7 @@ fn play_steps(
     counts: &mut Counts,
 ) -> Result<(), Fail> {
     let mut shelf = SegmentIndex::new(alloc);
-    take_steps(alloc, &world.sales, &mut shelf, of.0, steps)?;
-    compare_four(alloc, world, &shelf, steps, of, random, counts)
+    play_on(alloc, world, &mut shelf, of, steps, random, counts)
 }
 
 // Draws a measure and steps, and cells behind them.
@@ -363,6 +430,20 @@ fn play_shelf(
     play_steps(alloc, world, of, &steps, random, counts)
 }
 
+// Draws so many shelves, and four cells on each.
+fn play_shelves(
+    alloc: Global,
+    world: &World,
+    random: &mut Random,
+    shelves: u32,
+    counts: &mut Counts,
+) -> Result<(), Fail> {
+    for _ in 0..shelves {
+        play_shelf(alloc, world, random, counts)?;
+    }
+    Ok(())
+}
+
 /// Draws so many shelves over drawn rows, and four cells on each. It counts the cells with a plan and without, where all are
 /// as they have to be.
 pub fn play(alloc: Global, seed: u64, shelves: u32) -> Result<Counts, Fail> {
@@ -374,8 +455,6 @@ pub fn play(alloc: Global, seed: u64, shelves: u32) -> Result<Counts, Fail> {
         none: 0,
         distinct: 0,
     };
-    for _ in 0..shelves {
-        play_shelf(alloc, &world, &mut random, &mut counts)?;
-    }
+    play_shelves(alloc, &world, &mut random, shelves, &mut counts)?;
     Ok(counts)
 }

@@ -1,5 +1,5 @@
 //! Tables of cells and of the steps before a plan is asked for, each with the plan and with what is rolled up by it.
-ghost use Rattle.std.specs.Prelude.{All, OnOk};
+ghost use Rattle.std.specs.Prelude.{◌≡◌, [], All, IfOk, OnOk};
 ghost use Rattle.rollup_tests.specs.Held.{IsFrom, IsPlanFor};
 
 use crate::named::{measure_in, pairs_in, plan_text, steps_in};
@@ -80,6 +80,54 @@ fn tell_cell<S: Shelf>(
     Ok(())
 }
 
+// Tells what each of some cells is worth by the plan for another one.
+fn tell_each<S: Shelf>(
+    alloc: Global,
+    sales: &Sales,
+    shelf: &S,
+    plan: &Plan,
+    first: &Cell,
+    cells: &[Cell],
+    told: &mut Told,
+) -> Result<(), Fail>
+    requires from { All (IsFrom sales.now) (S.loads shelf.now) }
+    requires plan { IsPlanFor sales.now (S.loads shelf.now) plan.now first.now }
+    requires cells { All (IsPlanFor sales.now (S.loads shelf.now) plan.now) told.old.cells.items }
+    ensures { OnOk result
+        (All (IsPlanFor sales.now (S.loads shelf.now) plan.now) told.new.cells.items) }
+{
+    for cell in cells {
+        tell_cell(alloc, sales, shelf, plan, first, cell, told)?;
+    }
+    Ok(())
+}
+
+// That cells, rolled up in one call, are worth what each was told to be.
+fn check_all<S: Shelf>(
+    alloc: Global,
+    sales: &Sales,
+    shelf: &S,
+    plan: &Plan,
+    told: &Told,
+) -> Result<(), Fail>
+    requires from { All (IsFrom sales.now) (S.loads shelf.now) }
+    requires cells { All (IsPlanFor sales.now (S.loads shelf.now) plan.now) told.now.cells.items }
+{
+    let tallies = all_rolled(alloc, sales, shelf, plan, &told.cells)?;
+    agree(tallies.as_slice(), &told.worths)
+}
+
+// What is told of nothing but a plan.
+fn begun(alloc: Global, plan: &Plan) -> Result<Told, Fail>
+    ensures { IfOk result (λ told. told.cells.items ≡ []) }
+{
+    Ok(Told {
+        cells: Vec::new(alloc),
+        worths: Vec::new(alloc),
+        text: plan_text(alloc, plan)?,
+    })
+}
+
 // A plan for the first of some cells, and what each is worth by it, one by one and all at once.
 fn tell_plan<S: Shelf>(
     alloc: Global,
@@ -92,16 +140,9 @@ fn tell_plan<S: Shelf>(
     requires from { All (IsFrom sales.now) (S.loads shelf.now) }
     requires plan { IsPlanFor sales.now (S.loads shelf.now) plan.now first.now }
 {
-    let mut told = Told {
-        cells: Vec::new(alloc),
-        worths: Vec::new(alloc),
-        text: plan_text(alloc, plan)?,
-    };
-    for cell in cells {
-        tell_cell(alloc, sales, shelf, plan, first, cell, &mut told)?;
-    }
-    let tallies = all_rolled(alloc, sales, shelf, plan, &told.cells)?;
-    agree(tallies.as_slice(), &told.worths)?;
+    let mut told = begun(alloc, plan)?;
+    tell_each(alloc, sales, shelf, plan, first, cells, &mut told)?;
+    check_all(alloc, sales, shelf, plan, &told)?;
     Ok(told.text)
 }
 

@@ -2,6 +2,7 @@
 use crate::drawn::play;
 use crate::files::{later_sales, no_stores, sales, schema, stores, times};
 use crate::tables::tell_plans;
+use std::alloc::Global;
 use std::test::Fail;
 use test_samples::sales::Sales;
 
@@ -81,14 +82,22 @@ avg:2=0/2=1/2=2 2:1=0,2=0+1 2:1=1,2=* 2:1=0,2=1+2 => along 1, 1 of 0, 2 of 1; Hu
 avg:2=0/2=1/2=2 2:1=0,2=0+1+2 2:1=1,2=* => along 1, 1 of 0, 2 of 1; Hundredths(500); Hundredths(4167); Empty
 ";
 
+// Whether each table is what is told of its own questions.
+fn all_told(alloc: Global, sales: &Sales) -> Result<bool, Fail> {
+    for table in [PLANS, VERSIONS, FINER, OVERLAPS, FLUSHES, CELLS] {
+        if tell_plans(alloc, sales, table)?.as_str() != table {
+            return Ok(false);
+        }
+    }
+    Ok(true)
+}
+
 #[test]
 fn plans_are_as_worked_by_hand(rt: HostRuntime) -> Result<(), Fail> {
     let alloc = rt.alloc();
     let tables = [times(), stores()];
     let sales = Sales::open(alloc, schema(), &tables, &[sales(), later_sales()])?;
-    for table in [PLANS, VERSIONS, FINER, OVERLAPS, FLUSHES, CELLS] {
-        assert_eq!(rt; tell_plans(alloc, &sales, table)?.as_str(), table);
-    }
+    assert!(rt; all_told(alloc, &sales)?);
     Ok(())
 }
 

@@ -7,6 +7,7 @@ use fact_versions::Steps;
 use line_session::{SessionEnd, Tools, serve};
 use manager_desk::ManagerDesk;
 use olap_meaning::ROW_LIMIT;
+use outside::MemoryLink;
 use std::alloc::Global;
 use std::marker::Brand;
 use std::sync::Arc;
@@ -69,6 +70,19 @@ const LINES: [(&[u8], &[u8], u128); 14] = [
     ),
 ];
 
+// How a session over a desk ends.
+fn ended<L: Ledger>(
+    alloc: Global,
+    desk: &mut ManagerDesk,
+    tools: &Tools,
+    link: &mut MemoryLink,
+    steps: &mut Steps<L>,
+) -> Result<SessionEnd, Fail> {
+    let mut depot = depot(alloc)?;
+    let catalog = Arc::try_clone(desk.catalog())?;
+    Ok(serve(alloc, desk, link, &mut depot, &catalog, tools, 1_000, steps))
+}
+
 // Whether a line that is served over a desk is replied to so.
 fn is_replied<L: Ledger>(
     alloc: Global,
@@ -79,15 +93,26 @@ fn is_replied<L: Ledger>(
     steps: &mut Steps<L>,
 ) -> Result<bool, Fail> {
     let mut link = link(alloc, line)?;
-    let mut depot = depot(alloc)?;
-    let catalog = Arc::try_clone(desk.catalog())?;
-    let ended = serve(
-        alloc, desk, &mut link, &mut depot, &catalog, tools, 1_000, steps,
-    );
+    let ended = ended(alloc, desk, tools, &mut link, steps)?;
     Ok(ended == SessionEnd::EndOfInput && link.output().taken() == reply)
 }
 
-// Whether each line is replied to so, and the loads have read so much then.
+// Whether each line is replied to so over a desk, and its loads have read so much then.
+fn reads_so<L: Ledger>(
+    alloc: Global,
+    desk: &mut ManagerDesk,
+    tools: &Tools,
+    steps: &mut Steps<L>,
+) -> Result<bool, Fail> {
+    for (line, reply, read) in &LINES {
+        if !is_replied(alloc, desk, tools, *line, *reply, steps)? || desk.read() != *read {
+            return Ok(false);
+        }
+    }
+    Ok(true)
+}
+
+// The same over a desk in which nothing has happened.
 fn all_read_so<L: Ledger>(alloc: Global, tools: &Tools, blank: Blank) -> Result<bool, Fail>
     requires name { blank.name ≡ L.name }
     requires parts { blank.parts ≡ L.parts }
@@ -96,15 +121,7 @@ fn all_read_so<L: Ledger>(alloc: Global, tools: &Tools, blank: Blank) -> Result<
     let catalog = open_shared(alloc, SCHEMA, &[times(), stores()])?;
     let mut desk = desk_over(alloc, catalog, ROW_LIMIT)?;
     let mut steps: Steps<L> = Steps::new(blank);
-    for (line, reply, read) in &LINES {
-        if !is_replied(alloc, &mut desk, tools, *line, *reply, &mut steps)? {
-            return Ok(false);
-        }
-        if desk.read() != *read {
-            return Ok(false);
-        }
-    }
-    Ok(true)
+    reads_so(alloc, &mut desk, tools, &mut steps)
 }
 
 // The same with the program's tools, and a counter of steps of its own.

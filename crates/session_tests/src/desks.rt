@@ -48,15 +48,23 @@ fn copy(alloc: Global, bytes: &[u8]) -> Result<List<u8>, OutOfMemory> {
 // A batch of a great number and one below zero.
 const LARGE: &[u8] = b"time_id,store_id,customer,units\n1,1,10,1234567\n2,2,11,-7654321\n";
 
+/// Adds a file to those of a depot.
+pub(crate) fn add_file(
+    alloc: Global,
+    files: &mut List<(Text, List<u8>)>,
+    name: &str,
+    bytes: &[u8],
+) -> Result<(), OutOfMemory> {
+    let name = Text::from_str(alloc, name)?;
+    files.push((name, copy(alloc, bytes)?))
+}
+
 // A depot of the first batch, a later one, and one of large numbers.
 pub(crate) fn depot(alloc: Global) -> Result<MemoryDepot, OutOfMemory> {
     let mut files = List::new(alloc);
-    files.push((Text::from_str(alloc, "sales.csv")?, copy(alloc, sales())?))?;
-    files.push((
-        Text::from_str(alloc, "b2.csv")?,
-        copy(alloc, later_sales())?,
-    ))?;
-    files.push((Text::from_str(alloc, "large.csv")?, copy(alloc, LARGE)?))?;
+    add_file(alloc, &mut files, "sales.csv", sales())?;
+    add_file(alloc, &mut files, "b2.csv", later_sales())?;
+    add_file(alloc, &mut files, "large.csv", LARGE)?;
     Ok(MemoryDepot::new(files, Calls::passing(alloc)))
 }
 
@@ -84,6 +92,22 @@ pub(crate) fn tools_with(alloc: Global, widener: Widener) -> Result<Tools, Fail>
 }
 
 // How a session over a desk ends, where so many bytes may be lines.
+fn served_over<L: Ledger>(
+    alloc: Global,
+    desk: &mut ManagerDesk,
+    most: u64,
+    link: &mut MemoryLink,
+    tools: &Tools,
+    steps: &mut Steps<L>,
+) -> Result<SessionEnd, Fail>
+    requires { most ≤ byte_limit }
+{
+    let mut depot = depot(alloc)?;
+    let catalog = Arc::try_clone(desk.catalog())?;
+    Ok(serve(alloc, desk, link, &mut depot, &catalog, tools, most, steps))
+}
+
+// The same over a desk in which nothing has happened.
 pub(crate) fn served<L: Ledger>(
     alloc: Global,
     row_limit: u32,
@@ -99,12 +123,8 @@ pub(crate) fn served<L: Ledger>(
     requires one { blank.parts ≡ 1 }
 {
     let mut desk = desk_over(alloc, open(alloc)?, row_limit)?;
-    let mut depot = depot(alloc)?;
     let mut steps: Steps<L> = Steps::new(blank);
-    let catalog = Arc::try_clone(desk.catalog())?;
-    Ok(serve(
-        alloc, &mut desk, link, &mut depot, &catalog, tools, most, &mut steps,
-    ))
+    served_over(alloc, &mut desk, most, link, tools, &mut steps)
 }
 
 // How many rows and how many bytes there may be, the bytes that come, how the session ends, and what is sent.
@@ -122,14 +142,26 @@ const SESSIONS: [(u32, u64, &[u8], SessionEnd, &[u8]); 5] = [
     ),
 ];
 
+// Whether a session of so many rows and bytes ends so, and this is sent.
+fn ends_so(
+    alloc: Global,
+    tools: &Tools,
+    limits: (u32, u64),
+    bytes: &[u8],
+    end: &SessionEnd,
+    sent: &[u8],
+) -> Result<bool, Fail> {
+    let mut link = link(alloc, bytes)?;
+    let row_limit = limits.0.min(ROW_LIMIT);
+    let most = limits.1.min(1_000);
+    let ended = served::<Brand>(alloc, row_limit, most, &mut link, tools, Blank::new(1))?;
+    Ok(ended == *end && link.output().taken() == sent)
+}
+
 // Whether each session ends so, and this is sent.
 fn all_end_so(alloc: Global, tools: &Tools) -> Result<bool, Fail> {
     for (row_limit, most, bytes, end, sent) in &SESSIONS {
-        let mut link = link(alloc, *bytes)?;
-        let row_limit = (*row_limit).min(ROW_LIMIT);
-        let most = (*most).min(1_000);
-        let ended = served::<Brand>(alloc, row_limit, most, &mut link, tools, Blank::new(1))?;
-        if ended != *end || link.output().taken() != *sent {
+        if !ends_so(alloc, tools, (*row_limit, *most), *bytes, end, *sent)? {
             return Ok(false);
         }
     }
@@ -166,6 +198,17 @@ fn sent(alloc: Global, tools: &Tools) -> Result<List<u8>, Fail> {
     Ok(copy(alloc, link.output().taken())?)
 }
 
+// Whether what is sent is a version and the grid with commas, and that is read back.
+fn is_read_back(alloc: Global, sent: &[u8]) -> Result<bool, Fail> {
+    let Some(grid) = sent.strip_prefix(VERSION) else {
+        return Ok(false);
+    };
+    match told_grid(alloc, grid)? {
+        Some(read) => Ok(grid == WITH_COMMAS && read.as_str() == READ_BACK),
+        None => Ok(false),
+    }
+}
+
 #[test]
 fn a_grid_with_commas_is_read_back(rt: HostRuntime) -> Result<(), Fail> {
     let alloc = rt.alloc();
@@ -180,14 +223,6 @@ fn a_grid_with_commas_is_read_back(rt: HostRuntime) -> Result<(), Fail> {
         formatter: Formatter::new(show),
         widener: program_widener(alloc)?,
     };
-    let sent = sent(alloc, &tools)?;
-    let Some(grid) = sent.as_slice().strip_prefix(VERSION) else {
-        return Err(Fail::from("no version"));
-    };
-    assert_eq!(rt; grid, WITH_COMMAS);
-    let Some(read) = told_grid(alloc, grid)? else {
-        return Err(Fail::from("no grid"));
-    };
-    assert_eq!(rt; read.as_str(), READ_BACK);
+    assert!(rt; is_read_back(alloc, sent(alloc, &tools)?.as_slice())?);
     Ok(())
 }

@@ -1,10 +1,10 @@
 //! What passes of a run at whose link one call fails, held against the plain definition of a conversation.
 
-use crate::desks::tools_with;
+use crate::desks::{add_file, tools_with};
 use crate::links::numbered;
 use crate::recorded::{Passed, Recorded};
 use crate::wideners::program_widener;
-use olap_meaning::{List, OutOfMemory, Text};
+use olap_meaning::{List, OutOfMemory};
 use olap_server::{Tools, Words, carry_out};
 use outside::{Calls, MemoryDepot, MemoryLink, MemorySink, MemorySource, Pair};
 use std::alloc::Global;
@@ -95,10 +95,6 @@ fn is_conversation(passed: &[Passed]) -> bool {
     failed || taken == due(given).0
 }
 
-fn copy(alloc: Global, bytes: &[u8]) -> Result<List<u8>, OutOfMemory> {
-    Ok(List::from_vec(Vec::from_slice(alloc, bytes)?))
-}
-
 fn depot(alloc: Global) -> Result<MemoryDepot, OutOfMemory> {
     let mut files = List::new(alloc);
     let given: [(&str, &[u8]); 4] = [
@@ -108,7 +104,7 @@ fn depot(alloc: Global) -> Result<MemoryDepot, OutOfMemory> {
         ("sales.csv", sales()),
     ];
     for (name, bytes) in &given {
-        files.push((Text::from_str(alloc, *name)?, copy(alloc, *bytes)?))?;
+        add_file(alloc, &mut files, *name, *bytes)?;
     }
     Ok(MemoryDepot::new(files, Calls::passing(alloc)))
 }

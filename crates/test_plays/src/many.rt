@@ -14,13 +14,19 @@ struct Calls {
     made: u32,
 }
 
+// Appends the sample rows, as a call of no other seat.
+fn begin(played: &mut Played) -> Result<(), Fail> {
+    match played.append(Who { seat: 0, call: 1 }, sales())? {
+        Ok(_) => Ok(()),
+        Err(_) => Err(Fail::from("a refused batch")),
+    }
+}
+
 impl Calls {
     fn new(alloc: Global) -> Result<Calls, Fail> {
         let mut played = Played::new(alloc, 100)?;
-        match played.append(Who { seat: 0, call: 1 }, sales())? {
-            Ok(_) => Ok(Calls { played, made: 0 }),
-            Err(_) => Err(Fail::from("a refused batch")),
-        }
+        begin(&mut played)?;
+        Ok(Calls { played, made: 0 })
     }
 
     fn next(&mut self) -> Who {
@@ -90,14 +96,19 @@ fn start(alloc: Global, calls: &mut Calls, cells: &[&str]) -> Result<(), Fail> {
     Ok(())
 }
 
-// What the cells come to: their answer, or that there are loads for them.
-fn asked(alloc: Global, calls: &mut Calls, cells: &[&str]) -> Result<String, Fail> {
-    let cells = cells_of(alloc, cells)?;
+// What cells come to: their answer, or that there are loads for them.
+fn told_look(alloc: Global, calls: &mut Calls, cells: &[Cell]) -> Result<String, Fail> {
     let who = calls.next();
-    match calls.played.look(who, cells.as_slice())? {
+    match calls.played.look(who, cells)? {
         Some(answer) => Ok(told_answer(alloc, &answer)?),
         None => Ok(format!(in alloc; "{} loads", calls.played.jobs().len())?),
     }
+}
+
+// The same of cells by their words.
+fn asked(alloc: Global, calls: &mut Calls, cells: &[&str]) -> Result<String, Fail> {
+    let cells = cells_of(alloc, cells)?;
+    told_look(alloc, calls, cells.as_slice())
 }
 
 /// Flushes all cells while three loads are kept and one is in flight, delivers that one, and asks for the cells of all four.

@@ -3,7 +3,7 @@ ghost use Rattle.std.specs.Prelude.{◌≡◌, ◌<◌, length};
 
 use fact_versions::{Batch, Piece, Steps};
 use history_core::{Entry, History};
-use olap_meaning::{List, OutOfMemory, Row};
+use olap_meaning::{LeafId, List, OutOfMemory, Row};
 use olap_plain::PlainEntry;
 use region_algebra::copy_region;
 use segment_header::{copy_cell, copy_header};
@@ -12,18 +12,33 @@ use std::marker::Brand;
 use std::sync::ledger::{Blank, Ledger};
 use std::test::Fail;
 
-fn row_of(alloc: Global, piece: &Piece<'_>, i: u64) -> Result<Row, OutOfMemory>
+fn leaves_of(alloc: Global, piece: &Piece<'_>, i: u64) -> Result<List<LeafId>, OutOfMemory>
     requires { i < length piece.now.rows }
 {
     let mut leaves = List::new(alloc);
     for dimension in 0..piece.dimensions() {
         leaves.push(piece.leaf(i, dimension))?;
     }
+    Ok(leaves)
+}
+
+fn values_of(alloc: Global, piece: &Piece<'_>, i: u64) -> Result<List<Option<i64>>, OutOfMemory>
+    requires { i < length piece.now.rows }
+{
     let mut values = List::new(alloc);
     for column in 0..piece.columns() {
         values.push(piece.value(i, column))?;
     }
-    Ok(Row { leaves, values })
+    Ok(values)
+}
+
+fn row_of(alloc: Global, piece: &Piece<'_>, i: u64) -> Result<Row, OutOfMemory>
+    requires { i < length piece.now.rows }
+{
+    Ok(Row {
+        leaves: leaves_of(alloc, piece, i)?,
+        values: values_of(alloc, piece, i)?,
+    })
 }
 
 fn rows_in(alloc: Global, piece: &Piece<'_>) -> Result<List<Row>, OutOfMemory> {

@@ -308,25 +308,45 @@ fn region_dim(word: &str) -> Result<RegionDim, Fail> {
     }
 }
 
-// A region of one dimension and one box: a column with one value, or with none.
-fn region(alloc: Global, dim: &str, column: &str, value: &str) -> Result<Region, Fail> {
+// One value, or none.
+fn region_values(alloc: Global, value: &str) -> Result<List<ValueId>, Fail> {
     let mut values = List::new(alloc);
     if value != "none" {
         values.push(ValueId(number(value)?))?;
     }
+    Ok(values)
+}
+
+// One box: a column with one value, or with none.
+fn region_box(alloc: Global, column: &str, value: &str) -> Result<RegionBox, Fail> {
+    let values = region_values(alloc, value)?;
     let mut columns = List::new(alloc);
     columns.push((ColumnId(place(column)?), values))?;
-    let mut boxes = List::new(alloc);
-    boxes.push(RegionBox {
+    Ok(RegionBox {
         measures: None,
         columns,
-    })?;
+    })
+}
+
+fn region_boxes(alloc: Global, column: &str, value: &str) -> Result<List<RegionBox>, Fail> {
+    let mut boxes = List::new(alloc);
+    boxes.push(region_box(alloc, column, value)?)?;
+    Ok(boxes)
+}
+
+fn region_dims(alloc: Global, dim: &str) -> Result<List<RegionDim>, Fail> {
     let mut dims = List::new(alloc);
     dims.push(region_dim(dim)?)?;
+    Ok(dims)
+}
+
+// A region of one dimension and one box: a column with one value, or with none.
+fn region(alloc: Global, dim: &str, column: &str, value: &str) -> Result<Region, Fail> {
+    let dims = region_dims(alloc, dim)?;
     Ok(Region {
         cube: CubeId(0),
         dims,
-        boxes,
+        boxes: region_boxes(alloc, column, value)?,
     })
 }
 
@@ -502,21 +522,42 @@ pub fn tell_steps(
     table: &str,
 ) -> Result<(String, Vec<PlainEntry>), Fail> {
     let mut history = Vec::new(alloc);
+    let text = told_steps(alloc, setting, &mut history, table)?;
+    Ok((text, history))
+}
+
+// Answers a line of a table, or takes over a remark.
+fn add_step(
+    alloc: Global,
+    setting: &Setting,
+    history: &mut Vec<PlainEntry>,
+    line: &str,
+    text: &mut String,
+) -> Result<(), Fail> {
+    if line.starts_with('#') {
+        text.push_str(line)?;
+        return Ok(text.push('\n')?);
+    }
+    let asked = asked(line);
+    let said = said(alloc, setting, history, asked)?;
+    Ok(add_line(text, asked, said)?)
+}
+
+// Answers the lines of a table behind a history, which is to be legal then.
+fn told_steps(
+    alloc: Global,
+    setting: &Setting,
+    history: &mut Vec<PlainEntry>,
+    table: &str,
+) -> Result<String, Fail> {
     let mut text = String::new(alloc);
     for line in table.lines() {
-        if line.starts_with('#') {
-            text.push_str(line)?;
-            text.push('\n')?;
-            continue;
-        }
-        let asked = asked(line);
-        let said = said(alloc, setting, &mut history, asked)?;
-        add_line(&mut text, asked, said)?;
+        add_step(alloc, setting, history, line, &mut text)?;
     }
     if !is_legal(setting, history.as_slice()) {
         return Err(Fail::from("the history is not legal"));
     }
-    Ok((text, history))
+    Ok(text)
 }
 
 /// The entries of a table of steps, whether they are legal or not.
@@ -542,18 +583,33 @@ fn said_of(alloc: Global, history: &[PlainEntry], what: &str, cell: &Cell) -> Re
     }
 }
 
+// What is said of the cell of a word, or of a load of it.
+fn said_of_word(
+    alloc: Global,
+    history: &[PlainEntry],
+    what: &str,
+    name: &str,
+) -> Result<String, Fail> {
+    let cell = cell(alloc, name)?;
+    said_of(alloc, history, what, &cell)
+}
+
+// Answers a question.
+fn said_after(alloc: Global, history: &[PlainEntry], asked: &str) -> Result<String, Fail> {
+    let words = words(alloc, asked)?;
+    let [count, what, name] = words.as_slice() else {
+        return Err(Fail::from("no question"));
+    };
+    let count = (number(count)? as usize).min(history.len());
+    said_of_word(alloc, &history[..count], what, name)
+}
+
 /// A table of questions, `N floor CELL`, `N source CELL` or `N LOAD CELL`, and what is said of each after N entries.
 pub fn tell_cells(alloc: Global, history: &[PlainEntry], table: &str) -> Result<String, Fail> {
     let mut text = String::new(alloc);
     for line in table.lines() {
         let asked = asked(line);
-        let words = words(alloc, asked)?;
-        let [count, what, name] = words.as_slice() else {
-            return Err(Fail::from("no question"));
-        };
-        let count = (number(count)? as usize).min(history.len());
-        let cell = cell(alloc, name)?;
-        let said = said_of(alloc, &history[..count], what, &cell)?;
+        let said = said_after(alloc, history, asked)?;
         add_line(&mut text, asked, said.as_str())?;
     }
     Ok(text)

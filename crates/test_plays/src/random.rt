@@ -157,19 +157,44 @@ struct Drawn {
     above: Option<Cell>,
 }
 
+// A cell with some values of another, and a value in one column more.
+fn cell_below(
+    alloc: Global,
+    other: &Cell,
+    at: &[(ColumnId, ValueId)],
+    last: (ColumnId, ValueId),
+) -> Result<Cell, OutOfMemory> {
+    let mut one = cell_at(alloc, other, at)?;
+    one.at.push(last)?;
+    Ok(one)
+}
+
+// The cells with some values of another, and each of so many values in one column more.
+fn cells_below(
+    alloc: Global,
+    other: &Cell,
+    at: &[(ColumnId, ValueId)],
+    column: ColumnId,
+    values: u32,
+) -> Result<List<Cell>, OutOfMemory> {
+    let mut cells = List::new(alloc);
+    for value in 0..values {
+        cells.push(cell_below(alloc, other, at, (column, ValueId(value)))?)?;
+    }
+    Ok(cells)
+}
+
 // All cells that differ from one at most in the value of its last column, and the cell above them.
 fn beside(alloc: Global, cell: &Cell) -> Result<Drawn, OutOfMemory> {
-    let mut cells = List::new(alloc);
     let [rest @ .., last] = cell.at.as_slice() else {
-        return Ok(Drawn { cells, above: None });
+        return Ok(Drawn {
+            cells: List::new(alloc),
+            above: None,
+        });
     };
     let values = if last.0.0 == 3 { 3 } else { 2 };
-    for value in 0..values {
-        let mut one = cell_at(alloc, cell, rest)?;
-        one.at.push((last.0, ValueId(value)))?;
-        cells.push(one)?;
-    }
     let above = Some(cell_at(alloc, cell, rest)?);
+    let cells = cells_below(alloc, cell, rest, last.0, values)?;
     Ok(Drawn { cells, above })
 }
 
@@ -270,18 +295,8 @@ impl Compared {
         )
     }
 
-    // Asks for cells, and says how many were rolled up, where they were answered.
-    fn look(&mut self, who: Who, cells: &[Cell]) -> Result<Option<u32>, Fail> {
-        let before = self.plain.len();
-        let wanted = some_want(&self.setting.catalog, self.plain.as_slice(), cells);
-        let answer = self.played.look(who, cells)?;
-        self.compare()?;
-        if let Some(answer) = answer {
-            if wanted {
-                return Err(Fail::from("an answer to a cell without a source"));
-            }
-            return Ok(Some(self.rolled(cells, &answer)?));
-        }
+    // That the entries behind so many are Starts, each of a load for a cell that had no source.
+    fn compare_loads(&self, before: usize, wanted: bool) -> Result<(), Fail> {
         if !wanted {
             return Err(Fail::from("a load too many"));
         }
@@ -289,7 +304,34 @@ impl Compared {
         if !are_wanted(&self.setting.catalog, old, new) {
             return Err(Fail::from("a load for a cell that has a source"));
         }
-        Ok(None)
+        Ok(())
+    }
+
+    // What a look at cells came to behind so many entries, where some of them had no source or none.
+    fn compare_look(
+        &mut self,
+        cells: &[Cell],
+        answer: Option<&Answer>,
+        before: usize,
+        wanted: bool,
+    ) -> Result<Option<u32>, Fail> {
+        self.compare()?;
+        match answer {
+            Some(_) if wanted => Err(Fail::from("an answer to a cell without a source")),
+            Some(answer) => Ok(Some(self.rolled(cells, answer)?)),
+            None => {
+                self.compare_loads(before, wanted)?;
+                Ok(None)
+            }
+        }
+    }
+
+    // Asks for cells, and says how many were rolled up, where they were answered.
+    fn look(&mut self, who: Who, cells: &[Cell]) -> Result<Option<u32>, Fail> {
+        let before = self.plain.len();
+        let wanted = some_want(&self.setting.catalog, self.plain.as_slice(), cells);
+        let answer = self.played.look(who, cells)?;
+        self.compare_look(cells, answer.as_ref(), before, wanted)
     }
 
     // Flushes a region, and says whether a load flew.
@@ -324,11 +366,16 @@ impl Compared {
         tables
     }
 
+    // How many of the loads that are shown some flush touches.
+    fn compare_view(&mut self, view: &CacheView) -> Result<u32, Fail> {
+        self.compare()?;
+        touched(self.plain.as_slice(), view)
+    }
+
     // Shows what is kept, and says how many of the loads some flush touches.
     fn show(&mut self, who: Who) -> Result<u32, Fail> {
         let view = self.played.show(who)?;
-        self.compare()?;
-        touched(self.plain.as_slice(), &view)
+        self.compare_view(&view)
     }
 
     // Ends the oldest load in flight.
@@ -356,6 +403,38 @@ fn flush(
         counts.flushed = counts.flushed.saturating_add(1);
     }
     Ok(())
+}
+
+// Asks for cells.
+fn look(
+    compared: &mut Compared,
+    who: Who,
+    cells: &[Cell],
+    counts: &mut Counts,
+) -> Result<(), Fail> {
+    match compared.look(who, cells)? {
+        Some(rolled) => {
+            counts.answers = counts.answers.saturating_add(1);
+            counts.rolled = counts.rolled.saturating_add(rolled);
+        }
+        None => {
+            counts.loads = counts.loads.saturating_add(1);
+            counts.tables = counts.tables.saturating_add(compared.tables());
+        }
+    }
+    Ok(())
+}
+
+// Asks for cells that are drawn.
+fn ask(
+    compared: &mut Compared,
+    random: &mut Random,
+    who: Who,
+    counts: &mut Counts,
+) -> Result<(), Fail> {
+    let Drawn { cells, above } = draw_cells(compared.alloc, random, compared.above.take())?;
+    compared.above = above;
+    look(compared, who, cells.as_slice(), counts)
 }
 
 // Makes a call that is drawn.
@@ -394,19 +473,7 @@ fn step(
     if !compared.played.is_idle() {
         return compared.end(kind < 9);
     }
-    let drawn = draw_cells(compared.alloc, random, compared.above.take())?;
-    compared.above = drawn.above;
-    match compared.look(who, drawn.cells.as_slice())? {
-        Some(rolled) => {
-            counts.answers = counts.answers.saturating_add(1);
-            counts.rolled = counts.rolled.saturating_add(rolled);
-        }
-        None => {
-            counts.loads = counts.loads.saturating_add(1);
-            counts.tables = counts.tables.saturating_add(compared.tables());
-        }
-    }
-    Ok(())
+    ask(compared, random, who, counts)
 }
 
 // Makes so many calls that are drawn, and says what came of them.

@@ -4,20 +4,28 @@ ghost use Rattle.olap_meaning.specs.Legal.{is_flushable};
 
 use olap_catalog::Catalog;
 use olap_meaning::Region;
+use query_meaning::RegionText;
 use region_algebra::resolve_region;
 use region_reader::read_region;
 use std::alloc::Global;
 use std::test::Fail;
 
+// The region that a flush means.
+fn meant(alloc: Global, catalog: &Catalog, text: &RegionText) -> Result<Region, Fail>
+    ensures { IfOk result (λ region. IsTrue (is_flushable catalog.now region)) }
+{
+    match resolve_region(alloc, catalog, text) {
+        Ok(region) => Ok(region),
+        Err(_) => Err(Fail::from("no region")),
+    }
+}
+
 /// The region that the text of a flush means.
 pub(crate) fn region_of(alloc: Global, catalog: &Catalog, text: &str) -> Result<Region, Fail>
     ensures { IfOk result (λ region. IsTrue (is_flushable catalog.now region)) }
 {
-    let Ok(text) = read_region(alloc, text) else {
-        return Err(Fail::from("no flush"));
-    };
-    let Ok(region) = resolve_region(alloc, catalog, &text) else {
-        return Err(Fail::from("no region"));
-    };
-    Ok(region)
+    match read_region(alloc, text) {
+        Ok(text) => meant(alloc, catalog, &text),
+        Err(_) => Err(Fail::from("no flush")),
+    }
 }

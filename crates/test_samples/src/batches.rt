@@ -2,8 +2,10 @@
 ghost use Rattle.std.specs.Prelude.{◌≡◌};
 
 use crate::files::{counting_schema, odd_stores, times};
+use crate::no_memory;
 use crate::opened::{open_shared, read};
 use fact_versions::{Batch, Piece, Steps};
+use olap_catalog::Catalog;
 use olap_meaning::OutOfMemory;
 use std::alloc::Global;
 use std::marker::Brand;
@@ -41,9 +43,14 @@ fn read_lines<L: Ledger>(
     lines_of(alloc, &batch.read(&mut steps))
 }
 
+// The rows of a file of the first cube.
+fn rows_in(alloc: Global, catalog: &Catalog, file: &[u8]) -> Result<Vec<Line>, Fail> {
+    let batch = read(alloc, catalog, file)?;
+    read_lines::<Brand>(alloc, &batch, Blank::new(1)).map_err(no_memory)
+}
+
 /// The rows of a file of the cube with a distinct count, read by a piece.
 pub fn rows_of(alloc: Global, file: &[u8]) -> Result<Vec<Line>, Fail> {
     let catalog = open_shared(alloc, counting_schema(), &[times(), odd_stores()])?;
-    let batch = read(alloc, &catalog, file)?;
-    Ok(read_lines::<Brand>(alloc, &batch, Blank::new(1))?)
+    rows_in(alloc, &catalog, file)
 }

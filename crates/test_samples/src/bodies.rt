@@ -1,6 +1,6 @@
 //! Rows that are kept in three ways: in a body row by row, in a body group by group, and in a list. What cells are worth is
 //! told where all ways agree.
-ghost use Rattle.std.specs.Prelude.{◌≡◌, ◌≢◌, ◌≤◌, IfOk, IsTrue, length};
+ghost use Rattle.std.specs.Prelude.{◌≡◌, ◌≢◌, ◌≤◌, [], IfOk, IsTrue, OnOk, length};
 ghost use Rattle.std.specs.List.{list_all};
 ghost use Rattle.olap_meaning.specs.Covering.{header_covers};
 ghost use Rattle.segment_header.specs.Headers.{is_header as holds_header};
@@ -16,6 +16,7 @@ use olap_plain::RowList;
 use segment_body::{Body, are_alike};
 use segment_header::{columns_rise, copy_header, covers, is_allowed, is_header, same_columns};
 use std::alloc::Global;
+use std::slice;
 use std::test::Fail;
 
 /// A row: its values on the columns, and its number.
@@ -59,6 +60,31 @@ pub fn cell_at(alloc: Global, at: &[(u16, u32)]) -> Result<Cell, OutOfMemory> {
     })
 }
 
+// Adds each of some rows to a body of none.
+fn fill(body: &mut Body, rows: &[SampleRow]) -> Result<(), Fail>
+    requires { body.old.rows ≡ [] }
+    ensures { OnOk result (body.new.aggregator ≡ body.old.aggregator) }
+{
+    for i in 0..rows.len() {
+        if i >= 1_000_000 || !is_allowed(body.header(), &rows[i].values) {
+            return Err(Fail::from("no row"));
+        }
+        body.add(&rows[i].values, rows[i].number)
+            .map_err(no_memory)?;
+    }
+    Ok(())
+}
+
+// A body of no row, with a copy of a header.
+fn empty(alloc: Global, header: &Header, aggregator: Aggregator) -> Result<Body, Fail>
+    requires { IsTrue (holds_header header.now) }
+    ensures rows { IfOk result (λ body. body.rows ≡ []) }
+    ensures aggregator { IfOk result (λ body. body.aggregator ≡ aggregator) }
+{
+    let header = copy_header(alloc, header).map_err(no_memory)?;
+    Body::new(alloc, header, aggregator).map_err(no_memory)
+}
+
 /// A body with each of some rows.
 fn filled(
     alloc: Global,
@@ -69,15 +95,8 @@ fn filled(
     requires { IsTrue (holds_header header.now) }
     ensures { IfOk result (λ body. body.aggregator ≡ aggregator) }
 {
-    let header = copy_header(alloc, header).map_err(no_memory)?;
-    let mut body = Body::new(alloc, header, aggregator).map_err(no_memory)?;
-    for i in 0..rows.len() {
-        if i >= 1_000_000 || !is_allowed(body.header(), &rows[i].values) {
-            return Err(Fail::from("no row"));
-        }
-        body.add(&rows[i].values, rows[i].number)
-            .map_err(no_memory)?;
-    }
+    let mut body = empty(alloc, header, aggregator)?;
+    fill(&mut body, rows)?;
     Ok(body)
 }
 
@@ -104,17 +123,27 @@ fn regroup(grouped: &mut Body, body: &Body, values: &[ValueId], held: u32) -> Re
     Ok(more as u32)
 }
 
+// Adds the groups of a body, which has just these rows, to a body of none.
+fn regroup_all(grouped: &mut Body, body: &Body, rows: &[SampleRow]) -> Result<(), Fail>
+    requires none { grouped.old.rows ≡ [] }
+    requires adds_up { body.now.aggregator ≢ Aggregator.DistinctCount }
+    requires same { grouped.old.aggregator ≡ body.now.aggregator }
+    ensures { OnOk result (grouped.new.aggregator ≡ body.now.aggregator) }
+{
+    let mut held = 0;
+    for i in 0..rows.len() {
+        held = regroup(grouped, body, &rows[i].values, held)?;
+    }
+    Ok(())
+}
+
 /// A body with the groups of another, which has just these rows.
 fn regrouped(alloc: Global, body: &Body, rows: &[SampleRow]) -> Result<Body, Fail>
     requires { body.now.aggregator ≢ Aggregator.DistinctCount }
     ensures { IfOk result (λ grouped. grouped.aggregator ≡ body.now.aggregator) }
 {
-    let header = copy_header(alloc, body.header()).map_err(no_memory)?;
-    let mut grouped = Body::new(alloc, header, body.aggregator()).map_err(no_memory)?;
-    let mut held = 0;
-    for i in 0..rows.len() {
-        held = regroup(&mut grouped, body, &rows[i].values, held)?;
-    }
+    let mut grouped = empty(alloc, body.header(), body.aggregator())?;
+    regroup_all(&mut grouped, body, rows)?;
     Ok(grouped)
 }
 
@@ -175,6 +204,15 @@ fn fold_alike(body: &Body, cells: &[Cell], worths: &[CellValue]) -> Result<(), F
     Ok(())
 }
 
+// What cells are worth in a list of rows.
+fn worths_in(alloc: Global, list: &RowList, cells: &[Cell]) -> Result<Vec<CellValue>, Fail> {
+    let mut worths = Vec::new(alloc);
+    for cell in cells {
+        worths.push(plain_worth(list, cell)?)?;
+    }
+    Ok(worths)
+}
+
 /// What cells are worth over some rows, by a list of them.
 fn plain_worths(
     alloc: Global,
@@ -184,11 +222,7 @@ fn plain_worths(
     cells: &[Cell],
 ) -> Result<Vec<CellValue>, Fail> {
     let list = listed(alloc, header, aggregator, rows)?;
-    let mut worths = Vec::new(alloc);
-    for i in 0..cells.len() {
-        worths.push(plain_worth(&list, &cells[i])?)?;
-    }
-    Ok(worths)
+    worths_in(alloc, &list, cells)
 }
 
 /// That a body of the groups of another folds cells to what they are worth.
@@ -205,6 +239,20 @@ fn groups_agree(
     fold_alike(&grouped, cells, worths)
 }
 
+// That a body of these rows, and one of its groups, fold cells to what they are worth.
+fn body_agrees(
+    alloc: Global,
+    body: &Body,
+    rows: &[SampleRow],
+    cells: &[Cell],
+    worths: &[CellValue],
+) -> Result<(), Fail>
+    requires { body.now.aggregator ≢ Aggregator.DistinctCount }
+{
+    fold_alike(body, cells, worths)?;
+    groups_agree(alloc, body, rows, cells, worths)
+}
+
 /// That a body of some rows, and one of its groups, fold cells to what they are worth.
 fn bodies_agree(
     alloc: Global,
@@ -218,8 +266,23 @@ fn bodies_agree(
     requires adds_up { aggregator ≢ Aggregator.DistinctCount }
 {
     let body = filled(alloc, header, aggregator, rows)?;
-    fold_alike(&body, cells, worths)?;
-    groups_agree(alloc, &body, rows, cells, worths)
+    body_agrees(alloc, &body, rows, cells, worths)
+}
+
+// What cells of the same columns are worth over rows of a header, where all ways agree.
+fn worths_by(
+    alloc: Global,
+    header: &Header,
+    aggregator: Aggregator,
+    rows: &[SampleRow],
+    cells: &[Cell],
+) -> Result<Vec<CellValue>, Fail>
+    requires header { IsTrue (holds_header header.now) }
+    requires adds_up { aggregator ≢ Aggregator.DistinctCount }
+{
+    let worths = plain_worths(alloc, header, aggregator, rows, cells)?;
+    bodies_agree(alloc, header, aggregator, rows, cells, &worths)?;
+    Ok(worths)
 }
 
 /// What cells of the same columns are worth over some rows, where all ways agree.
@@ -234,9 +297,18 @@ pub fn worths_of(
         return Err(Fail::from("no fold"));
     }
     let header = open_header(alloc, columns)?;
-    let worths = plain_worths(alloc, &header, aggregator, rows, cells)?;
-    bodies_agree(alloc, &header, aggregator, rows, cells, &worths)?;
-    Ok(worths)
+    worths_by(alloc, &header, aggregator, rows, cells)
+}
+
+// What a cell of just its columns is worth in a body.
+fn value_in(body: &Body, cell: &Cell) -> Result<CellValue, Fail> {
+    if !covers(body.header(), cell)
+        || !same_columns(body.header(), cell)
+        || !columns_rise(cell.at.as_slice())
+    {
+        return Err(Fail::from("no cell"));
+    }
+    Ok(body.value(cell))
 }
 
 /// What a cell is worth in a body of all its columns, looked up by its values.
@@ -250,13 +322,7 @@ fn looked_up(
     requires { IsTrue (holds_header header.now) }
 {
     let body = filled(alloc, header, aggregator, rows)?;
-    if !covers(body.header(), cell)
-        || !same_columns(body.header(), cell)
-        || !columns_rise(cell.at.as_slice())
-    {
-        return Err(Fail::from("no cell"));
-    }
-    Ok(body.value(cell))
+    value_in(&body, cell)
 }
 
 /// What a cell of all columns is worth over some rows, where the look-up by its values and the list agree.
@@ -300,16 +366,29 @@ pub fn folds_at_value(
     fold_at_value(alloc, &body, split)
 }
 
-// What the rows of a body come to that have a value in one column, folded from all of them and as a cell.
-fn fold_at_value(alloc: Global, body: &Body, split: (u16, u32)) -> Result<CellValue, Fail>
+// What the rows of a body come to that have a value in one column, folded from all of them.
+fn folded_at(alloc: Global, body: &Body, split: (u16, u32)) -> Result<CellValue, Fail>
     requires { body.now.aggregator ≢ Aggregator.DistinctCount }
 {
     let whole = cell_at(alloc, &[]).map_err(no_memory)?;
-    let folded = body
-        .fold_at(&whole, ColumnId(split.0), ValueId(split.1))
-        .finish();
+    let tally = body.fold_at(&whole, ColumnId(split.0), ValueId(split.1));
+    Ok(tally.finish())
+}
+
+// The same, folded as a cell.
+fn folded_where(alloc: Global, body: &Body, split: (u16, u32)) -> Result<CellValue, Fail>
+    requires { body.now.aggregator ≢ Aggregator.DistinctCount }
+{
     let part = cell_at(alloc, &[split]).map_err(no_memory)?;
-    agreed("fold_at", folded, body.fold_where(&part).finish())
+    Ok(body.fold_where(&part).finish())
+}
+
+// The same in both ways.
+fn fold_at_value(alloc: Global, body: &Body, split: (u16, u32)) -> Result<CellValue, Fail>
+    requires { body.now.aggregator ≢ Aggregator.DistinctCount }
+{
+    let folded = folded_at(alloc, body, split)?;
+    agreed("fold_at", folded, folded_where(alloc, body, split)?)
 }
 
 // A value that was found in two ways.
@@ -367,7 +446,28 @@ fn width_of(rows: &[SampleRow]) -> u16 {
     }
 }
 
-// What a cell is worth over some rows.
+// What the cell of a word is worth over some rows.
+fn worth_of(
+    alloc: Global,
+    aggregator: Aggregator,
+    rows: &[SampleRow],
+    word: &str,
+) -> Result<CellValue, Fail> {
+    let cell = cell_in(alloc, word)?;
+    let worths = worths_of(
+        alloc,
+        aggregator,
+        width_of(rows),
+        rows,
+        slice::from_ref(&cell),
+    )?;
+    match worths.first() {
+        Some(worth) => Ok(*worth),
+        None => Err(Fail::from("no worth")),
+    }
+}
+
+// What is said of an aggregator and a cell over some rows.
 fn said_of(alloc: Global, rows: &[SampleRow], asked: &str) -> Result<String, Fail> {
     let words = words(alloc, asked)?;
     let [name, cell] = words.as_slice() else {
@@ -376,12 +476,8 @@ fn said_of(alloc: Global, rows: &[SampleRow], asked: &str) -> Result<String, Fai
     let Some(aggregator) = Aggregator::named(name) else {
         return Err(Fail::from("no aggregator"));
     };
-    let cells = [cell_in(alloc, cell)?];
-    let worths = worths_of(alloc, aggregator, width_of(rows), rows, &cells)?;
-    match worths.first() {
-        Some(worth) => Ok(format!(in alloc; "{worth:?}")?),
-        None => Err(Fail::from("no worth")),
-    }
+    let worth = worth_of(alloc, aggregator, rows, cell)?;
+    Ok(format!(in alloc; "{worth:?}")?)
 }
 
 /// A table of folds over rows, each an aggregator and a cell, and what the cell is worth.

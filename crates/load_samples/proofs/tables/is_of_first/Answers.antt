@@ -4,7 +4,7 @@ use Rattle.std.specs.Prelude.{slice_get}
 use Rattle.std.proofs.lemmas.Option.{slice_get-get_or}
 use Rattle.olap_meaning.specs.declared.schema.SchemaAggregate.{SchemaAggregate}
 use Rattle.load_samples.proofs.TableFacts.{first_named}
-use Rattle.load_samples.proofs.cases.is_of_first.Goals as goal
+use Rattle.load_samples.proofs.tables.is_of_first.Goals as goal
 
 pub returns : goal.returns
 returns c = λ yes.
