@@ -6,23 +6,30 @@ ghost use Rattle.rollup_tests.specs.Held.{IsFrom, IsPlanFor};
 
 use crate::files::{schema, stores, times};
 use crate::rolling::{plan_for, rolled};
-use crate::slow::{SIZES, can_roll};
-use crate::steps::{Step, cell_of, take_steps};
+use crate::slow::can_roll;
+use crate::steps::{At, Column, SIZES, Step, Values, cell_of, take_steps};
 use cache_flush::CacheShelf;
 use history_core::is_cell;
-use load_samples::headers::{OnColumn, no_memory};
+use load_samples::headers::no_memory;
 use olap_meaning::{Aggregator, Cell, CellValue, ValueId};
 use rollup_plan::Plan;
 use segment_index::SegmentIndex;
 use std::alloc::Global;
 use std::slice;
 use std::test::Fail;
-use test_samples::bodies::{SampleRow, cell_at, worths_of};
+use test_samples::bodies::{SampleRow, worths_of};
 use test_samples::random::Random;
 use test_samples::sales::Sales;
 
-/// The columns of loads.
-const COLUMNS: [&[u16]; 6] = [&[0, 1], &[0, 2], &[1, 2], &[0, 1, 2], &[1], &[2]];
+/// The columns of loads, and which of them is split, where one of three is drawn.
+const COLUMNS: [([bool; 3], [usize; 3]); 6] = [
+    ([true, true, false], [0, 1, 1]),
+    ([true, false, true], [0, 2, 1]),
+    ([false, true, true], [1, 2, 1]),
+    ([true, true, true], [0, 1, 2]),
+    ([false, true, false], [1, 1, 1]),
+    ([false, false, true], [2, 1, 1]),
+];
 
 /// How the measures are summed up.
 const AGGREGATORS: [Aggregator; 6] = [
@@ -71,6 +78,13 @@ fn row_of(alloc: Global, time: u32, store: u32, number: Option<i64>) -> Result<S
     })
 }
 
+// The record of a row.
+fn record_text(alloc: Global, time: u32, store: u32, number: Option<i64>) -> Result<String, Fail> {
+    let units = units_text(alloc, number)?;
+    let (time, store) = (u64::from(time) + 1, u64::from(store) + 1);
+    Ok(format!(in alloc; "{time},{store},{units}\n")?)
+}
+
 // Adds the record of a row to a file.
 fn add_record(
     alloc: Global,
@@ -79,14 +93,8 @@ fn add_record(
     store: u32,
     number: Option<i64>,
 ) -> Result<(), Fail> {
-    let units = units_text(alloc, number)?;
-    let record = format!(in alloc;
-        "{},{},{units}\n",
-        u64::from(time) + 1,
-        u64::from(store) + 1
-    )?;
-    file.push_str(record.as_str())?;
-    Ok(())
+    let record = record_text(alloc, time, store, number)?;
+    Ok(file.push_str(record.as_str())?)
 }
 
 // Draws a row, and writes it to a file.
@@ -143,78 +151,69 @@ fn draw_world(alloc: Global, random: &mut Random) -> Result<World, Fail> {
 }
 
 // Draws some values of a column.
-fn draw_set(alloc: Global, random: &mut Random, size: u32) -> Result<Vec<u32>, Fail> {
-    let mut values = Vec::new(alloc);
-    let mut bits = random.below(8);
-    for value in 0..size {
-        if bits % 2 == 1 {
-            values.push(value)?;
-        }
-        bits /= 2;
-    }
-    if values.is_empty() {
-        values.push(0)?;
-    }
-    Ok(values)
+fn draw_set(random: &mut Random, size: u32) -> Values {
+    let bits = random.below(8);
+    let second = bits / 2 % 2 == 1;
+    let third = size > 2 && bits / 4 == 1;
+    let first = bits % 2 == 1 || !(second || third);
+    [first, second, third, false, false, false, false, false]
 }
 
-// Draws a load by some columns: in the split mostly some values, and elsewhere mostly any.
-fn draw_load(alloc: Global, random: &mut Random, on: &[u16], split: u16) -> Result<Step, Fail> {
-    let mut columns = Vec::new(alloc);
-    for column in on {
-        let size = SIZES.get(usize::from(*column)).copied().unwrap_or(0);
-        let drawn = random.below(16);
-        let any = if *column == split {
-            drawn == 0
-        } else {
-            drawn > 1
-        };
-        let values = if any {
-            None
-        } else {
-            Some(draw_set(alloc, random, size)?)
-        };
-        columns.push(OnColumn {
-            column: *column,
-            values,
-        })?;
+// Draws what a load allows in a column: in the split mostly some values, and elsewhere mostly any.
+fn draw_column(random: &mut Random, size: u32, is_split: bool) -> Column {
+    let drawn = random.below(16);
+    if (is_split && drawn == 0) || (!is_split && drawn > 1) {
+        return Column::Any;
     }
-    Ok(Step::Load {
+    Column::Of(draw_set(random, size))
+}
+
+// Draws a load by some columns.
+fn draw_load(random: &mut Random, on: &[bool; 3], split: usize) -> Step {
+    let mut columns = [Column::Lacking; 3];
+    for column in 0..3 {
+        if on[column] {
+            columns[column] = draw_column(random, SIZES[column], column == split);
+        }
+    }
+    Step::Load {
         version: random.below(4).clamp(1, 2),
         columns,
-    })
+    }
 }
 
 // Draws values of some columns: of each with one chance of so many.
-fn draw_at(alloc: Global, random: &mut Random, chance: u32) -> Result<Vec<(u16, u32)>, Fail> {
-    let mut at = Vec::new(alloc);
-    for column in 0..3u16 {
+fn draw_at(random: &mut Random, chance: u32) -> At {
+    let mut at = [None; 3];
+    for column in 0..3 {
         let drawn = random.below(chance.max(1));
-        let size = SIZES.get(usize::from(column)).copied().unwrap_or(0);
-        let value = random.below(size.max(1));
+        let value = random.below(SIZES[column].max(1));
         if drawn == 0 {
-            at.push((column, value))?;
+            at[column] = Some(value);
         }
     }
-    Ok(at)
+    at
 }
 
-// Draws steps: loads by one of two lists of columns, and now and then a flush.
+// Draws a step: now and then a flush, and else a load by one of two lists of columns.
+fn draw_step(random: &mut Random, lists: [&[bool; 3]; 2], split: usize) -> Step {
+    if random.below(12) == 0 {
+        return Step::Flush {
+            at: draw_at(random, 2),
+        };
+    }
+    let list = lists[(random.below(4) / 3) as usize];
+    draw_load(random, list, split)
+}
+
+// Draws steps.
 fn draw_steps(alloc: Global, random: &mut Random) -> Result<Vec<Step>, Fail> {
-    let lists = [
-        COLUMNS[random.below(6) as usize],
-        COLUMNS[random.below(6) as usize],
-    ];
-    let split = lists[0].get(random.below(3) as usize).copied().unwrap_or(1);
+    let (first, splits) = &COLUMNS[random.below(6) as usize];
+    let (other, _) = &COLUMNS[random.below(6) as usize];
+    let split = splits[random.below(3) as usize];
     let mut steps = Vec::new(alloc);
     for _ in 0..random.below(6) + 5 {
-        if random.below(12) == 0 {
-            let at = draw_at(alloc, random, 2)?;
-            steps.push(Step::Flush { at })?;
-        } else {
-            let list = lists[(random.below(4) / 3) as usize];
-            steps.push(draw_load(alloc, random, list, split)?)?;
-        }
+        steps.push(draw_step(random, [first, other], split))?;
     }
     Ok(steps)
 }
@@ -248,9 +247,9 @@ fn worth_in(
     world: &World,
     version: u32,
     aggregator: Aggregator,
-    at: &[(u16, u32)],
+    at: &At,
 ) -> Result<CellValue, Fail> {
-    let cell = cell_at(alloc, at).map_err(no_memory)?;
+    let cell = cell_of(alloc, 0, at).map_err(no_memory)?;
     let worths = worths_of(
         alloc,
         aggregator,
@@ -268,7 +267,7 @@ fn worth_in(
 fn count_plan(
     alloc: Global,
     steps: &[Step],
-    at: &[(u16, u32)],
+    at: &At,
     plan: &Plan,
     counts: &mut Counts,
 ) -> Result<u32, Fail> {
@@ -290,7 +289,7 @@ fn count_plan(
 fn count_none(
     alloc: Global,
     steps: &[Step],
-    at: &[(u16, u32)],
+    at: &At,
     aggregator: Aggregator,
     counts: &mut Counts,
 ) -> Result<(), Fail> {
@@ -311,7 +310,7 @@ fn compare_plan<S: CacheShelf>(
     world: &World,
     shelf: &S,
     of: Aggregator,
-    at: &[(u16, u32)],
+    at: &At,
     cell: &Cell,
     version: u32,
     plan: &Plan,
@@ -326,6 +325,25 @@ fn compare_plan<S: CacheShelf>(
     Ok(())
 }
 
+// Rolls a cell up by its plan, which is counted.
+fn compare_by<S: CacheShelf>(
+    alloc: Global,
+    world: &World,
+    shelf: &S,
+    steps: &[Step],
+    of: Aggregator,
+    at: &At,
+    cell: &Cell,
+    plan: &Plan,
+    counts: &mut Counts,
+) -> Result<(), Fail>
+    requires from { All (IsFrom world.now.sales) (S.loads shelf.now) }
+    requires plan { IsPlanFor world.now.sales (S.loads shelf.now) plan.now cell.now }
+{
+    let version = count_plan(alloc, steps, at, plan, counts)?;
+    compare_plan(alloc, world, shelf, of, at, cell, version, plan)
+}
+
 // Looks for the plan of a cell, and rolls the cell up by it.
 fn compare_cell<S: CacheShelf>(
     alloc: Global,
@@ -333,7 +351,7 @@ fn compare_cell<S: CacheShelf>(
     shelf: &S,
     steps: &[Step],
     of: Aggregator,
-    at: &[(u16, u32)],
+    at: &At,
     cell: &Cell,
     counts: &mut Counts,
 ) -> Result<(), Fail>
@@ -341,13 +359,29 @@ fn compare_cell<S: CacheShelf>(
     requires cell { IsTrue (legal.is_cell world.now.sales.catalog cell.now) }
 {
     match plan_for(alloc, &world.sales, shelf, cell) {
-        Ok(Some(plan)) => {
-            let version = count_plan(alloc, steps, at, &plan, counts)?;
-            compare_plan(alloc, world, shelf, of, at, cell, version, &plan)
-        }
+        Ok(Some(plan)) => compare_by(alloc, world, shelf, steps, of, at, cell, &plan, counts),
         Ok(None) => count_none(alloc, steps, at, of, counts),
         Err(fault) => Err(no_memory(fault)),
     }
+}
+
+// The same of a cell that is to be one of the catalog.
+fn compare_known<S: CacheShelf>(
+    alloc: Global,
+    world: &World,
+    shelf: &S,
+    steps: &[Step],
+    of: Aggregator,
+    at: &At,
+    cell: &Cell,
+    counts: &mut Counts,
+) -> Result<(), Fail>
+    requires { All (IsFrom world.now.sales) (S.loads shelf.now) }
+{
+    if !is_cell(world.sales.catalog(), cell) {
+        return Err(Fail::from("no cell"));
+    }
+    compare_cell(alloc, world, shelf, steps, of, at, cell, counts)
 }
 
 // Compares what a cell of a measure is rolled up to, where it has a plan.
@@ -357,16 +391,13 @@ fn compare<S: CacheShelf>(
     shelf: &S,
     steps: &[Step],
     of: (u16, Aggregator),
-    at: &[(u16, u32)],
+    at: &At,
     counts: &mut Counts,
 ) -> Result<(), Fail>
     requires { All (IsFrom world.now.sales) (S.loads shelf.now) }
 {
     let cell = cell_of(alloc, of.0, at).map_err(no_memory)?;
-    if !is_cell(world.sales.catalog(), &cell) {
-        return Err(Fail::from("no cell"));
-    }
-    compare_cell(alloc, world, shelf, steps, of.1, at, &cell, counts)
+    compare_known(alloc, world, shelf, steps, of.1, at, &cell, counts)
 }
 
 // Draws four cells on a shelf, one after another.
@@ -382,7 +413,7 @@ fn compare_four<S: CacheShelf>(
     requires { All (IsFrom world.now.sales) (S.loads shelf.now) }
 {
     for _ in 0..4 {
-        let at = draw_at(alloc, random, 4)?;
+        let at = draw_at(random, 4);
         compare(alloc, world, shelf, steps, of, &at, counts)?;
     }
     Ok(())

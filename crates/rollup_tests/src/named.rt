@@ -1,11 +1,10 @@
 //! Cells, steps and plans as words.
-use crate::steps::Step;
-use load_samples::headers::OnColumn;
+use crate::steps::{At, Column, Columns, Step, Values};
 use olap_meaning::Allowed;
-use rollup_plan::Plan;
+use rollup_plan::{Part, Plan};
 use std::alloc::Global;
 use std::test::Fail;
-use test_samples::lines::{number, place};
+use test_samples::lines::number;
 
 /// The place of a measure, by its aggregator.
 pub fn measure_in(name: &str) -> Result<u16, Fail> {
@@ -20,54 +19,73 @@ pub fn measure_in(name: &str) -> Result<u16, Fail> {
     }
 }
 
-/// Columns with their values: `0=1,2=0`.
-pub fn pairs_in(alloc: Global, text: &str) -> Result<Vec<(u16, u32)>, Fail> {
-    let mut pairs = Vec::new(alloc);
-    for word in text.split_terminator(',') {
-        let Some((column, value)) = word.split_once('=') else {
-            return Err(Fail::from("no column"));
-        };
-        pairs.push((place(column)?, number(value)?))?;
+// A row with another entry for a column.
+fn with<T: Copy>(row: [T; 3], column: &str, entry: T) -> Result<[T; 3], Fail> {
+    let [first, second, third] = row;
+    match column {
+        "0" => Ok([entry, second, third]),
+        "1" => Ok([first, entry, third]),
+        "2" => Ok([first, second, entry]),
+        _ => Err(Fail::from("no column")),
     }
-    Ok(pairs)
 }
 
-// Values: `0+2`, or `*` for any.
-fn values_in(alloc: Global, text: &str) -> Result<Option<Vec<u32>>, Fail> {
-    if text == "*" {
-        return Ok(None);
+// A column and what is said of it: `0=1`.
+fn parted(word: &str) -> Result<(&str, &str), Fail> {
+    match word.split_once('=') {
+        Some(parts) => Ok(parts),
+        None => Err(Fail::from("no column")),
     }
-    let mut values = Vec::new(alloc);
+}
+
+/// Columns with their values: `0=1,2=0`.
+pub fn at_in(text: &str) -> Result<At, Fail> {
+    let mut at = [None; 3];
+    for word in text.split_terminator(',') {
+        let (column, value) = parted(word)?;
+        at = with(at, column, Some(number(value)?))?;
+    }
+    Ok(at)
+}
+
+// Values: `0+2`.
+fn values_in(text: &str) -> Result<Values, Fail> {
+    let mut values = [false; 8];
     for word in text.split('+') {
-        values.push(number(word)?)?;
+        let value = number(word)?;
+        if value > 7 {
+            return Err(Fail::from("no value"));
+        }
+        values[value as usize] = true;
     }
-    Ok(Some(values))
+    Ok(values)
+}
+
+// Values, or `*` for any.
+fn column_in(text: &str) -> Result<Column, Fail> {
+    if text == "*" {
+        return Ok(Column::Any);
+    }
+    Ok(Column::Of(values_in(text)?))
 }
 
 // Columns with the values that a load allows: `0=1,1=*,2=0+2`.
-fn columns_in(alloc: Global, text: &str) -> Result<Vec<OnColumn>, Fail> {
-    let mut columns = Vec::new(alloc);
+fn columns_in(text: &str) -> Result<Columns, Fail> {
+    let mut columns = [Column::Lacking; 3];
     for word in text.split_terminator(',') {
-        let Some((column, values)) = word.split_once('=') else {
-            return Err(Fail::from("no column"));
-        };
-        columns.push(OnColumn {
-            column: place(column)?,
-            values: values_in(alloc, values)?,
-        })?;
+        let (column, values) = parted(word)?;
+        columns = with(columns, column, column_in(values)?)?;
     }
     Ok(columns)
 }
 
 // A load by its version and columns, as `1:0=1,1=*`, or a region, as `flush:0=1`.
-fn step_in(alloc: Global, word: &str) -> Result<Step, Fail> {
+fn step_in(word: &str) -> Result<Step, Fail> {
     match word.split_once(':') {
-        Some(("flush", at)) => Ok(Step::Flush {
-            at: pairs_in(alloc, at)?,
-        }),
+        Some(("flush", at)) => Ok(Step::Flush { at: at_in(at)? }),
         Some((version, columns)) => Ok(Step::Load {
             version: number(version)?,
-            columns: columns_in(alloc, columns)?,
+            columns: columns_in(columns)?,
         }),
         None => Err(Fail::from("no step")),
     }
@@ -77,22 +95,41 @@ fn step_in(alloc: Global, word: &str) -> Result<Step, Fail> {
 pub fn steps_in(alloc: Global, words: &[&str]) -> Result<Vec<Step>, Fail> {
     let mut steps = Vec::new(alloc);
     for word in words {
-        steps.push(step_in(alloc, word)?)?;
+        steps.push(step_in(word)?)?;
     }
     Ok(steps)
+}
+
+// Adds a number behind a text.
+fn add_number(alloc: Global, text: &mut String, before: &str, number: u32) -> Result<(), Fail> {
+    let shown = format!(in alloc; "{before}{number}")?;
+    Ok(text.push_str(shown.as_str())?)
 }
 
 // Values with a plus between two, or a star for any.
 fn add_values(alloc: Global, text: &mut String, allowed: &Allowed) -> Result<(), Fail> {
     let Allowed::Set(values) = allowed else {
-        text.push_str("*")?;
-        return Ok(());
+        return Ok(text.push_str("*")?);
     };
-    let mut between = "";
+    let mut before = "";
     for value in values.as_slice() {
-        text.push_str(between)?;
-        text.push_str(format!(in alloc; "{}", value.0)?.as_str())?;
-        between = "+";
+        add_number(alloc, text, before, value.0)?;
+        before = "+";
+    }
+    Ok(())
+}
+
+// A load of a plan with what is its own: `, 3 of 0+1`.
+fn add_part(alloc: Global, text: &mut String, part: &Part) -> Result<(), Fail> {
+    let shown = format!(in alloc; ", {} of ", part.load)?;
+    text.push_str(shown.as_str())?;
+    add_values(alloc, text, &part.own)
+}
+
+// The loads of a plan.
+fn add_parts(alloc: Global, text: &mut String, parts: &[Part]) -> Result<(), Fail> {
+    for part in parts {
+        add_part(alloc, text, part)?;
     }
     Ok(())
 }
@@ -100,9 +137,6 @@ fn add_values(alloc: Global, text: &mut String, allowed: &Allowed) -> Result<(),
 /// A plan: its split, and each load with what is its own: `along 1, 3 of 0+1, 4 of *`.
 pub fn plan_text(alloc: Global, plan: &Plan) -> Result<String, Fail> {
     let mut text = format!(in alloc; "along {}", plan.split.0)?;
-    for part in plan.parts.as_slice() {
-        text.push_str(format!(in alloc; ", {} of ", part.load)?.as_str())?;
-        add_values(alloc, &mut text, &part.own)?;
-    }
+    add_parts(alloc, &mut text, plan.parts.as_slice())?;
     Ok(text)
 }

@@ -1,14 +1,13 @@
 //! Tables of cells and of the steps before a plan is asked for, each with the plan and with what is rolled up by it.
-ghost use Rattle.std.specs.Prelude.{◌≡◌, [], All, IfOk, OnOk};
+ghost use Rattle.std.specs.Prelude.{All, OnOk};
 ghost use Rattle.rollup_tests.specs.Held.{IsFrom, IsPlanFor};
 
-use crate::named::{measure_in, pairs_in, plan_text, steps_in};
+use crate::named::{at_in, measure_in, plan_text, steps_in};
 use crate::rolling::{all_rolled, may_join, plan_for, rolled};
 use crate::steps::{cell_of, take_steps};
 use cache_flush::{CacheShelf, PlainShelf, Shelf};
 use history_core::is_cell;
 use load_samples::headers::no_memory;
-use measure_folds::Tally;
 use olap_meaning::{Cell, CellValue};
 use rollup_plan::Plan;
 use segment_header::copy_cell;
@@ -18,66 +17,47 @@ use std::test::Fail;
 use test_samples::lines::{add_line, asked, words};
 use test_samples::sales::Sales;
 
-// The cells of a word, by the first one's measure: `sum:0=0/0=1`.
+// A cell of a measure: `0=0,1=1`.
+fn cell_in(alloc: Global, measure: u16, text: &str) -> Result<Cell, Fail> {
+    let at = at_in(text)?;
+    cell_of(alloc, measure, &at).map_err(no_memory)
+}
+
+// Cells of a measure: `0=0/0=1`.
 fn cells_in(alloc: Global, measure: u16, text: &str) -> Result<Vec<Cell>, Fail> {
     let mut cells = Vec::new(alloc);
     for at in text.split('/') {
-        let pairs = pairs_in(alloc, at)?;
-        cells.push(cell_of(alloc, measure, &pairs).map_err(no_memory)?)?;
+        cells.push(cell_in(alloc, measure, at)?)?;
     }
     Ok(cells)
 }
 
-// That cells, rolled up in one call, are worth what each was by itself.
-fn agree(tallies: &[Tally], worths: &[CellValue]) -> Result<(), Fail> {
-    if tallies.len() != worths.len() {
-        return Err(Fail::from("other tallies"));
-    }
-    for i in 0..worths.len() {
-        if tallies[i].finish() != worths[i] {
-            return Err(Fail::from("another tally"));
-        }
-    }
-    Ok(())
-}
-
-// Cells that are rolled up by one plan, what each is worth, and what is told of all cells.
-#[derive(Drop)]
-struct Told {
-    cells: Vec<Cell>,
-    worths: Vec<CellValue>,
-    text: String,
-}
-
-// Tells what a cell is worth by the plan for another one, and adds it where it is rolled up by it.
-fn tell_cell<S: Shelf>(
+// What a cell is worth by the plan for another one, where it is rolled up by it.
+fn worth_by<S: Shelf>(
     alloc: Global,
     sales: &Sales,
     shelf: &S,
     plan: &Plan,
     first: &Cell,
     cell: &Cell,
-    told: &mut Told,
-) -> Result<(), Fail>
+) -> Option<CellValue>
     requires from { All (IsFrom sales.now) (S.loads shelf.now) }
     requires plan { IsPlanFor sales.now (S.loads shelf.now) plan.now first.now }
-    requires cells { All (IsPlanFor sales.now (S.loads shelf.now) plan.now) told.old.cells.items }
-    ensures { OnOk result
-        (All (IsPlanFor sales.now (S.loads shelf.now) plan.now) told.new.cells.items) }
 {
-    if !may_join(shelf, plan, first, cell) {
-        told.text.push_str("; not served")?;
-        return Ok(());
+    if may_join(shelf, plan, first, cell) {
+        Some(rolled(alloc, sales, shelf, plan, cell).finish())
+    } else {
+        None
     }
-    let worth = rolled(alloc, sales, shelf, plan, cell).finish();
-    let text = format!(in alloc; "; {worth:?}")?;
-    told.text.push_str(text.as_str())?;
-    told.worths.push(worth)?;
-    let Ok(copy) = copy_cell(alloc, cell) else {
-        return Err(Fail::from("no memory"));
+}
+
+// Adds what a cell is worth to what is told.
+fn add_worth(alloc: Global, told: &mut String, worth: Option<CellValue>) -> Result<(), Fail> {
+    let Some(worth) = worth else {
+        return Ok(told.push_str("; not served")?);
     };
-    told.cells.push(copy)?;
-    Ok(())
+    let text = format!(in alloc; "; {worth:?}")?;
+    Ok(told.push_str(text.as_str())?)
 }
 
 // Tells what each of some cells is worth by the plan for another one.
@@ -88,44 +68,119 @@ fn tell_each<S: Shelf>(
     plan: &Plan,
     first: &Cell,
     cells: &[Cell],
-    told: &mut Told,
+    told: &mut String,
 ) -> Result<(), Fail>
     requires from { All (IsFrom sales.now) (S.loads shelf.now) }
     requires plan { IsPlanFor sales.now (S.loads shelf.now) plan.now first.now }
-    requires cells { All (IsPlanFor sales.now (S.loads shelf.now) plan.now) told.old.cells.items }
-    ensures { OnOk result
-        (All (IsPlanFor sales.now (S.loads shelf.now) plan.now) told.new.cells.items) }
 {
     for cell in cells {
-        tell_cell(alloc, sales, shelf, plan, first, cell, told)?;
+        add_worth(
+            alloc,
+            told,
+            worth_by(alloc, sales, shelf, plan, first, cell),
+        )?;
     }
     Ok(())
 }
 
-// That cells, rolled up in one call, are worth what each was told to be.
+// Adds a cell to those that are rolled up by the plan for another one, where it is.
+fn join<S: Shelf>(
+    alloc: Global,
+    sales: &Sales,
+    shelf: &S,
+    plan: &Plan,
+    first: &Cell,
+    cell: &Cell,
+    joined: &mut Vec<Cell>,
+) -> Result<(), Fail>
+    requires plan { IsPlanFor sales.now (S.loads shelf.now) plan.now first.now }
+    requires joined { All (IsPlanFor sales.now (S.loads shelf.now) plan.now) joined.old.items }
+    ensures { OnOk result
+        (All (IsPlanFor sales.now (S.loads shelf.now) plan.now) joined.new.items) }
+{
+    if may_join(shelf, plan, first, cell) {
+        joined.push(copy_cell(alloc, cell).map_err(no_memory)?)?;
+    }
+    Ok(())
+}
+
+// Adds those of some cells that are rolled up by the plan for another one.
+fn join_each<S: Shelf>(
+    alloc: Global,
+    sales: &Sales,
+    shelf: &S,
+    plan: &Plan,
+    first: &Cell,
+    cells: &[Cell],
+    joined: &mut Vec<Cell>,
+) -> Result<(), Fail>
+    requires plan { IsPlanFor sales.now (S.loads shelf.now) plan.now first.now }
+    requires joined { All (IsPlanFor sales.now (S.loads shelf.now) plan.now) joined.old.items }
+    ensures { OnOk result
+        (All (IsPlanFor sales.now (S.loads shelf.now) plan.now) joined.new.items) }
+{
+    for cell in cells {
+        join(alloc, sales, shelf, plan, first, cell, joined)?;
+    }
+    Ok(())
+}
+
+// Tells what cells are worth that are rolled up in one call.
+fn tell_all<S: Shelf>(
+    alloc: Global,
+    sales: &Sales,
+    shelf: &S,
+    plan: &Plan,
+    cells: &[Cell],
+    told: &mut String,
+) -> Result<(), Fail>
+    requires from { All (IsFrom sales.now) (S.loads shelf.now) }
+    requires cells { All (IsPlanFor sales.now (S.loads shelf.now) plan.now) cells.now }
+{
+    let tallies = all_rolled(alloc, sales, shelf, plan, cells)?;
+    for tally in tallies.as_slice() {
+        add_worth(alloc, told, Some(tally.finish()))?;
+    }
+    Ok(())
+}
+
+// That cells, rolled up in one call, are worth what each is by itself.
 fn check_all<S: Shelf>(
     alloc: Global,
     sales: &Sales,
     shelf: &S,
     plan: &Plan,
-    told: &Told,
+    first: &Cell,
+    cells: &[Cell],
 ) -> Result<(), Fail>
     requires from { All (IsFrom sales.now) (S.loads shelf.now) }
-    requires cells { All (IsPlanFor sales.now (S.loads shelf.now) plan.now) told.now.cells.items }
+    requires plan { IsPlanFor sales.now (S.loads shelf.now) plan.now first.now }
+    requires cells { All (IsPlanFor sales.now (S.loads shelf.now) plan.now) cells.now }
 {
-    let tallies = all_rolled(alloc, sales, shelf, plan, &told.cells)?;
-    agree(tallies.as_slice(), &told.worths)
+    let (mut all, mut each) = (String::new(alloc), String::new(alloc));
+    tell_all(alloc, sales, shelf, plan, cells, &mut all)?;
+    tell_each(alloc, sales, shelf, plan, first, cells, &mut each)?;
+    if all != each {
+        return Err(Fail::from("another tally"));
+    }
+    Ok(())
 }
 
-// What is told of nothing but a plan.
-fn begun(alloc: Global, plan: &Plan) -> Result<Told, Fail>
-    ensures { IfOk result (λ told. told.cells.items ≡ []) }
+// The same of those of some cells that are rolled up by the plan for another one.
+fn check_joined<S: Shelf>(
+    alloc: Global,
+    sales: &Sales,
+    shelf: &S,
+    plan: &Plan,
+    first: &Cell,
+    cells: &[Cell],
+) -> Result<(), Fail>
+    requires from { All (IsFrom sales.now) (S.loads shelf.now) }
+    requires plan { IsPlanFor sales.now (S.loads shelf.now) plan.now first.now }
 {
-    Ok(Told {
-        cells: Vec::new(alloc),
-        worths: Vec::new(alloc),
-        text: plan_text(alloc, plan)?,
-    })
+    let mut joined = Vec::new(alloc);
+    join_each(alloc, sales, shelf, plan, first, cells, &mut joined)?;
+    check_all(alloc, sales, shelf, plan, first, &joined)
 }
 
 // A plan for the first of some cells, and what each is worth by it, one by one and all at once.
@@ -140,10 +195,10 @@ fn tell_plan<S: Shelf>(
     requires from { All (IsFrom sales.now) (S.loads shelf.now) }
     requires plan { IsPlanFor sales.now (S.loads shelf.now) plan.now first.now }
 {
-    let mut told = begun(alloc, plan)?;
+    check_joined(alloc, sales, shelf, plan, first, cells)?;
+    let mut told = plan_text(alloc, plan)?;
     tell_each(alloc, sales, shelf, plan, first, cells, &mut told)?;
-    check_all(alloc, sales, shelf, plan, &told)?;
-    Ok(told.text)
+    Ok(told)
 }
 
 // What is told of cells over the loads of a shelf.
