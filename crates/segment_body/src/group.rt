@@ -161,11 +161,28 @@ impl GroupTable {
                 tally.step(number)?;
                 Ok(place)
             }
-            None => {
-                let tally = first_tally(alloc, aggregator, number)?;
-                self.push_group(alloc, values, tally)
-            }
+            None => self.begin(alloc, aggregator, values, number),
         }
+    }
+
+    // A group of one row at the end, which has values that none has. It answers its place.
+    fn begin(
+        &mut self,
+        alloc: Global,
+        aggregator: Aggregator,
+        values: &[ValueId],
+        number: Option<i64>,
+    ) -> Result<usize, OutOfMemory>
+        requires { list_any (bytes_eq values.now) (values_of self.old) ≡ false }
+        ensures place { IfOk result (λ place. place ≡ length self.old) }
+        ensures ok { OnOk result
+            (self.new
+            ≡ self.old
+            ++ group values.now (record { aggregator = aggregator; values = number ∷ [] }) ∷ []) }
+        ensures err { OnErr result (self.new ≡ self.old) }
+    {
+        let tally = first_tally(alloc, aggregator, number)?;
+        self.push_group(alloc, values, tally)
     }
 
     /// Merges a tally into that of the group at a place. It takes no memory.

@@ -35,11 +35,11 @@ returns-in_ok-step-in-Some-clause-ok c =
     rw (← c.self.view_is)
     (inl (there.1, λ e. groups_set (λ key. key) c.self.inside.tallies.entries c.in-Some.place c.index_mut-tally.result.now c.step.new.self e c.args.number c.index_mut-tally.ensures.value c.in_ok-step-in-Some.ensures.ok))
 
-pub push_group-requires : goal.push_group-requires
-push_group-requires c =
+pub begin-requires : goal.begin-requires
+begin-requires c =
     unfound c.args.values.now c.args.self.now (sym c.place_of.ensures ∙ c.in-None.is)
 
-pub returns-in_ok-tally-in-None-clause-ok : goal.returns-in_ok-tally-in-None-clause-ok
-returns-in_ok-tally-in-None-clause-ok c =
+pub returns-in-None-clause-ok : goal.returns-in-None-clause-ok
+returns-in-None-clause-ok c =
     let none = unfound c.args.values.now c.args.self.now (sym c.place_of.ensures ∙ c.in-None.is) in
-    at_the_end c.push_group.result c.args.aggregator c.args.values.now c.args.number c.args.self.now c.push_group.new.self none c.push_group.ensures.place (rw c.in_ok-tally-in-None.ensures at c.push_group.ensures.ok)
+    at_the_end c.begin.result c.args.aggregator c.args.values.now c.args.number c.args.self.now c.begin.new.self none c.begin.ensures.place c.begin.ensures.ok
