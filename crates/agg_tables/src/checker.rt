@@ -108,7 +108,7 @@ impl<'a> Checker<'a> {
         if count > 0 && same {
             return Ok(());
         }
-        Err(differing(alloc, n, self.file.fact_count(), field, &value)?)
+        Err(differing(alloc, n, self.file.fact_count(), field, &value))
     }
 
     // Whether a column of numbers of a record says what the rows with its values give.
@@ -138,7 +138,7 @@ impl<'a> Checker<'a> {
             return Ok(());
         }
         let name = &self.file.columns()[j].name;
-        Err(differing(alloc, n, name, field, &value)?)
+        Err(differing(alloc, n, name, field, &value))
     }
 
     // Whether all columns of numbers of a record do.

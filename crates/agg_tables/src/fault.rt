@@ -88,8 +88,8 @@ impl AggFault {
     }
 }
 
-/// The fault of a record whose field in this column differs from what was computed.
-pub(crate) fn differing(
+// The fault of a record whose field in this column differs from what was computed.
+fn difference(
     alloc: Global,
     row: u64,
     column: &Text,
@@ -106,4 +106,21 @@ pub(crate) fn differing(
         stored: Text::from_str(alloc, stored)?,
         computed: plain_text(alloc, computed)?,
     })
+}
+
+/// The fault of a record whose field in this column differs from what was computed, or that there is no memory to tell it.
+pub(crate) fn differing(
+    alloc: Global,
+    row: u64,
+    column: &Text,
+    stored: &str,
+    computed: &CellValue,
+) -> AggFault
+    ensures { (result ≡ AggFault.Differs row column.now stored.now (plain_text computed.now))
+        ⊎ (result ≡ AggFault.OutOfMemory) }
+{
+    match difference(alloc, row, column, stored, computed) {
+        Ok(fault) => fault,
+        Err(OutOfMemory) => AggFault::OutOfMemory,
+    }
 }
