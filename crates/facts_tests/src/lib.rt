@@ -1,5 +1,5 @@
-//! Tests of tallies, of batches, of the versions of cubes, and of segments and their loads. They stand apart, since a crate with tests
-//! is proved twice.
+//! Tests of schemas, tables and catalogs; of tallies, of batches, of the versions of cubes, and of segments and their loads. They
+//! stand apart, since a crate with tests is proved twice.
 #![tactic(auto)]
 
 #[cfg(test)]
@@ -18,6 +18,8 @@ mod headers;
 mod loads;
 #[cfg(test)]
 mod parts;
+#[cfg(test)]
+mod schemas;
 #[cfg(test)]
 mod tallies;
 #[cfg(test)]

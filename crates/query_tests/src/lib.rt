@@ -1,5 +1,5 @@
-//! Tests of the readers of queries, of flushes, of paths and of shown values; of what queries mean; and of grids laid out
-//! and read back. They stand apart, since a crate with tests is proved twice.
+//! Tests of the readers of queries, of flushes, of paths and of shown values; of what queries mean, and regions; and of grids
+//! laid out and read back. They stand apart, since a crate with tests is proved twice.
 #![tactic(auto)]
 
 #[cfg(test)]
@@ -14,6 +14,8 @@ mod meanings;
 mod paths;
 #[cfg(test)]
 mod queries;
+#[cfg(test)]
+mod regions;
 #[cfg(test)]
 mod shown;
 #[cfg(test)]

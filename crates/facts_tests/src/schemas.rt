@@ -1,0 +1,4 @@
+//! Schemas, tables and catalogs.
+mod faults;
+mod members;
+mod sample;
