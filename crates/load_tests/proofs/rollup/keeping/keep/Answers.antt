@@ -1,12 +1,9 @@
--- A place is made for the load's header, and the number is another one.
-use Rattle.std.proofs.Common.{◌∙◌, sym, []}
-use Rattle.index_samples.proofs.PlaceFacts.{not_there}
+-- A place was made for the load's header, and the number is another one.
+use Rattle.std.proofs.Common.{[]}
 use Rattle.load_tests.proofs.rollup.keeping.keep.Goals as goal
 
 pub insert-requires-clause-place : goal.insert-requires-clause-place
-insert-requires-clause-place g c = ([], [], rw c.header.ensures.value at (c.in_ok-reserve.ensures.place [] c.places_are_apart.ensures.none))
+insert-requires-clause-place g c = ([], [], c.in_ok-make_room.ensures.place)
 
 pub insert-requires-clause-another : goal.insert-requires-clause-another
-insert-requires-clause-another g c =
-    rw c.in_ok-reserve.ensures.loads
-    (not_there (g.S.Shelf.loads c.args.shelf.now) c.args.kept.load c.kept.result (sym c.is_some.ensures ∙ c.if-is_some.false) c.kept.ensures)
+insert-requires-clause-another g c = c.in_ok-make_room.ensures.another
