@@ -123,19 +123,55 @@ fn rows_above_the_limit_are_refused(rt: HostRuntime) -> Result<(), Fail> {
     Ok(())
 }
 
+// Appends a batch to the one cube.
+fn append_copy(facts: &mut Facts, batch: &Arc<Batch>) -> Result<(), Fail>
+    requires one { length facts.old.cubes ≡ 1 }
+    requires alike { All (IsAlike batch.now.value) (batches_of facts.old 0) }
+    ensures one { OnOk result (length facts.new.cubes ≡ 1) }
+    ensures alike { OnOk result (All (IsAlike batch.now.value) (batches_of facts.new 0)) }
+{
+    let copy = Arc::try_clone(batch)?;
+    match facts.append(CubeId(0), copy) {
+        Ok(_) => Ok(()),
+        Err(fault) => Err(refused(fault)),
+    }
+}
+
+// Appends a batch to the one cube, so many times.
+fn append_each(facts: &mut Facts, batch: &Arc<Batch>, count: u32) -> Result<(), Fail>
+    requires one { length facts.old.cubes ≡ 1 }
+    requires alike { All (IsAlike batch.now.value) (batches_of facts.old 0) }
+    ensures one { OnOk result (length facts.new.cubes ≡ 1) }
+    ensures alike { OnOk result (All (IsAlike batch.now.value) (batches_of facts.new 0)) }
+{
+    for _ in 0..count {
+        append_copy(facts, batch)?;
+    }
+    Ok(())
+}
+
+// Why a batch is not appended to the one cube.
+fn refusal(facts: &mut Facts, batch: &Arc<Batch>) -> Result<Option<AppendFault>, Fail>
+    requires one { length facts.old.cubes ≡ 1 }
+    requires alike { All (IsAlike batch.now.value) (batches_of facts.old 0) }
+    ensures { OnOk result (length facts.new.cubes ≡ 1) }
+{
+    let copy = Arc::try_clone(batch)?;
+    match facts.append(CubeId(0), copy) {
+        Ok(_) => Ok(None),
+        Err(fault) => Ok(Some(fault)),
+    }
+}
+
 #[test]
 fn versions_above_the_limit_are_refused(rt: HostRuntime) -> Result<(), Fail> {
     let alloc = rt.alloc();
     let mut facts = Facts::new(alloc, 1, 5).map_err(no_memory)?;
     let empty = shared(alloc, &[])?;
-    for _ in 0..VERSION_LIMIT {
-        facts
-            .append(CubeId(0), Arc::try_clone(&empty)?)
-            .map_err(refused)?;
-    }
+    append_each(&mut facts, &empty, VERSION_LIMIT)?;
     assert_eq!(rt;
-        facts.append(CubeId(0), empty),
-        Err(AppendFault::TooManyVersions { limit: 100_000 })
+        refusal(&mut facts, &empty)?,
+        Some(AppendFault::TooManyVersions { limit: 100_000 })
     );
     assert_eq!(rt; facts.version(CubeId(0)), Version(100_000));
     Ok(())
