@@ -1,18 +1,19 @@
 -- What a table sums up, and its bodies over more rows.
-use Rattle.std.proofs.Common.{◌≡◌, ◌∙◌, ◌<◌, ◌≤◌, ◌+◌, ℕ, zero, suc, true, List, [], ◌∷◌, ◌++◌, Some, length, map, take, drop, get_or, refl, sym, arith, All}
-use Rattle.std.specs.Prelude.{IsTrue, nat_lt, slice_set}
+use Rattle.std.proofs.Common.{◌≡◌, ◌∙◌, ◌<◌, ◌≤◌, ◌+◌, ℕ, zero, suc, true, List, [], ◌∷◌, ◌++◌, Some, length, map, get_or, refl, sym, arith, All}
+use Rattle.std.specs.Prelude.{IsTrue, nat_lt}
 use Rattle.std.specs.List.{list_all}
 use Rattle.std.proofs.lemmas.Bool.{and_from, and_parts}
 use Rattle.std.proofs.lemmas.Bool.Decides.{nat_tests}
 use Rattle.olap_meaning.specs.declared.tables.Catalog.{Catalog}
 use Rattle.olap_meaning.specs.declared.tables.Row.{Row}
 use Rattle.segment_body.specs.BodyOf.{BodyOf}
+use Rattle.fact_reader.specs.Blocks.{AreLike, IsLike, with_rows}
 use Rattle.fact_reader.specs.BodyRows.{is_loadable}
 use Rattle.fact_reader.proofs.BatchFacts.{body_rows-append, body_rows-fit}
 use Rattle.agg_tables.specs.declared.declared.Declared.{Declared}
 use Rattle.agg_tables.specs.declared.declared.Fold.{Fold}
 use Rattle.agg_tables.specs.declared.declared.TableMeasure.{TableMeasure}
-use Rattle.agg_tables.specs.Bound.{AreFolds, IsPlaced, with_rows}
+use Rattle.agg_tables.specs.Bound.{AreFolds, IsPlaced}
 use Rattle.agg_tables.specs.Tables.{fold_over, folds_of, table_header}
 use Rattle.agg_tables.proofs.ColumnFacts.{can_be_loaded}
 
@@ -80,17 +81,9 @@ bodies_fit catalog declared rows folds more limit room =
     each_fold (λ (body : BodyOf). length body.rows + more ≤ limit) (fold_over catalog declared rows) folds
     (λ k d within. omega (arith, room, body_rows-fit catalog (table_header catalog declared (get_or folds k d).measure) rows))
 
--- one element more of a list is changed, as those before it
-pub changed_next : {A : Type 0} (g : A → A) (xs ys : List A) (k : ℕ) (d new : A) → xs ≡ map g (take k ys) ++ drop k ys → k < length xs → new ≡ g (get_or xs k d) → slice_set xs k new ≡ map g (take (suc k) ys) ++ drop (suc k) ys
-changed_next g [] ys k d new so_far below changed = absurd (omega arith)
-changed_next g (x ∷ xs) [] zero d new so_far below changed = absurd (cc)
-changed_next g (x ∷ xs) [] (suc k) d new so_far below changed = absurd (cc)
-changed_next g (x ∷ xs) (y ∷ ys) zero d new so_far below changed =
-    let first : x ≡ y = cc in
-    let rest : xs ≡ ys = cc in
-    let e : new ≡ g x = changed in
-    rw (e, first, rest) refl
-changed_next g (x ∷ xs) (y ∷ ys) (suc k) d new so_far below changed =
-    let first : x ≡ g y = cc in
-    let rest : xs ≡ map g (take k ys) ++ drop k ys = cc in
-    rw (first, changed_next g xs ys k d new rest (omega arith) changed) refl
+-- they differ in their measures alone
+pub bodies_alike : (catalog : Catalog) (declared : Declared) (rows : List Row) (folds : List Fold) → AreLike (map (fold_over catalog declared rows) folds)
+bodies_alike catalog declared rows folds =
+    each_fold (λ (own : BodyOf). All (λ (body : BodyOf). IsLike own.header.cube own.header.columns body.header) (map (fold_over catalog declared rows) folds)) (fold_over catalog declared rows) folds
+    (λ k d within. each_fold (λ (body : BodyOf). IsLike (fold_over catalog declared rows (get_or folds k d)).header.cube (fold_over catalog declared rows (get_or folds k d)).header.columns body.header) (fold_over catalog declared rows) folds
+    (λ i e lt. record { own_cube = refl; own_columns = refl }))

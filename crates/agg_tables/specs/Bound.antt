@@ -3,10 +3,7 @@ use Rattle.std.specs.Prelude.{◌≡◌, ◌<◌, ◌++◌, List, [], ◌∷◌,
 use Rattle.std.specs.List.{list_all}
 use Rattle.olap_meaning.specs.declared.tables.Catalog.{Catalog}
 use Rattle.olap_meaning.specs.declared.tables.Cube.{Cube}
-use Rattle.olap_meaning.specs.declared.tables.Row.{Row}
 use Rattle.olap_meaning.specs.Legal.{is_column_of}
-use Rattle.segment_body.specs.BodyOf.{BodyOf}
-use Rattle.fact_reader.specs.BodyRows.{body_rows}
 use Rattle.agg_tables.specs.declared.declared.Declared.{Declared}
 use Rattle.agg_tables.specs.declared.declared.Fold.{Fold}
 use Rattle.agg_tables.specs.declared.declared.TableLevel.{TableLevel}
@@ -32,8 +29,3 @@ pub record AreFolds (catalog : Catalog) (declared : Declared) (folds : List Fold
 -- a level is added to others where none of them has its column
 abbrev pub with_level : List TableLevel → TableLevel → List TableLevel
 with_level levels level = if has_column levels level.column then levels else levels ++ level ∷ []
-
--- a body with the rows that its header allows of some fact rows
-abbrev pub with_rows : Catalog → List Row → BodyOf → BodyOf
-with_rows catalog rows body =
-    record body { rows = body.rows ++ body_rows catalog body.header rows }

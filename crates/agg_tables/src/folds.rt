@@ -1,18 +1,17 @@
 //! What an aggregate table sums up, in one pass over the rows.
-ghost use Rattle.std.specs.Prelude.{◌≡◌, ◌+◌, ◌≤◌, All, IfOk, IsTrue, OnOk, [], length, map};
-ghost use Rattle.fact_reader.specs.BodyRows.{are_batches, is_batch, is_loadable, rows_in};
-ghost use Rattle.agg_tables.specs.Bound.{AreFolds, IsPlaced, with_rows};
+ghost use Rattle.std.specs.Prelude.{◌≡◌, ◌+◌, ◌≤◌, IfOk, IsTrue, OnOk, [], length, map};
+ghost use Rattle.fact_reader.specs.BodyRows.{are_batches, rows_in};
+ghost use Rattle.agg_tables.specs.Bound.{AreFolds, IsPlaced};
 ghost use Rattle.agg_tables.specs.Tables.{fold_over};
 ghost use Rattle.agg_tables.specs.Tables as meaning;
 
 use crate::columns::header_for;
 use crate::declared::{Declared, Fold, TableMeasure};
-use fact_reader::RowReader;
-use fact_versions::{Piece, Snapshot, Steps};
+use fact_reader::add_to_each;
+use fact_versions::{Snapshot, Steps};
 use olap_catalog::Catalog;
-use olap_meaning::{Aggregator, MeasureId, OutOfMemory, ROW_LIMIT, ValueId};
+use olap_meaning::{Aggregator, MeasureId, OutOfMemory};
 use segment_body::Body;
-use segment_header::copy_header;
 use std::alloc::Global;
 use std::sync::ledger::Ledger;
 
@@ -58,11 +57,7 @@ pub(crate) fn sum_up<L: Ledger>(
     // A snapshot has no more rows than a body has room for.
     let _rows = snapshot.rows();
     let mut bodies = empty_bodies(alloc, catalog, declared, folds)?;
-    let mut values = Vec::new(alloc);
-    for i in 0..snapshot.pieces() {
-        let piece = snapshot.piece(i, steps);
-        add_to_each(alloc, catalog, &piece, &mut values, &mut bodies)?;
-    }
+    add_to_each(alloc, catalog, snapshot, &mut bodies, steps)?;
     Ok(bodies)
 }
 
@@ -82,41 +77,4 @@ fn empty_bodies(
         bodies.push(Body::new(alloc, header, fold.aggregator)?)?;
     }
     Ok(bodies)
-}
-
-// Adds the rows of a piece to each of some bodies.
-fn add_to_each(
-    alloc: Global,
-    catalog: &Catalog,
-    piece: &Piece<'_>,
-    values: &mut Vec<ValueId>,
-    bodies: &mut Vec<Body>,
-) -> Result<(), OutOfMemory>
-    requires loadable { All (λ body. IsTrue (is_loadable catalog.now body.header)) bodies.old.items }
-    requires fit { All (λ body. IsTrue (is_batch catalog.now body.header.cube piece.now)) bodies.old.items }
-    requires room { All (λ body. length body.rows + length piece.now.rows ≤ ROW_LIMIT) bodies.old.items }
-    ensures { OnOk result (bodies.new.items ≡ map (with_rows catalog.now piece.now.rows) bodies.old.items) }
-{
-    for body in bodies.iter_mut() {
-        add_piece(alloc, catalog, piece, values, body)?;
-    }
-    Ok(())
-}
-
-// Adds the rows of a piece to a body, as far as its header allows them.
-fn add_piece(
-    alloc: Global,
-    catalog: &Catalog,
-    piece: &Piece<'_>,
-    values: &mut Vec<ValueId>,
-    body: &mut Body,
-) -> Result<(), OutOfMemory>
-    requires loadable { IsTrue (is_loadable catalog.now body.old.header) }
-    requires fit { IsTrue (is_batch catalog.now body.old.header.cube piece.now) }
-    requires room { length body.old.rows + length piece.now.rows ≤ ROW_LIMIT }
-    ensures { OnOk result (body.new ≡ with_rows catalog.now piece.now.rows body.old) }
-{
-    let header = copy_header(alloc, body.header())?;
-    let reader = RowReader::new(alloc, catalog, &header)?;
-    reader.add_rows(piece, values, body)
 }

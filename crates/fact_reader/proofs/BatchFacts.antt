@@ -21,10 +21,10 @@ length-rows_in (batch ∷ batches) =
     let first = sum_by-append (λ (b : FactRows). length b.rows) (batch ∷ []) batches in
     omega (arith, first, rest, length-append batch.rows (rows_in batches))
 
-taken : {A : Type 0} (xs : List A) (i : ℕ) (x : A) → slice_get xs i ≡ Some x → take (suc i) xs ≡ take i xs ++ x ∷ []
-taken [] i x at = absurd (cc)
-taken (y ∷ ys) zero x at = let same : y ≡ x = cc in rw same refl
-taken (y ∷ ys) (suc i) x at = ap (λ (zs : List _). y ∷ zs) (taken ys i x at)
+pub taken_next : {A : Type 0} (xs : List A) (i : ℕ) (x : A) → slice_get xs i ≡ Some x → take (suc i) xs ≡ take i xs ++ x ∷ []
+taken_next [] i x at = absurd (cc)
+taken_next (y ∷ ys) zero x at = let same : y ≡ x = cc in rw same refl
+taken_next (y ∷ ys) (suc i) x at = ap (λ (zs : List _). y ∷ zs) (taken_next ys i x at)
 
 rows_in-append : (xs ys : List FactRows) → rows_in (xs ++ ys) ≡ rows_in xs ++ rows_in ys
 rows_in-append [] ys = refl
@@ -33,7 +33,7 @@ rows_in-append (x ∷ xs) ys = ap (λ (rows : List Row). x.rows ++ rows) (rows_i
 -- the rows of one batch more
 pub rows_in_next : (batches : List FactRows) (i : ℕ) (batch : FactRows) → slice_get batches i ≡ Some batch → rows_in (take (i + 1) batches) ≡ rows_in (take i batches) ++ batch.rows
 rows_in_next batches i batch at =
-    rw (add-one i, taken batches i batch at)
+    rw (add-one i, taken_next batches i batch at)
     (rows_in-append (take i batches) (batch ∷ []) ∙ ap (λ (rows : List Row). rows_in (take i batches) ++ rows) (append-nil batch.rows))
 
 pub rows_in_more : (batches : List FactRows) (i : ℕ) (batch : FactRows) → slice_get batches i ≡ Some batch → length (rows_in (take (i + 1) batches)) ≡ length (rows_in (take i batches)) + length batch.rows
@@ -83,7 +83,7 @@ module _ (catalog : Catalog) (header : Header) where
   pub body_rows_next : (batch : FactRows) (i : ℕ) → slice_get batch.rows i ≡ Some (row_at batch i)
       → body_rows catalog header (take (i + 1) batch.rows) ≡ body_rows catalog header (take i batch.rows) ++ option_to_list (body_row catalog header (row_at batch i))
   body_rows_next batch i at =
-      rw (add-one i, taken batch.rows i (row_at batch i) at)
+      rw (add-one i, taken_next batch.rows i (row_at batch i) at)
       (body_rows-append (take i batch.rows) (row_at batch i ∷ []) ∙ ap (λ (rows : List (List ℕ × Option ℤ)). body_rows catalog header (take i batch.rows) ++ rows) (one (body_row catalog header (row_at batch i)) refl))
     where
       one : (o : Option (List ℕ × Option ℤ)) → body_row catalog header (row_at batch i) ≡ o → body_rows catalog header (row_at batch i ∷ []) ≡ option_to_list (body_row catalog header (row_at batch i))

@@ -3,3 +3,4 @@ pub mod RowFacts
 pub mod FactPlaces
 pub mod BatchFacts
 pub mod ValuedFacts
+pub mod BlockFacts

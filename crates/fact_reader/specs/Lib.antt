@@ -1,3 +1,4 @@
 pub mod BodyRows
 pub mod Reading
 pub mod Laws
+pub mod Blocks

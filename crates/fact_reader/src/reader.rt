@@ -78,7 +78,7 @@ impl<'a> RowReader<'a> {
     }
 
     /// Puts the values of a row on the header's columns into a buffer, and tells whether the header allows them all.
-    fn values(
+    pub(crate) fn values(
         &self,
         piece: &Piece<'_>,
         i: u64,
@@ -102,13 +102,20 @@ impl<'a> RowReader<'a> {
     }
 
     /// The number of a row in the measure's fact column.
-    fn number(&self, piece: &Piece<'_>, i: u64) -> Option<i64>
+    pub(crate) fn number(&self, piece: &Piece<'_>, i: u64) -> Option<i64>
         requires row { i < length piece.now.rows }
         requires fit { IsTrue (is_batch self.now.catalog self.now.header.cube piece.now) }
         requires narrow { piece.now.columns < 2 ^ 32 }
         ensures { result ≡ row_number self.now.catalog self.now.header (row_at piece.now i) }
     {
         piece.value(i, self.place as u32)
+    }
+
+    /// How many columns the header has.
+    pub(crate) fn width(&self) -> usize
+        ensures { result ≡ length self.now.header.columns }
+    {
+        self.header.columns.len()
     }
 
     /// Adds a row to a body, where the header allows it.
