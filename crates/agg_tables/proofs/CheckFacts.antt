@@ -20,7 +20,8 @@ use Rattle.agg_tables.specs.declared.fault.AggFault.{AggFault}
 use Rattle.agg_tables.specs.declared.fault.AggFault.TheVariants.{GroupTwice, OutOfMemory as NoMemory}
 use Rattle.agg_tables.specs.Declarations.{columns_below}
 use Rattle.agg_tables.specs.Files.{fault_among, header_fault, group_fault, group_rows, level_fault, record_values, records_fault, row_fault}
-use Rattle.agg_tables.specs.Tables.{table_columns, values_in}
+use Rattle.fact_reader.specs.BodyRows.{values_in}
+use Rattle.agg_tables.specs.Tables.{table_columns}
 
 pub on_ok : {T E : Type 0} (r : Result T E) (P Q : Type 0) → (P → Q) → OnOk r P → OnOk r Q
 on_ok (Ok x) P Q f h = f h

@@ -1,20 +1,19 @@
 -- What a table sums up, and its bodies over more rows.
-use Rattle.std.proofs.Common.{◌≡◌, ◌∙◌, ◌<◌, ◌≤◌, ◌+◌, ℕ, zero, suc, true, List, [], ◌∷◌, ◌++◌, Some, length, map, get_or, refl, sym, arith, All}
+use Rattle.std.proofs.Common.{◌≡◌, ◌∙◌, ◌<◌, ℕ, zero, suc, true, List, [], ◌∷◌, Some, length, map, get_or, refl, sym, ap, arith, All}
 use Rattle.std.specs.Prelude.{IsTrue, nat_lt}
 use Rattle.std.specs.List.{list_all}
 use Rattle.std.proofs.lemmas.Bool.{and_from, and_parts}
+use Rattle.std.proofs.lemmas.List.Elements.{All-map}
 use Rattle.std.proofs.lemmas.Bool.Decides.{nat_tests}
 use Rattle.olap_meaning.specs.declared.tables.Catalog.{Catalog}
 use Rattle.olap_meaning.specs.declared.tables.Row.{Row}
 use Rattle.segment_body.specs.BodyOf.{BodyOf}
-use Rattle.fact_reader.specs.Blocks.{AreLike, IsLike, with_rows}
-use Rattle.fact_reader.specs.BodyRows.{is_loadable}
-use Rattle.fact_reader.proofs.BatchFacts.{body_rows-append, body_rows-fit}
+use Rattle.fact_reader.specs.BodyRows.{is_loadable, with_rows}
 use Rattle.agg_tables.specs.declared.declared.Declared.{Declared}
 use Rattle.agg_tables.specs.declared.declared.Fold.{Fold}
 use Rattle.agg_tables.specs.declared.declared.TableMeasure.{TableMeasure}
 use Rattle.agg_tables.specs.Bound.{AreFolds, IsPlaced}
-use Rattle.agg_tables.specs.Tables.{fold_over, folds_of, table_header}
+use Rattle.agg_tables.specs.Tables.{fold_over, folds_of}
 use Rattle.agg_tables.proofs.ColumnFacts.{can_be_loaded}
 
 lt_of : (a b : ℕ) → nat_lt a b ≡ true → a < b
@@ -43,18 +42,10 @@ folds_measured n measures some all = by measures all
 pub folds_known : (catalog : Catalog) (declared : Declared) → IsPlaced catalog declared → AreFolds catalog declared (folds_of declared.measures)
 folds_known catalog declared placed = record { cube = placed.cube; known = placed.known; measured = folds_measured (length placed.cube.measures) declared.measures placed.some placed.measured }
 
--- a body over some rows, with more of them
-pub over_more : (catalog : Catalog) (declared : Declared) (xs ys : List Row) (folds : List Fold) → map (with_rows catalog ys) (map (fold_over catalog declared xs) folds) ≡ map (fold_over catalog declared (xs ++ ys)) folds
-over_more catalog declared xs ys [] = refl
-over_more catalog declared xs ys (fold ∷ folds) =
-    let rows = body_rows-append catalog (table_header catalog declared fold.measure) xs ys in
-    rw (rows, over_more catalog declared xs ys folds) refl
-
--- what holds of each fold's body holds of all
-pub each_fold : (P : BodyOf → Type 0) (f : Fold → BodyOf) (folds : List Fold) → ((k : ℕ) (d : Fold) → k < length folds → P (f (get_or folds k d))) → All P (map f folds)
-each_fold P f [] each k d within = absurd (omega arith)
-each_fold P f (fold ∷ folds) each zero d within = each zero fold (omega arith)
-each_fold P f (fold ∷ folds) each (suc k) d within = each_fold P f folds (λ i e lt. each (suc i) e (omega arith)) k d (omega arith)
+-- a body of no row, with some rows
+pub rows_over : (catalog : Catalog) (declared : Declared) (rows : List Row) (folds : List Fold) → map (with_rows catalog rows) (map (fold_over catalog declared []) folds) ≡ map (fold_over catalog declared rows) folds
+rows_over catalog declared rows [] = refl
+rows_over catalog declared rows (fold ∷ folds) = ap (λ (rest : List BodyOf). fold_over catalog declared rows fold ∷ rest) (rows_over catalog declared rows folds)
 
 measured_at : (n : ℕ) (folds : List Fold) (k : ℕ) (d : Fold) → list_all (λ (fold : Fold). nat_lt fold.measure n) folds ≡ true → k < length folds → (get_or folds k d).measure < n
 measured_at n [] k d all within = absurd (omega arith)
@@ -62,10 +53,10 @@ measured_at n (fold ∷ folds) zero d all within = lt_of fold.measure n (and_par
 measured_at n (fold ∷ folds) (suc k) d all within = measured_at n folds k d (and_parts (nat_lt fold.measure n) (list_all (λ (fold : Fold). nat_lt fold.measure n) folds) all).1 (omega arith)
 
 -- the bodies of folds can be loaded
-pub bodies_loadable : (catalog : Catalog) (declared : Declared) (rows : List Row) (folds : List Fold) → IsPlaced catalog declared → AreFolds catalog declared folds
-    → All (λ (body : BodyOf). IsTrue (is_loadable catalog body.header)) (map (fold_over catalog declared rows) folds)
-bodies_loadable catalog declared rows folds placed known =
-    each_fold (λ (body : BodyOf). IsTrue (is_loadable catalog body.header)) (fold_over catalog declared rows) folds
+pub bodies_loadable : (catalog : Catalog) (declared : Declared) (folds : List Fold) → IsPlaced catalog declared → AreFolds catalog declared folds
+    → All (λ (body : BodyOf). IsTrue (is_loadable catalog body.header)) (map (fold_over catalog declared []) folds)
+bodies_loadable catalog declared folds placed known =
+    All-map (λ (body : BodyOf). IsTrue (is_loadable catalog body.header)) (fold_over catalog declared []) folds
     (λ k d within. can_be_loaded catalog declared placed.cube (get_or folds k d).measure placed.known placed.own (measured_at (length placed.cube.measures) folds k d (same_cube known) within))
   where
     same_cube : AreFolds catalog declared folds → list_all (λ (fold : Fold). nat_lt fold.measure (length placed.cube.measures)) folds ≡ true
@@ -73,17 +64,3 @@ bodies_loadable catalog declared rows folds placed known =
         let both : Some k.cube ≡ Some placed.cube = sym k.known ∙ placed.known in
         let same : k.cube ≡ placed.cube = cc in
         rw (← same) k.measured
-
--- they have no more rows than there are
-pub bodies_fit : (catalog : Catalog) (declared : Declared) (rows : List Row) (folds : List Fold) (more limit : ℕ) → length rows + more ≤ limit
-    → All (λ (body : BodyOf). length body.rows + more ≤ limit) (map (fold_over catalog declared rows) folds)
-bodies_fit catalog declared rows folds more limit room =
-    each_fold (λ (body : BodyOf). length body.rows + more ≤ limit) (fold_over catalog declared rows) folds
-    (λ k d within. omega (arith, room, body_rows-fit catalog (table_header catalog declared (get_or folds k d).measure) rows))
-
--- they differ in their measures alone
-pub bodies_alike : (catalog : Catalog) (declared : Declared) (rows : List Row) (folds : List Fold) → AreLike (map (fold_over catalog declared rows) folds)
-bodies_alike catalog declared rows folds =
-    each_fold (λ (own : BodyOf). All (λ (body : BodyOf). IsLike own.header.cube own.header.columns body.header) (map (fold_over catalog declared rows) folds)) (fold_over catalog declared rows) folds
-    (λ k d within. each_fold (λ (body : BodyOf). IsLike (fold_over catalog declared rows (get_or folds k d)).header.cube (fold_over catalog declared rows (get_or folds k d)).header.columns body.header) (fold_over catalog declared rows) folds
-    (λ i e lt. record { own_cube = refl; own_columns = refl }))

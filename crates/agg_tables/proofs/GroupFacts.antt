@@ -8,6 +8,7 @@ use Rattle.olap_meaning.specs.declared.tables.Row.{Row}
 use Rattle.olap_meaning.specs.Catalog.{first_appearances}
 use Rattle.segment_body.specs.BodyOf.{BodyOf, different_values, numbers_at}
 use Rattle.fact_reader.specs.BodyRows.{body_rows, row_number}
+use Rattle.fact_reader.proofs.BatchFacts.{different_texts, values_taken}
 use Rattle.agg_tables.specs.declared.declared.Declared.{Declared}
 use Rattle.agg_tables.specs.declared.declared.Fold.{Fold}
 use Rattle.agg_tables.specs.declared.declared.TableMeasure.{TableMeasure}
@@ -18,7 +19,6 @@ use Rattle.agg_tables.specs.Checks.{number_fault_at, numbers_fault}
 use Rattle.agg_tables.specs.Files.{computed, differs, file_columns, group_rows, says}
 use Rattle.agg_tables.specs.Places.{AreComputed, CheckerOf, FileOf}
 use Rattle.agg_tables.specs.Tables.{fold_over, folds_of, groups_over, table_header, table_values}
-use Rattle.agg_tables.proofs.TableFacts.{different_texts, values_taken}
 
 -- the numbers that a body has of some values are those of the fact rows with these values
 pub numbers_of_group : (catalog : Catalog) (declared : Declared) (measure : ℕ) (values : List ℕ) (rows : List Row)

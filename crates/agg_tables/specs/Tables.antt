@@ -1,5 +1,5 @@
 -- What an aggregate table stands for. (Aggregate Tables)
-use Rattle.std.specs.Prelude.{ℕ, ◌≡◌, ◌<◌, Bool, List, [], ◌∷◌, All, Option, length, map, filter_map, nat_lt, option_map, slice_index_or}
+use Rattle.std.specs.Prelude.{ℕ, ◌<◌, Bool, List, [], ◌∷◌, Option, length, map, filter_map, nat_lt, option_map, slice_index_or}
 use Rattle.olap_meaning.specs.declared.Aggregator.TheVariants.{Count}
 use Rattle.olap_meaning.specs.declared.cells.Allowed.{Allowed}
 use Rattle.olap_meaning.specs.declared.cells.Allowed.TheVariants.{Any}
@@ -9,7 +9,7 @@ use Rattle.olap_meaning.specs.declared.tables.Row.{Row}
 use Rattle.olap_meaning.specs.Catalog.{first_appearances}
 use Rattle.fact_versions.specs.FactRows.{FactRows}
 use Rattle.segment_body.specs.BodyOf.{BodyOf}
-use Rattle.fact_reader.specs.BodyRows.{body_rows, row_values, rows_in}
+use Rattle.fact_reader.specs.BodyRows.{AreAlike, body_rows, row_values, rows_in, values_in}
 use Rattle.agg_tables.specs.declared.declared.Declared.{Declared}
 use Rattle.agg_tables.specs.declared.declared.Fold.{Fold}
 use Rattle.agg_tables.specs.declared.declared.TableMeasure.{TableMeasure}
@@ -56,16 +56,6 @@ pub record TableOf : Type 0 where
   pub rows : ℕ
   pub measured : Bool
   pub bodies : List BodyOf
-
--- the values of the rows of a body
-abbrev pub values_in : BodyOf → List (List ℕ)
-values_in body = map (λ row. row.0) body.rows
-
--- what bodies have in common with one: the cube, the columns, and the values of their rows
-pub record AreAlike (bodies : List BodyOf) (first : BodyOf) : Type 0 where
-  pub cubes : All (λ body. body.header.cube ≡ first.header.cube) bodies
-  pub columns : All (λ body. body.header.columns ≡ first.header.columns) bodies
-  pub values : All (λ body. values_in body ≡ values_in first) bodies
 
 -- the body that a table's groups are told by
 abbrev pub first_body : List BodyOf → BodyOf → BodyOf

@@ -1,11 +1,11 @@
 //! Comparing the records of an aggregate table's file with what the fact rows give.
 ghost use Rattle.std.specs.Prelude.{◌≡◌, ◌⊎◌, ◌<◌, ◌≤◌, [], true, IfErr, IfOk, None, OnOk, Some, length, option_and_then, option_map, slice_get};
 ghost use Rattle.olap_meaning.specs.Records.{is_csv};
-ghost use Rattle.fact_reader.specs.BodyRows.{rows_in};
+ghost use Rattle.fact_reader.specs.BodyRows.{rows_in, values_in};
 ghost use Rattle.agg_tables.specs.Checks.{number_fault_at, numbers_fault, values_fault};
 ghost use Rattle.agg_tables.specs.Files.{computed, count_fault, file_columns, group_rows, missing_fault, record_values, records_fault, row_fault};
 ghost use Rattle.agg_tables.specs.Places.{AreComputed};
-ghost use Rattle.agg_tables.specs.Tables.{groups_over, table_columns, values_in};
+ghost use Rattle.agg_tables.specs.Tables.{groups_over, table_columns};
 
 use crate::fault::{AggFault, differing};
 use crate::fields::says;

@@ -57,7 +57,7 @@ pub(crate) fn sum_up<L: Ledger>(
     // A snapshot has no more rows than a body has room for.
     let _rows = snapshot.rows();
     let mut bodies = empty_bodies(alloc, catalog, declared, folds)?;
-    add_to_each(alloc, catalog, snapshot, &mut bodies, steps)?;
+    add_to_each(alloc, catalog, snapshot, bodies.as_mut_slice(), steps)?;
     Ok(bodies)
 }
 

@@ -1,6 +1,6 @@
 -- The rows of batches, one batch after another, and the rows that a body takes of them.
-use Rattle.std.proofs.Common.{◌≡◌, ◌∙◌, ◌≤◌, ◌+◌, ℕ, ℤ, zero, suc, List, [], ◌∷◌, ◌++◌, Option, None, Some, length, drop, take, append-nil, append_assoc, length-append, add-one, refl, sym, ap, arith}
-use Rattle.std.specs.Prelude.{IsTrue, option_to_list, slice_get}
+use Rattle.std.proofs.Common.{◌≡◌, ◌∙◌, ◌≤◌, ◌+◌, ℕ, ℤ, zero, suc, List, [], ◌∷◌, ◌++◌, Option, None, Some, filter, filter_map, length, map, bytes_eq, drop, take, not, append-nil, append_assoc, length-append, add-one, refl, sym, ap, arith}
+use Rattle.std.specs.Prelude.{IsTrue, option_map, option_to_list, slice_get}
 use Rattle.std.specs.List.{cons_option}
 use Rattle.std.proofs.lemmas.List.Sums.{sum_by-append}
 use Rattle.std.proofs.lemmas.List.Elements.{filter_map-append}
@@ -8,10 +8,12 @@ use Rattle.segment_body.proofs.Places.{each_at}
 use Rattle.olap_meaning.specs.declared.cells.Header.{Header}
 use Rattle.olap_meaning.specs.declared.tables.Catalog.{Catalog}
 use Rattle.olap_meaning.specs.declared.tables.Row.{Row}
+use Rattle.olap_meaning.specs.Catalog.{first_appearances}
 use Rattle.fact_versions.specs.FactRows.{FactRows}
 use Rattle.fact_versions.specs.Facts.{rows_of_batches}
+use Rattle.segment_body.specs.BodyOf.{different_values}
 use Rattle.fact_reader.specs.Reading.{row_at}
-use Rattle.fact_reader.specs.BodyRows.{are_batches, body_row, body_rows, is_batch, rows_in}
+use Rattle.fact_reader.specs.BodyRows.{are_batches, body_row, body_rows, is_batch, row_number, row_values, rows_in}
 
 -- the rows of batches are as many as those of each together
 pub length-rows_in : (batches : List FactRows) → length (rows_in batches) ≡ rows_of_batches batches
@@ -89,3 +91,18 @@ module _ (catalog : Catalog) (header : Header) where
       one : (o : Option (List ℕ × Option ℤ)) → body_row catalog header (row_at batch i) ≡ o → body_rows catalog header (row_at batch i ∷ []) ≡ option_to_list (body_row catalog header (row_at batch i))
       one None e = rw e refl
       one (Some new) e = rw e refl
+
+-- the values of the rows that a body takes
+pub values_taken : (catalog : Catalog) (header : Header) (rows : List Row) → map (λ (row : List ℕ × Option ℤ). row.0) (body_rows catalog header rows) ≡ filter_map (row_values catalog header) rows
+values_taken catalog header [] = refl
+values_taken catalog header (row ∷ rows) = by (row_values catalog header row) (values_taken catalog header rows)
+  where
+    by : (o : Option (List ℕ)) → map (λ (r : List ℕ × Option ℤ). r.0) (body_rows catalog header rows) ≡ filter_map (row_values catalog header) rows
+        → map (λ (r : List ℕ × Option ℤ). r.0) (cons_option (option_map (λ values. (values, row_number catalog header row)) o) (body_rows catalog header rows)) ≡ cons_option o (filter_map (row_values catalog header) rows)
+    by None rest = rest
+    by (Some values) rest = ap (λ (vs : List (List ℕ)). values ∷ vs) rest
+
+-- the different values of rows are those of their values
+pub different_texts : (rows : List (List ℕ × Option ℤ)) → different_values rows ≡ first_appearances (map (λ (row : List ℕ × Option ℤ). row.0) rows)
+different_texts [] = refl
+different_texts (row ∷ rows) = ap (λ (vs : List (List ℕ)). row.0 ∷ filter (λ later. not (bytes_eq row.0 later)) vs) (different_texts rows)

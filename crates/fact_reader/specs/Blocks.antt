@@ -1,76 +1,51 @@
--- Rows that are read once for several measures.
-use Rattle.std.specs.Prelude.{ℕ, ℤ, ◌≡◌, ◌<◌, ◌+◌, ◌++◌, List, [], ◌∷◌, All, IsTrue, Option, drop, filter_map, length, map, option_map, take}
-use Rattle.olap_meaning.specs.declared.cells.Allowed.{Allowed}
+-- Rows that are read once for several bodies.
+use Rattle.std.specs.Prelude.{ℕ, ℤ, ◌≡◌, ◌<◌, ◌++◌, List, [], Option, filter_map, length, map, option_map, slice_index_or}
 use Rattle.olap_meaning.specs.declared.cells.Header.{Header}
 use Rattle.olap_meaning.specs.declared.tables.Catalog.{Catalog}
 use Rattle.olap_meaning.specs.declared.tables.Row.{Row}
 use Rattle.fact_versions.specs.FactRows.{FactRows}
-use Rattle.segment_header.specs.Headers.{are_allowed}
 use Rattle.segment_body.specs.BodyOf.{BodyOf}
-use Rattle.fact_reader.specs.BodyRows.{body_rows, row_number, row_values}
-use Rattle.fact_reader.specs.Reading.{ReaderOf, row_at}
-
--- places, each with so many values: those that stand one after another
-abbrev pub placed_values : ℕ → List ℕ → List ℕ → List (ℕ × List ℕ)
-placed_values width [] values = []
-placed_values width (place ∷ places) values =
-    (place, take width values) ∷ placed_values width places (drop width values)
-
--- how many values some places have, where each has so many
-abbrev pub value_total : ℕ → List ℕ → ℕ
-value_total width [] = 0
-value_total width (place ∷ places) = width + value_total width places
-
--- rows of a piece: so many values for each, and the place of each with them
-pub record BlockOf : Type 0 where
-  pub width : ℕ
-  pub rows : List (ℕ × List ℕ)
-
--- each place has its values
-pub record IsBlock (width : ℕ) (places values : List ℕ) : Type 0 where
-  pub even : length values ≡ value_total width places
+use Rattle.fact_reader.specs.declared.blocks.PlacedRow.{PlacedRow}
+use Rattle.fact_reader.specs.BodyRows.{row_number, row_values, values_in}
+use Rattle.fact_reader.specs.Reading.{row_at}
 
 -- a row that a header allows, with its values on the header's columns
 abbrev pub kept_row : Catalog → Header → Row → Option (Row × List ℕ)
 kept_row catalog header row =
     option_map (λ values. (row, values)) (row_values catalog header row)
 
+-- the rows that a header allows, each with its values
 abbrev pub kept_rows : Catalog → Header → List Row → List (Row × List ℕ)
 kept_rows catalog header rows = filter_map (kept_row catalog header) rows
 
--- the row of a batch at a place, with its values
+-- a placed row, by its place in a piece, with the values of its group: those at a place of some list
+abbrev pub valued_row : List (List ℕ) → PlacedRow → ℕ × List ℕ
+valued_row values own = (own.row, slice_index_or values own.group [])
+
+-- so for each of some placed rows
+abbrev pub valued_rows : List (List ℕ) → List PlacedRow → List (ℕ × List ℕ)
+valued_rows values block = map (valued_row values) block
+
+-- the row of a batch at the place of a pair, with the values of the pair
 abbrev pub own_row : FactRows → ℕ × List ℕ → Row × List ℕ
 own_row batch own = (row_at batch own.0, own.1)
 
--- values with the number of their row in the fact column of a header's measure
-abbrev pub numbered : Catalog → Header → FactRows → ℕ × List ℕ → List ℕ × Option ℤ
-numbered catalog header batch own = (own.1, row_number catalog header (row_at batch own.0))
+-- the values of a pair, with the number that the row at its place has in the fact column of a header's measure
+abbrev pub numbered_row : Catalog → Header → FactRows → ℕ × List ℕ → List ℕ × Option ℤ
+numbered_row catalog header batch own = (own.1, row_number catalog header (row_at batch own.0))
 
--- a place in a batch, and values that a header allows
-pub record IsOwn (header : Header) (batch : FactRows) (own : ℕ × List ℕ) : Type 0 where
-  pub within : own.0 < length batch.rows
-  pub allowed : IsTrue (are_allowed header own.1)
+-- a placed row is one of a batch, and its group is one of those that have these values
+pub record IsPlaced (batch : FactRows) (values : List (List ℕ)) (own : PlacedRow) : Type 0 where
+  pub within : own.row < length batch.rows
+  pub grouped : own.group < length values
 
--- a body with the rows that its header allows of some fact rows
-abbrev pub with_rows : Catalog → List Row → BodyOf → BodyOf
-with_rows catalog rows body =
-    record body { rows = body.rows ++ body_rows catalog body.header rows }
-
--- a body with the rows of a batch at some places
+-- a body with the rows of a batch at some places, which have these values
 abbrev pub with_block : Catalog → FactRows → List (ℕ × List ℕ) → BodyOf → BodyOf
 with_block catalog batch rows body =
-    record body { rows = body.rows ++ map (numbered catalog body.header batch) rows }
+    record body { rows = body.rows ++ map (numbered_row catalog body.header batch) rows }
 
--- a header is of a cube and has some columns, whatever its measure
-pub record IsLike (cube : ℕ) (columns : List (ℕ × Allowed)) (header : Header) : Type 0 where
-  pub own_cube : header.cube ≡ cube
-  pub own_columns : header.columns ≡ columns
-
--- bodies differ in their rows and in the measures of their headers alone
-abbrev pub AreLike : List BodyOf → Type 0
-AreLike bodies =
-    All (λ own. All (λ body. IsLike own.header.cube own.header.columns body.header) bodies) bodies
-
--- what reads rows for a body
-abbrev pub reader_of : Catalog → BodyOf → ReaderOf
-reader_of catalog body = record { catalog = catalog; header = body.header }
+-- a body has the columns of a first one, and the values of all its rows but the last ones
+pub record IsBehind (first : BodyOf) (last : List (ℕ × List ℕ)) (body : BodyOf) : Type 0 where
+  pub cube : body.header.cube ≡ first.header.cube
+  pub columns : body.header.columns ≡ first.header.columns
+  pub values : values_in body ++ map (λ own. own.1) last ≡ values_in first

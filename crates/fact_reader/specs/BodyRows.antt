@@ -1,5 +1,5 @@
 -- What a body takes of fact rows.
-use Rattle.std.specs.Prelude.{ℕ, ℤ, List, Bool, true, ◌==◌, ◌≡◌, ◌&&◌, Option, Some, length, map, filter, filter_map, flat_map, nat_lt, option_and_then, option_map, slice_get}
+use Rattle.std.specs.Prelude.{ℕ, ℤ, List, All, Bool, true, ◌==◌, ◌≡◌, ◌&&◌, ◌++◌, Option, Some, length, map, filter, filter_map, flat_map, nat_lt, option_and_then, option_map, slice_get}
 use Rattle.std.specs.List.{list_all}
 use Rattle.std.specs.List.Sorted.{IsPermutation}
 use Rattle.olap_meaning.specs.declared.CellValue.{CellValue}
@@ -97,3 +97,19 @@ is_valued catalog cube row column =
 abbrev pub body_value : BodyOf → Cell → CellValue
 body_value body cell =
     aggregate body.aggregator (map (λ row. row.1) (filter (body_row_in body.header cell) body.rows))
+
+-- a body with those of some fact rows behind its own that its header allows
+abbrev pub with_rows : Catalog → List Row → BodyOf → BodyOf
+with_rows catalog rows body =
+    record body { rows = body.rows ++ body_rows catalog body.header rows }
+
+-- the values of the rows of a body
+abbrev pub values_in : BodyOf → List (List ℕ)
+values_in body = map (λ row. row.0) body.rows
+
+-- what bodies have in common with one: the cube, the columns, and the values of their rows. Measures, aggregators and numbers
+-- may differ.
+pub record AreAlike (bodies : List BodyOf) (first : BodyOf) : Type 0 where
+  pub cubes : All (λ body. body.header.cube ≡ first.header.cube) bodies
+  pub columns : All (λ body. body.header.columns ≡ first.header.columns) bodies
+  pub values : All (λ body. values_in body ≡ values_in first) bodies

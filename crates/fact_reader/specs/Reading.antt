@@ -6,6 +6,7 @@ use Rattle.olap_meaning.specs.declared.tables.Row.{Row}
 use Rattle.olap_meaning.specs.Catalog.{fact_columns}
 use Rattle.fact_versions.specs.FactRows.{FactRows}
 use Rattle.segment_header.specs.Headers.{is_header}
+use Rattle.segment_body.specs.BodyOf.{BodyOf}
 use Rattle.fact_reader.specs.BodyRows.{is_loadable, header_measure}
 
 -- the row of a batch at a place
@@ -41,3 +42,7 @@ pub record IsReader (catalog : Catalog) (header : Header) (places : List ℕ)
   pub placed : map Some places
       ≡ map (λ column. place_of catalog header.cube column.0) header.columns
   pub numbered : fact_place catalog header ≡ Some place
+
+-- what reads rows for a body
+abbrev pub reader_of : Catalog → BodyOf → ReaderOf
+reader_of catalog body = record { catalog = catalog; header = body.header }

@@ -1,4 +1,5 @@
-//! Rows of facts, read for a header: what a body takes of each, and what bodies that hold rows are worth.
+//! Rows of facts, read for a header, or once for several measures: what a body takes of each, and what bodies that hold rows
+//! are worth.
 #![tactic(auto)]
 
 mod blocks;
@@ -10,4 +11,3 @@ mod reader;
 
 pub use each::add_to_each;
 pub use pieces::add_later;
-pub use reader::RowReader;

@@ -18,7 +18,7 @@ use std::marker::Model;
 /// Reads rows of a header's cube: for each column of the header the place of its dimension, and the place of the
 /// measure.
 #[derive(Drop)]
-pub struct RowReader<'a> {
+pub(crate) struct RowReader<'a> {
     catalog: &'a Catalog,
     header: &'a Header,
     places: Vec<usize>,
@@ -37,7 +37,7 @@ impl<'a> Model for RowReader<'a> {
 
 impl<'a> RowReader<'a> {
     /// What reads rows for a header, which it keeps with its catalog. It reads none yet.
-    pub fn new(
+    pub(crate) fn new(
         alloc: Global,
         catalog: &'a Catalog,
         header: &'a Header,
@@ -60,7 +60,7 @@ impl<'a> RowReader<'a> {
         requires column { k < length self.now.header.columns }
         requires row { i < length piece.now.rows }
         requires fit { IsTrue (is_batch self.now.catalog self.now.header.cube piece.now) }
-        requires narrow { piece.now.dimensions < 2 ^ 32 }
+        requires few_dimensions { piece.now.dimensions < 2 ^ 32 }
         ensures { result
             ≡ option_and_then
             (λ column. option_and_then (if_allowed column.1)
@@ -86,7 +86,7 @@ impl<'a> RowReader<'a> {
     ) -> Result<bool, OutOfMemory>
         requires row { i < length piece.now.rows }
         requires fit { IsTrue (is_batch self.now.catalog self.now.header.cube piece.now) }
-        requires narrow { piece.now.dimensions < 2 ^ 32 }
+        requires few_dimensions { piece.now.dimensions < 2 ^ 32 }
         ensures { IfOk result
             (λ kept. row_values self.now.catalog self.now.header (row_at piece.now i)
             ≡ (if kept then Some values.new.items else None)) }
@@ -105,17 +105,10 @@ impl<'a> RowReader<'a> {
     pub(crate) fn number(&self, piece: &Piece<'_>, i: u64) -> Option<i64>
         requires row { i < length piece.now.rows }
         requires fit { IsTrue (is_batch self.now.catalog self.now.header.cube piece.now) }
-        requires narrow { piece.now.columns < 2 ^ 32 }
+        requires few_columns { piece.now.columns < 2 ^ 32 }
         ensures { result ≡ row_number self.now.catalog self.now.header (row_at piece.now i) }
     {
         piece.value(i, self.place as u32)
-    }
-
-    /// How many columns the header has.
-    pub(crate) fn width(&self) -> usize
-        ensures { result ≡ length self.now.header.columns }
-    {
-        self.header.columns.len()
     }
 
     /// Adds a row to a body, where the header allows it.
@@ -148,7 +141,7 @@ impl<'a> RowReader<'a> {
 
     /// Adds the rows of a piece to a body, as far as the header allows them. The buffer is for the values of a row: what
     /// it holds before and after says nothing. Where memory is wanting, some of the rows may have been added.
-    pub fn add_rows(
+    pub(crate) fn add_rows(
         &self,
         piece: &Piece<'_>,
         values: &mut Vec<ValueId>,

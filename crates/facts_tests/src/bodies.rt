@@ -1,5 +1,5 @@
 //! Rows by year, quarter, customer and units, and what the cells over them are worth.
-ghost use Rattle.std.specs.Prelude.{◌≡◌, ◌≤◌, [], IfOk, IsTrue, length, map};
+ghost use Rattle.std.specs.Prelude.{◌≡◌, ◌≤◌, ◌<◌, ◌+◌, [], IfOk, IsTrue, OnOk, length, map};
 ghost use Rattle.olap_meaning.specs.Legal.{rise};
 
 use crate::headers::{no_memory, years_and_quarters};
@@ -199,6 +199,85 @@ fn rows_of_one_group_are_tallied_together(rt: HostRuntime) -> Result<(), Fail> {
         worths: [Some(Whole(-3)), Some(Whole(2)), None],
     };
     assert_eq!(rt; seen_in(rt.alloc(), &body).map_err(no_memory)?, expected);
+    Ok(())
+}
+
+/// Adds a row of a year and a quarter. It tells the place of the row's group, None where the header does not allow the row.
+fn place(
+    body: &mut Body,
+    year: u32,
+    quarter: u32,
+    number: Option<i64>,
+) -> Result<Option<usize>, OutOfMemory>
+    requires { length body.old.rows < 100 }
+    ensures { OnOk result (length body.new.rows ≤ length body.old.rows + 1) }
+{
+    let values = [ValueId(year), ValueId(quarter)];
+    if is_allowed(body.header(), &values) {
+        Ok(Some(body.add_placed(&values, number)?))
+    } else {
+        Ok(None)
+    }
+}
+
+/// Adds a row of the group at a place. It tells the group's year and quarter, None where there is no such group.
+fn add_there(
+    body: &mut Body,
+    place: usize,
+    number: Option<i64>,
+) -> Result<Option<[Option<ValueId>; 2]>, OutOfMemory>
+    requires { length body.old.rows < 100 }
+    ensures { OnOk result (length body.new.rows ≤ length body.old.rows + 1) }
+{
+    if (place as u64) < body.groups() {
+        let values = body.values_at(place);
+        let told = [values.first().copied(), values.get(1).copied()];
+        body.add_at(place, number)?;
+        Ok(Some(told))
+    } else {
+        Ok(None)
+    }
+}
+
+/// What is told of rows that are added to a body of none, and of some that are added by the places 1 and 2 then.
+#[derive(Clone, Copy, Debug, PartialEq)]
+struct Placed {
+    places: [Option<usize>; 4],
+    there: [Option<[Option<ValueId>; 2]>; 2],
+    seen: Seen,
+}
+
+fn placed_rows(alloc: Global) -> Result<Placed, OutOfMemory> {
+    let mut body = Body::new(alloc, years_and_quarters(alloc)?, Aggregator::Sum)?;
+    let places = [
+        place(&mut body, 0, 1, Some(5))?,
+        place(&mut body, 0, 0, Some(1))?,
+        place(&mut body, 0, 1, None)?,
+        place(&mut body, 0, 2, Some(9))?,
+    ];
+    let there = [
+        add_there(&mut body, 1, Some(4))?,
+        add_there(&mut body, 2, Some(7))?,
+    ];
+    Ok(Placed {
+        places,
+        there,
+        seen: seen_in(alloc, &body)?,
+    })
+}
+
+#[test]
+fn rows_are_added_by_the_places_of_their_groups(rt: HostRuntime) -> Result<(), Fail> {
+    let expected = Placed {
+        places: [Some(0), Some(1), Some(0), None],
+        there: [Some([Some(ValueId(0)), Some(ValueId(0))]), None],
+        seen: Seen {
+            groups: 2,
+            rows: [Some(2), Some(2), None],
+            worths: [Some(Whole(5)), Some(Whole(5)), None],
+        },
+    };
+    assert_eq!(rt; placed_rows(rt.alloc()).map_err(no_memory)?, expected);
     Ok(())
 }
 

@@ -1,5 +1,5 @@
 //! The cells of a segment.
-ghost use Rattle.std.specs.Prelude.{◌≡◌, ◌≢◌, ◌<◌, ◌≤◌, ◌+◌, ◌++◌, ◌∷◌, [], All, IfOk, OnOk, OnErr, IfSome, IfNone, IsTrue, length, map, filter, flat_map, is_some};
+ghost use Rattle.std.specs.Prelude.{◌≡◌, ◌≢◌, ◌<◌, ◌≤◌, ◌+◌, ◌++◌, ◌∷◌, [], All, IfOk, OnOk, OnErr, IfSome, IfNone, IsTrue, Some, length, map, filter, flat_map, is_some, slice_get, slice_index_or};
 ghost use Rattle.std.specs.List.{AllZip, list_all};
 ghost use Rattle.std.specs.List.Sorted.{IsPermutation};
 ghost use Rattle.olap_meaning.specs.Covering.{header_covers, just_covers};
@@ -75,12 +75,57 @@ impl Body {
             (self.new ≡ record self.old { rows = self.old.rows ++ (values.now, value) ∷ [] }) }
         ensures err { OnErr result (self.new ≡ self.old) }
     {
+        self.add_placed(values, value)?;
+        Ok(())
+    }
+
+    /// Adds a row, as `add` does. It answers the place of the row's group: that of its values among the different ones.
+    pub fn add_placed(
+        &mut self,
+        values: &[ValueId],
+        value: Option<i64>,
+    ) -> Result<usize, OutOfMemory>
+        requires allowed { IsTrue (are_allowed self.old.header values.now) }
+        requires room { length self.old.rows < ROW_LIMIT }
+        ensures ok { OnOk result
+            (self.new ≡ record self.old { rows = self.old.rows ++ (values.now, value) ∷ [] }) }
+        ensures place { IfOk result
+            (λ place. slice_get (different_values self.new.rows) place ≡ Some values.now) }
+        ensures err { OnErr result (self.new ≡ self.old) }
+    {
         let place = self
             .groups
             .add_row(self.alloc, self.aggregator, values, value)?;
         let numbers = Trace::new().and(&value);
         self.parts = self.parts.and(&Block { place, numbers });
+        Ok(place)
+    }
+
+    /// Adds a row that has the values of the group at a place. Its values are not looked up.
+    pub fn add_at(&mut self, place: usize, value: Option<i64>) -> Result<(), OutOfMemory>
+        requires inside { place < length (different_values self.old.rows) }
+        requires room { length self.old.rows < ROW_LIMIT }
+        ensures ok { OnOk result
+            (self.new
+            ≡ record self.old {
+              rows = self.old.rows
+                  ++ (slice_index_or (different_values self.old.rows) place [], value) ∷ [];
+            }) }
+        ensures err { OnErr result (self.new ≡ self.old) }
+    {
+        self.groups.add_at(place, value)?;
+        let numbers = Trace::new().and(&value);
+        self.parts = self.parts.and(&Block { place, numbers });
         Ok(())
+    }
+
+    /// The values of the group at a place. It takes no memory.
+    pub fn values_at(&self, place: usize) -> &[ValueId]
+        requires { place < length (different_values self.now.rows) }
+        ensures values { result.now ≡ slice_index_or (different_values self.now.rows) place [] }
+        ensures allowed { IsTrue (are_allowed self.now.header result.now) }
+    {
+        self.groups.at(place).0
     }
 
     /// Adds the rows of a tally, which all have the same values on the header's columns. It takes memory where no row has

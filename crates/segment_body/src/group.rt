@@ -1,7 +1,7 @@
 //! Groups: the rows that have the same values on the header's columns.
 ghost use Rattle.std.specs.Prelude.{◌≡◌, ◌≢◌, ◌+◌, ◌++◌, ◌≤◌, ◌<◌, ◌∷◌, [], false, All, IfOk, IfSome, OnErr, OnOk, Some, bytes_eq, length, position, slice_index_or, slice_set};
 ghost use Rattle.std.specs.List.{list_any};
-ghost use Rattle.segment_body.specs.Groups.{Group, IsAdded, IsMerged, group, values_of, with_numbers};
+ghost use Rattle.segment_body.specs.Groups.{Group, IsAdded, IsMerged, group, values_of, with_number, with_numbers};
 
 use crate::hints::Hints;
 use crate::key::Key;
@@ -157,12 +157,26 @@ impl GroupTable {
     {
         match self.place_of(values) {
             Some(place) => {
-                let tally = &mut self.tallies[place];
-                tally.step(number)?;
+                self.add_at(place, number)?;
                 Ok(place)
             }
             None => self.begin(alloc, aggregator, values, number),
         }
+    }
+
+    /// Adds a row to the group at a place.
+    pub(crate) fn add_at(&mut self, place: usize, number: Option<i64>) -> Result<(), OutOfMemory>
+        requires inside { place < length self.old }
+        requires room { All (λ group. length group.tally.values < ROW_LIMIT) self.old }
+        ensures ok { OnOk result
+            ((d : Group)
+            → self.new
+            ≡ slice_set self.old place (with_number (slice_index_or self.old place d) number)) }
+        ensures err { OnErr result (self.new ≡ self.old) }
+    {
+        let tally = &mut self.tallies[place];
+        tally.step(number)?;
+        Ok(())
     }
 
     // A group of one row at the end, which has values that none has. It answers its place.

@@ -1,36 +1,47 @@
--- That `add_block_to_each` may call `add_block` and keeps what holds at each turn.
-use Rattle.std.proofs.Common.{◌≡◌, ◌∙◌, ◌<◌, ◌≤◌, ◌+◌, add-one, length, get_or, ap, sym, subst, arith}
+-- That `add_block_to_each` may call `add_placed_rows` and keeps what holds at each turn.
+use Rattle.std.proofs.Common.{◌∙◌, ◌<◌, ◌≤◌, ◌+◌, ℕ, List, length, get_or, ap, sym, subst, arith}
+use Rattle.std.specs.Prelude.{IsTrue}
+use Rattle.std.proofs.lemmas.List.Edits.{map_over_more}
 use Rattle.olap_meaning.specs.declared.TheConstants.{ROW_LIMIT}
-use Rattle.olap_meaning.specs.declared.cells.Header.{Header}
-use Rattle.segment_body.specs.BodyOf.{BodyOf}
-use Rattle.fact_reader.specs.Blocks.{IsOwn, reader_of, with_block}
-use Rattle.fact_reader.specs.Reading.{ReaderOf}
-use Rattle.fact_reader.proofs.BlockFacts.{added_as, changed_next, kept_length, mapped_to, same_at}
+use Rattle.segment_body.specs.BodyOf.{BodyOf, different_values}
+use Rattle.fact_reader.specs.Blocks.{IsBehind, valued_rows, with_block}
+use Rattle.fact_reader.specs.BodyRows.{is_batch}
+use Rattle.fact_reader.specs.Reading.{ReaderOf, reader_of}
+use Rattle.fact_reader.proofs.BlockFacts.{mapped_to, same_at}
 use Rattle.fact_reader.proofs.each.add_block_to_each.Goals as goal
 
-pub add_block-requires-clause-own : goal.add_block-requires-clause-own
-add_block-requires-clause-own c =
-    let within : c.loop-k.k < length c.args.bodies.now.items = omega (arith, c.len-k-end.ensures, c.loop-k-test.true) in
-    let same : c.index-readers-k.result ≡ reader_of c.args._catalog.now (get_or c.args.bodies.now.items c.loop-k.k c.index_mut.result.now) =
-    c.index-readers-k.is ∙ (mapped_to (reader_of c.args._catalog.now) c.args.readers.now c.args.bodies.now.items c.loop-k.k c.index-readers-k.result c.index_mut.result.now c.requires.readers within).0 in
-    λ j d lt. subst (λ (header : Header). IsOwn header c.args.piece.now (get_or c.args.block.now.rows j d)) (sym (ap (λ (r : ReaderOf). r.header) same)) (c.requires.own c.loop-k.k c.index_mut.result.now within j d lt)
+pub add_placed_rows-requires-clause-fit : goal.add_placed_rows-requires-clause-fit
+add_placed_rows-requires-clause-fit c =
+    let d : BodyOf = c.index-bodies-k.result in
+    let within : c.loop-k.k < length c.args.bodies.now = omega (arith, c.loop-k-test.true) in
+    let reader = c.index-readers-k.is ∙ mapped_to (reader_of c.args._catalog.now) c.args.readers.now c.args.bodies.now c.loop-k.k c.index-readers-k.result d c.requires.readers within in
+    subst (λ (r : ReaderOf). IsTrue (is_batch r.catalog r.header.cube c.args.piece.now)) (sym reader)
+    (subst (λ (cube : ℕ). IsTrue (is_batch c.args._catalog.now cube c.args.piece.now)) (sym (c.requires.behind c.loop-k.k d within).cube) c.requires.fit)
 
-pub add_block-requires-clause-room : goal.add_block-requires-clause-room
-add_block-requires-clause-room c =
-    let within : c.loop-k.k < length c.args.bodies.now.items = omega (arith, c.len-k-end.ensures, c.loop-k-test.true) in
-    let same : c.index_mut.result.now ≡ get_or c.args.bodies.now.items c.loop-k.k c.index_mut.result.now =
-    c.index_mut.ensures.value ∙ same_at (with_block c.args._catalog.now c.args.piece.now c.args.block.now.rows) c.loop-k.bodies.items c.args.bodies.now.items c.loop-k.k c.index_mut.result.now c.loop-k.invariant within in
-    subst (λ (body : BodyOf). length body.rows + length c.args.block.now.rows ≤ ROW_LIMIT) (sym same) (c.requires.room c.loop-k.k c.index_mut.result.now within)
+pub add_placed_rows-requires-clause-behind : goal.add_placed_rows-requires-clause-behind
+add_placed_rows-requires-clause-behind c =
+    let d : BodyOf = c.index-bodies-k.result in
+    let rows : List (ℕ × List ℕ) = valued_rows (different_values c.args.first.now.rows) c.args.block.now in
+    let within : c.loop-k.k < length c.args.bodies.now = omega (arith, c.loop-k-test.true) in
+    let same = same_at (with_block c.args._catalog.now c.args.piece.now rows) c.loop-k.bodies c.args.bodies.now c.loop-k.k d c.loop-k.invariant within in
+    subst (IsBehind c.args.first.now rows) (sym same) (c.requires.behind c.loop-k.k d within)
+
+pub add_placed_rows-requires-clause-room : goal.add_placed_rows-requires-clause-room
+add_placed_rows-requires-clause-room c =
+    let d : BodyOf = c.index-bodies-k.result in
+    let rows : List (ℕ × List ℕ) = valued_rows (different_values c.args.first.now.rows) c.args.block.now in
+    let within : c.loop-k.k < length c.args.bodies.now = omega (arith, c.loop-k-test.true) in
+    let same = same_at (with_block c.args._catalog.now c.args.piece.now rows) c.loop-k.bodies c.args.bodies.now c.loop-k.k d c.loop-k.invariant within in
+    subst (λ (body : BodyOf). length body.rows + length c.args.block.now ≤ ROW_LIMIT) (sym same) (c.requires.room c.loop-k.k d within)
 
 pub loop-k-preserved : goal.loop-k-preserved
 loop-k-preserved c =
-    let bodies = c.args.bodies.now.items in
-    let k = c.loop-k.k in
-    let within : k < length bodies = omega (arith, c.len-k-end.ensures, c.loop-k-test.true) in
-    let same : get_or c.loop-k.bodies.items k c.index_mut.result.now ≡ get_or bodies k c.index_mut.result.now = same_at (with_block c.args._catalog.now c.args.piece.now c.args.block.now.rows) c.loop-k.bodies.items bodies k c.index_mut.result.now c.loop-k.invariant within in
-    let reader : c.index-readers-k.result ≡ reader_of c.args._catalog.now c.index_mut.result.now =
-    c.index-readers-k.is ∙ (mapped_to (reader_of c.args._catalog.now) c.args.readers.now bodies k c.index-readers-k.result c.index_mut.result.now c.requires.readers within).0
-    ∙ ap (reader_of c.args._catalog.now) (sym (c.index_mut.ensures.value ∙ same)) in
-    let added = added_as c.args._catalog.now c.args.piece.now c.args.block.now.rows c.index-readers-k.result c.index_mut.result.now c.add_block.new.body reader c.in_ok-add_block.ensures in
-    rw add-one
-    (changed_next (with_block c.args._catalog.now c.args.piece.now c.args.block.now.rows) c.loop-k.bodies.items bodies k c.index_mut.result.now c.add_block.new.body c.loop-k.invariant (omega (arith, within, kept_length (with_block c.args._catalog.now c.args.piece.now c.args.block.now.rows) c.loop-k.bodies.items bodies k c.loop-k.invariant)) (added ∙ ap (with_block c.args._catalog.now c.args.piece.now c.args.block.now.rows) c.index_mut.ensures.value))
+    let d : BodyOf = c.index-bodies-k.result in
+    let rows : List (ℕ × List ℕ) = valued_rows (different_values c.args.first.now.rows) c.args.block.now in
+    let within : c.loop-k.k < length c.args.bodies.now = omega (arith, c.loop-k-test.true) in
+    let reader = c.index-readers-k.is ∙ mapped_to (reader_of c.args._catalog.now) c.args.readers.now c.args.bodies.now c.loop-k.k c.index-readers-k.result d c.requires.readers within in
+    let added =
+    c.in_ok-add_placed_rows.ensures
+    ∙ ap (λ (r : ReaderOf). with_block r.catalog c.args.piece.now rows (get_or c.loop-k.bodies c.loop-k.k d)) reader
+    ∙ ap (with_block c.args._catalog.now c.args.piece.now rows) (sym c.index-bodies-k.is) in
+    rw added (map_over_more (with_block c.args._catalog.now c.args.piece.now rows) c.args.bodies.now c.loop-k.bodies c.loop-k.k d within c.loop-k.invariant c.index-bodies-k.is)

@@ -5,7 +5,7 @@ use Rattle.std.proofs.lemmas.Result.{err_from_is_err_and}
 use Rattle.olap_meaning.specs.declared.TheConstants.{ROW_LIMIT}
 use Rattle.segment_body.specs.BodyOf.{BodyOf}
 use Rattle.agg_tables.specs.Files.{records_fault}
-use Rattle.agg_tables.specs.Tables.{values_in}
+use Rattle.fact_reader.specs.BodyRows.{values_in}
 use Rattle.agg_tables.proofs.CheckFacts.{first_told, if_err, next_number, no_fault, records_step, row_allowed, values_more}
 use Rattle.agg_tables.proofs.RightFacts.{more_seen, none_seen, room_for}
 use Rattle.agg_tables.proofs.checker.Checker.check_each.Goals as goal

@@ -2,7 +2,8 @@
 use Rattle.std.proofs.Common.{◌≡◌, ◌≤◌, [], length}
 use Rattle.olap_meaning.specs.declared.TheConstants.{ROW_LIMIT}
 use Rattle.agg_tables.specs.Files.{records_fault}
-use Rattle.agg_tables.specs.Tables.{table_columns, values_in}
+use Rattle.fact_reader.specs.BodyRows.{values_in}
+use Rattle.agg_tables.specs.Tables.{table_columns}
 use Rattle.agg_tables.proofs.RightFacts.{AreSeen}
 use Rattle.agg_tables.proofs.checker.Checker.check_each.Given as goal
 

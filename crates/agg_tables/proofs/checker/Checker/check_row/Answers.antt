@@ -1,6 +1,6 @@
 -- That `check_row` ensures `sound` and `err`.
 use Rattle.std.proofs.Common.{◌∙◌, sym, inr}
-use Rattle.agg_tables.specs.Tables.{values_in}
+use Rattle.fact_reader.specs.BodyRows.{values_in}
 use Rattle.agg_tables.proofs.CheckFacts.{if_err, on_ok, row_on, row_twice, same_told, was_seen}
 use Rattle.agg_tables.proofs.checker.Checker.check_row.Goals as goal
 

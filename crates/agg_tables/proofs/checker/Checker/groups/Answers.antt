@@ -3,11 +3,11 @@ use Rattle.std.proofs.Common.{◌∙◌, List, ℕ, ℤ, Option, length, ap, ari
 use Rattle.std.proofs.lemmas.List.{length-map}
 use Rattle.catalog_tables.proofs.FieldFacts.{appearances_le}
 use Rattle.segment_body.specs.BodyOf.{BodyOf, different_values}
+use Rattle.fact_reader.proofs.BatchFacts.{different_texts}
 use Rattle.agg_tables.specs.Places.{CheckerOf}
-use Rattle.agg_tables.specs.Tables.{groups_over, values_in}
-use Rattle.fact_reader.specs.BodyRows.{rows_in}
+use Rattle.fact_reader.specs.BodyRows.{rows_in, values_in}
+use Rattle.agg_tables.specs.Tables.{groups_over}
 use Rattle.agg_tables.proofs.GroupFacts.{groups_of_body, has_first}
-use Rattle.agg_tables.proofs.TableFacts.{different_texts}
 use Rattle.agg_tables.proofs.checker.Checker.groups.Goals as goal
 
 pub returns-clause-count : goal.returns-clause-count

@@ -12,7 +12,7 @@ pub overflow_cast-index : goal.overflow_cast-index
 overflow_cast-index c =
     let p = reader_placed c.self.inside.catalog.now c.self.inside.header.now c.self.inside.places.items c.self.inside.place c.args.piece.now c.args.i c.args.k c.index-as_slice-k.result c.index.result.now c.self.invariant
     (rw (← c.self.view_is) at c.requires.fit) c.requires.row (rw (← c.self.view_is) at c.requires.column) (rw c.as_slice.ensures at c.index-as_slice-k.is) c.index.ensures in
-    omega (arith, p.within, c.requires.narrow)
+    omega (arith, p.within, c.requires.few_dimensions)
 
 pub leaf-leaf-requires-clause-dimension : goal.leaf-leaf-requires-clause-dimension
 leaf-leaf-requires-clause-dimension c =

@@ -1,0 +1,25 @@
+-- That `add_at` ensures what it says.
+use Rattle.std.proofs.Common.{◌≡◌, [], Ok, Err}
+use Rattle.std.specs.Prelude.{OnErr}
+use Rattle.indexmap.specs.IndexMap.{set_value_at}
+use Rattle.segment_body.specs.Groups.{Group, group, groups_by}
+use Rattle.segment_body.proofs.MapFacts.{tally_at, groups_set, groups_kept}
+use Rattle.segment_body.proofs.group.GroupTable.add_at.Goals as goal
+
+pub step-requires : goal.step-requires
+step-requires c =
+    let d : Group = group [] c.index_mut-tally.result.now in
+    let there = tally_at (λ key. key) c.self.inside.tallies.entries c.args.place c.index_mut-tally.result.now d c.index_mut-tally.ensures.value in
+    let fits = (rw (← c.self.view_is) at c.requires.room) c.args.place d there.0 in
+    rw there.1 at fits
+
+pub returns-in_err-step-clause-err : goal.returns-in_err-step-clause-err
+returns-in_err-step-clause-err c =
+    let kept = groups_kept (λ key. key) c.self.inside.tallies.entries c.args.place c.index_mut-tally.result.now c.step.new.self c.index_mut-tally.ensures.value c.in_err-step.ensures.err in
+    rw (← c.self.view_is)
+    (elim c.from_residual.result as (λ r. OnErr r (groups_by (λ key. key) (set_value_at c.self.inside.tallies.entries c.args.place c.step.new.self) ≡ groups_by (λ key. key) c.self.inside.tallies.entries)) [ Ok x ↦ tt | Err e ↦ kept ])
+
+pub returns-clause-ok : goal.returns-clause-ok
+returns-clause-ok c e =
+    rw (← c.self.view_is)
+    (groups_set (λ key. key) c.self.inside.tallies.entries c.args.place c.index_mut-tally.result.now c.step.new.self e c.args.number c.index_mut-tally.ensures.value c.in_ok-step.ensures.ok)
