@@ -17,7 +17,7 @@ use Rattle.fact_versions.specs.FactRows.{FactRows}
 use Rattle.segment_body.specs.BodyOf.{BodyOf, different_values, has_row}
 use Rattle.segment_body.proofs.RowFacts.{different_new, different_same}
 use Rattle.fact_reader.specs.declared.blocks.PlacedRow.{PlacedRow}
-use Rattle.fact_reader.specs.Blocks.{IsBehind, IsPlaced, kept_row, kept_rows, numbered_row, own_row, valued_row, valued_rows, with_block}
+use Rattle.fact_reader.specs.Blocks.{IsBehind, IsPlacedRow, kept_row, kept_rows, numbered_row, own_row, valued_row, valued_rows, with_block}
 use Rattle.fact_reader.specs.BodyRows.{AreAlike, body_row, body_rows, row_number, row_values, values_in, with_rows}
 use Rattle.fact_reader.specs.Reading.{ReaderOf, reader_of, row_at}
 use Rattle.fact_reader.proofs.BatchFacts.{body_rows-append, body_rows-fit, different_texts, taken_next, values_taken}
@@ -186,19 +186,19 @@ group_kept rows all rest g same within =
     ap (λ (ds : List (List ℕ)). get_or ds g []) (sym (different_alike (rows ++ more) all texts)) ∙ values_kept rows more g within
 
 -- placed rows keep their groups when there is a row more
-pub placed_kept : (batch : FactRows) (rows : List (List ℕ × Option ℤ)) (row : List ℕ × Option ℤ) (block : List PlacedRow) → All (IsPlaced batch (different_values rows)) block → All (IsPlaced batch (different_values (rows ++ row ∷ []))) block
+pub placed_kept : (batch : FactRows) (rows : List (List ℕ × Option ℤ)) (row : List ℕ × Option ℤ) (block : List PlacedRow) → All (IsPlacedRow batch (different_values rows)) block → All (IsPlacedRow batch (different_values (rows ++ row ∷ []))) block
 placed_kept batch rows row block placed k own within =
     let is = placed k own within in
     record { within = is.within; grouped = (value_kept rows row (get_or block k own).group is.grouped).0 }
 
-pub valued_kept : (batch : FactRows) (rows : List (List ℕ × Option ℤ)) (row : List ℕ × Option ℤ) (block : List PlacedRow) → All (IsPlaced batch (different_values rows)) block → valued_rows (different_values (rows ++ row ∷ [])) block ≡ valued_rows (different_values rows) block
+pub valued_kept : (batch : FactRows) (rows : List (List ℕ × Option ℤ)) (row : List ℕ × Option ℤ) (block : List PlacedRow) → All (IsPlacedRow batch (different_values rows)) block → valued_rows (different_values (rows ++ row ∷ [])) block ≡ valued_rows (different_values rows) block
 valued_kept batch rows row [] placed = refl
 valued_kept batch rows row (own ∷ block) placed =
     let kept = (value_kept rows row own.group (placed 0 own (omega arith)).grouped).1 in
     rw (kept, valued_kept batch rows row block (λ k d within. placed (suc k) d (omega (arith, within)))) refl
 
 -- a block with a row more, of the last row's group
-pub valued_more : (batch : FactRows) (rows : List (List ℕ × Option ℤ)) (block : List PlacedRow) (i group : ℕ) (values : List ℕ) (number : Option ℤ) → All (IsPlaced batch (different_values rows)) block → slice_get (different_values (rows ++ (values, number) ∷ [])) group ≡ Some values
+pub valued_more : (batch : FactRows) (rows : List (List ℕ × Option ℤ)) (block : List PlacedRow) (i group : ℕ) (values : List ℕ) (number : Option ℤ) → All (IsPlacedRow batch (different_values rows)) block → slice_get (different_values (rows ++ (values, number) ∷ [])) group ≡ Some values
     → valued_rows (different_values (rows ++ (values, number) ∷ [])) (block ++ record { row = i; group = group } ∷ []) ≡ valued_rows (different_values rows) block ++ (i, values) ∷ []
 valued_more batch rows block i group values number placed there =
     let more : List (List ℕ) = different_values (rows ++ (values, number) ∷ []) in

@@ -20,6 +20,8 @@ use Rattle.olap_meaning.specs.Worth.{leaf_in, row_value}
 use Rattle.fact_versions.specs.FactRows.{FactRows}
 use Rattle.segment_header.proofs.RiseFacts.{all_at}
 use Rattle.segment_body.proofs.Places.{each_at, missed}
+use Rattle.catalog_tables.specs.Tables.{number_of}
+use Rattle.olap_catalog.specs.Columns.{column_leaves, column_texts}
 use Rattle.fact_reader.specs.Reading.{IsReader, place_of, row_at}
 use Rattle.fact_reader.specs.BodyRows.{header_measure, is_batch, is_loadable}
 
@@ -153,7 +155,34 @@ leaf_is batch i place leaf leaf' row given here =
     cc
 
 -- the leaf that a reader looks at
-pub reader_placed : (catalog : Catalog) (header : Header) (places : List ℕ) (number : ℕ) (batch : FactRows) (i k : ℕ) (column : ℕ × Allowed) (place : ℕ) → IsReader catalog header places number → IsTrue (is_batch catalog header.cube batch) → i < length batch.rows
+pub reader_placed : (catalog : Catalog) (header : Header) (places : List ℕ) (texts : List (List (List ℕ))) (number : ℕ) (batch : FactRows) (i k : ℕ) (column : ℕ × Allowed) (place : ℕ) → IsReader catalog header places texts number → IsTrue (is_batch catalog header.cube batch) → i < length batch.rows
     → k < length header.columns → column ≡ get_or header.columns k column → place ≡ get_or places k place → IsPlaced catalog header.cube batch i column.0 place
-reader_placed catalog header places number batch i k column place is fit row within column_is place_is =
+reader_placed catalog header places texts number batch i k column place is fit row within column_is place_is =
     placed catalog header.cube batch i column.0 place (column_there catalog header k column is.loadable within column_is) (mapped_at (λ own. place_of catalog header.cube own.0) places header.columns k column place is.placed within column_is place_is) fit row
+
+-- what stands at a place of one list is told by what stands there in another
+pub told_at : {A B C : Type 0} (f : A → C) (g : B → C) (xs : List A) (ys : List B) (k : ℕ) (x : A) (y : B) → map f xs ≡ map g ys → k < length ys → x ≡ get_or xs k x → y ≡ get_or ys k y → f x ≡ g y
+told_at f g xs [] k x y same within x_is y_is = absurd (omega arith)
+told_at f g [] (b ∷ ys) k x y same within x_is y_is = absurd (cc)
+told_at f g (a ∷ xs) (b ∷ ys) zero x y same within x_is y_is = let here : f a ≡ g b = cc in rw (x_is, y_is) here
+told_at f g (a ∷ xs) (b ∷ ys) (suc k) x y same within x_is y_is = let rest : map f xs ≡ map g ys = cc in told_at f g xs ys k x y rest (omega arith) x_is y_is
+
+-- what a catalog tells of the texts of its columns
+abbrev pub TextsAreValued : Catalog → Type 0
+TextsAreValued catalog =
+    (column leaf : ℕ) → leaf < column_leaves catalog column
+    → (leaf < length (column_texts catalog column)) × (option_and_then (number_of (column_texts catalog column)) (slice_get (column_texts catalog column) leaf) ≡ leaf_value catalog column leaf)
+
+-- so the value of a row in a column is told by the column's texts
+module _ (catalog : Catalog) (cube : ℕ) (batch : FactRows) (i column place : ℕ) (p : IsPlaced catalog cube batch i column place) (texts : List (List ℕ)) (leaf : ℕ) (told : texts ≡ column_texts catalog column) (same : leaf ≡ p.leaf) (valued : TextsAreValued catalog) where
+  leaf_inside : leaf < column_leaves catalog column
+  leaf_inside = rw (p.stands, same) p.known
+
+  pub text_inside : leaf < length texts
+  text_inside = omega (arith, (valued column leaf leaf_inside).0, ap (λ (ts : List (List ℕ)). length ts) told)
+
+  pub value_told : (value : ℕ) → Some value ≡ option_and_then (number_of texts) (slice_get texts leaf) → row_value catalog cube (row_at batch i) column ≡ Some value
+  value_told value is =
+      p.value
+      ∙ ap (leaf_value catalog column) (sym same)
+      ∙ sym (is ∙ ap (λ (ts : List (List ℕ)). option_and_then (number_of ts) (slice_get ts leaf)) told ∙ (valued column leaf leaf_inside).1)

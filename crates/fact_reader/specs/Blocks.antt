@@ -35,7 +35,7 @@ abbrev pub numbered_row : Catalog → Header → FactRows → ℕ × List ℕ �
 numbered_row catalog header batch own = (own.1, row_number catalog header (row_at batch own.0))
 
 -- a placed row is one of a batch, and its group is one of those that have these values
-pub record IsPlaced (batch : FactRows) (values : List (List ℕ)) (own : PlacedRow) : Type 0 where
+pub record IsPlacedRow (batch : FactRows) (values : List (List ℕ)) (own : PlacedRow) : Type 0 where
   pub within : own.row < length batch.rows
   pub grouped : own.group < length values
 
@@ -44,7 +44,7 @@ abbrev pub with_block : Catalog → FactRows → List (ℕ × List ℕ) → Body
 with_block catalog batch rows body =
     record body { rows = body.rows ++ map (numbered_row catalog body.header batch) rows }
 
--- a body has the columns of a first one, and the values of all its rows but the last ones
+-- a body has the cube and the columns of a first one, and the values of all its rows but the last ones
 pub record IsBehind (first : BodyOf) (last : List (ℕ × List ℕ)) (body : BodyOf) : Type 0 where
   pub cube : body.header.cube ≡ first.header.cube
   pub columns : body.header.columns ≡ first.header.columns

@@ -107,8 +107,8 @@ with_rows catalog rows body =
 abbrev pub values_in : BodyOf → List (List ℕ)
 values_in body = map (λ row. row.0) body.rows
 
--- what bodies have in common with one: the cube, the columns, and the values of their rows. Measures, aggregators and numbers
--- may differ.
+-- what bodies have in common with one: the cube, the columns, and the values of their rows in their order. Measures, aggregators
+-- and numbers may differ.
 pub record AreAlike (bodies : List BodyOf) (first : BodyOf) : Type 0 where
   pub cubes : All (λ body. body.header.cube ≡ first.header.cube) bodies
   pub columns : All (λ body. body.header.columns ≡ first.header.columns) bodies

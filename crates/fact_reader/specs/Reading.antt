@@ -5,6 +5,7 @@ use Rattle.olap_meaning.specs.declared.tables.Catalog.{Catalog}
 use Rattle.olap_meaning.specs.declared.tables.Row.{Row}
 use Rattle.olap_meaning.specs.Catalog.{fact_columns}
 use Rattle.fact_versions.specs.FactRows.{FactRows}
+use Rattle.olap_catalog.specs.Columns.{column_texts}
 use Rattle.segment_header.specs.Headers.{is_header}
 use Rattle.segment_body.specs.BodyOf.{BodyOf}
 use Rattle.fact_reader.specs.BodyRows.{is_loadable, header_measure}
@@ -34,13 +35,14 @@ pub record ReaderOf : Type 0 where
   pub catalog : Catalog
   pub header : Header
 
--- a header that can be loaded, the place of each of its columns, and that of its measure
+-- a header that can be loaded, the place and the texts of each of its columns, and the place of its measure
 pub record IsReader (catalog : Catalog) (header : Header) (places : List ℕ)
-    (place : ℕ) : Type 0 where
+    (texts : List (List (List ℕ))) (place : ℕ) : Type 0 where
   pub header_holds : IsTrue (is_header header)
   pub loadable : IsTrue (is_loadable catalog header)
   pub placed : map Some places
       ≡ map (λ column. place_of catalog header.cube column.0) header.columns
+  pub told : texts ≡ map (λ column. column_texts catalog column.0) header.columns
   pub numbered : fact_place catalog header ≡ Some place
 
 -- what reads rows for a body

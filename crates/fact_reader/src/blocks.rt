@@ -2,7 +2,7 @@
 ghost use Rattle.std.specs.Prelude.{◌≡◌, ◌≤◌, ◌<◌, ◌+◌, ◌^◌, ◌++◌, All, IsTrue, OnOk, length, map, option_map, option_to_list, take};
 ghost use Rattle.segment_body.specs.BodyOf.{different_values};
 ghost use Rattle.fact_reader.specs.BodyRows.{body_row, is_batch, row_values};
-ghost use Rattle.fact_reader.specs.Blocks.{IsBehind, IsPlaced, kept_rows, own_row, valued_rows, with_block};
+ghost use Rattle.fact_reader.specs.Blocks.{IsBehind, IsPlacedRow, kept_rows, own_row, valued_rows, with_block};
 ghost use Rattle.fact_reader.specs.Reading.{row_at};
 
 use crate::reader::RowReader;
@@ -33,9 +33,9 @@ impl<'a> RowReader<'a> {
         requires few_columns { piece.now.columns < 2 ^ 32 }
         requires same { body.old.header ≡ self.now.header }
         requires room { length body.old.rows < ROW_LIMIT }
-        requires placed { All (IsPlaced piece.now (different_values body.old.rows)) block.old.items }
+        requires placed { All (IsPlacedRow piece.now (different_values body.old.rows)) block.old.items }
         ensures placed { OnOk result
-            (All (IsPlaced piece.now (different_values body.new.rows)) block.new.items) }
+            (All (IsPlacedRow piece.now (different_values body.new.rows)) block.new.items) }
         ensures rows { OnOk result
             (valued_rows (different_values body.new.rows) block.new.items
             ≡ valued_rows (different_values body.old.rows) block.old.items
@@ -76,7 +76,7 @@ impl<'a> RowReader<'a> {
         requires same { body.old.header ≡ self.now.header }
         requires room { length body.old.rows + to ≤ ROW_LIMIT + from }
         ensures placed { OnOk result
-            (All (IsPlaced piece.now (different_values body.new.rows)) block.new.items) }
+            (All (IsPlacedRow piece.now (different_values body.new.rows)) block.new.items) }
         ensures rows { OnOk result
             (kept_rows self.now.catalog self.now.header (take from piece.now.rows)
             ++ map (own_row piece.now) (valued_rows (different_values body.new.rows) block.new.items)
@@ -93,9 +93,9 @@ impl<'a> RowReader<'a> {
         Ok(())
     }
 
-    /// Adds the rows of a block, each with its number of the measure, to a body that has all other rows of the body that they
-    /// are placed in, and so each of its groups at the same place, as far as it has them yet.
-    pub(crate) fn add_placed_rows(
+    /// Adds the rows of a block, each with its number of the measure, to a body that has the values of all other rows of the
+    /// body that they are placed in, in its order, and so each of its groups at the same place, as far as it has them yet.
+    pub(crate) fn add_block(
         &self,
         piece: &Piece<'_>,
         block: &[PlacedRow],
@@ -105,7 +105,7 @@ impl<'a> RowReader<'a> {
         requires fit { IsTrue (is_batch self.now.catalog self.now.header.cube piece.now) }
         requires few_columns { piece.now.columns < 2 ^ 32 }
         requires same { body.old.header ≡ self.now.header }
-        requires placed { All (IsPlaced piece.now (different_values first.now.rows)) block.now }
+        requires placed { All (IsPlacedRow piece.now (different_values first.now.rows)) block.now }
         requires behind { IsBehind first.now
             (valued_rows (different_values first.now.rows) block.now) body.old }
         requires room { length body.old.rows + length block.now ≤ ROW_LIMIT }

@@ -3,7 +3,7 @@ ghost use Rattle.std.specs.Prelude.{◌≡◌, ◌≤◌, ◌<◌, ◌+◌, ◌^
 ghost use Rattle.segment_header.specs.Headers.{is_header};
 ghost use Rattle.segment_body.specs.BodyOf.{different_values};
 ghost use Rattle.fact_reader.specs.BodyRows.{AreAlike, are_batches, is_batch, is_loadable, rows_in, with_rows};
-ghost use Rattle.fact_reader.specs.Blocks.{IsBehind, IsPlaced, valued_rows, with_block};
+ghost use Rattle.fact_reader.specs.Blocks.{IsBehind, IsPlacedRow, valued_rows, with_block};
 ghost use Rattle.fact_reader.specs.Reading.{reader_of};
 
 use crate::blocks::PlacedRow;
@@ -51,8 +51,8 @@ fn readers_of<'a>(
     Ok(readers)
 }
 
-// Adds the rows of a block, each with its number of the measure, to each of some bodies that have all other rows of the body that
-// they are placed in.
+// Adds the rows of a block, each with its number of the measure, to each of some bodies that have the values of all other rows of
+// the body that they are placed in.
 fn add_block_to_each(
     _catalog: &Catalog,
     readers: &[RowReader<'_>],
@@ -64,7 +64,7 @@ fn add_block_to_each(
     requires readers { readers.now ≡ map (reader_of _catalog.now) bodies.old }
     requires fit { IsTrue (is_batch _catalog.now first.now.header.cube piece.now) }
     requires few_columns { piece.now.columns < 2 ^ 32 }
-    requires placed { All (IsPlaced piece.now (different_values first.now.rows)) block.now }
+    requires placed { All (IsPlacedRow piece.now (different_values first.now.rows)) block.now }
     requires behind { All
         (IsBehind first.now (valued_rows (different_values first.now.rows) block.now)) bodies.old }
     requires room { All (λ body. length body.rows + length block.now ≤ ROW_LIMIT) bodies.old }
@@ -75,13 +75,14 @@ fn add_block_to_each(
         (valued_rows (different_values first.now.rows) block.now)) bodies.old) }
 {
     for k in 0..bodies.len() {
-        readers[k].add_placed_rows(piece, block, first, &mut bodies[k])?;
+        readers[k].add_block(piece, block, first, &mut bodies[k])?;
     }
     Ok(())
 }
 
 // Adds the rows of a piece to a body and to others that are alike, as far as their headers allow them. The values of a row are
-// looked up for the first body alone, and so is its group; the others have it at the same place.
+// looked up for the first body alone, and so is its group; the others have it at the same place, and look it up only where it is
+// new to them.
 fn add_blocks(
     catalog: &Catalog,
     reader: &RowReader<'_>,

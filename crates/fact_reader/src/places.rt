@@ -2,9 +2,11 @@
 ghost use Rattle.std.specs.Prelude.{◌≡◌, ◌==◌, IfOk, IsTrue, Some, bytes_eq, map, position};
 ghost use Rattle.std.specs.List.{list_any};
 ghost use Rattle.olap_meaning.specs.Catalog.{first_appearances};
+ghost use Rattle.olap_catalog.specs.Columns.{column_texts};
 ghost use Rattle.fact_reader.specs.BodyRows.{is_loadable};
 ghost use Rattle.fact_reader.specs.Reading as jobs;
 
+use catalog_tables::FieldColumn;
 use olap_catalog::Catalog;
 use olap_meaning::tables::Measure;
 use olap_meaning::{Header, OutOfMemory};
@@ -72,4 +74,23 @@ pub(crate) fn places_of(
         places.push_reserved(place_in(dimensions, dimension).unwrap());
     }
     Ok(places)
+}
+
+/// The texts of each of a header's columns.
+pub(crate) fn fields_of<'a>(
+    alloc: Global,
+    catalog: &'a Catalog,
+    header: &Header,
+) -> Result<Vec<&'a FieldColumn>, OutOfMemory>
+    requires { IsTrue (is_loadable catalog.now header.now) }
+    ensures { IfOk result
+        (λ fields. map (λ field. field.now) fields.items
+        ≡ map (λ column. column_texts catalog.entry.now column.0) header.now.columns) }
+{
+    let columns = header.columns.as_slice();
+    let mut fields = Vec::with_capacity(alloc, columns.len())?;
+    for column in columns {
+        fields.push_reserved(catalog.field_of(column.0));
+    }
+    Ok(fields)
 }

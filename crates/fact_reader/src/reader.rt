@@ -6,7 +6,8 @@ ghost use Rattle.fact_reader.specs.Reading.{row_at};
 ghost use Rattle.segment_body.specs.Narrowed.{if_allowed};
 ghost use Rattle.fact_reader.specs.BodyRows.{body_row, body_rows, is_batch, is_loadable, row_number, row_values};
 
-use crate::places::{fact_place, places_of};
+use crate::places::{fact_place, fields_of, places_of};
+use catalog_tables::FieldColumn;
 use fact_versions::Piece;
 use olap_catalog::Catalog;
 use olap_meaning::{Header, OutOfMemory, ROW_LIMIT, ValueId};
@@ -15,24 +16,26 @@ use segment_header::allows;
 use std::alloc::Global;
 use std::marker::Model;
 
-/// Reads rows of a header's cube: for each column of the header the place of its dimension, and the place of the
-/// measure.
+/// Reads rows of a header's cube: for each column of the header the place of its dimension and its texts, and the place of
+/// the measure.
 #[derive(Drop)]
 pub(crate) struct RowReader<'a> {
     catalog: &'a Catalog,
     header: &'a Header,
     places: Vec<usize>,
+    fields: Vec<&'a FieldColumn>,
     place: usize,
 }
 
 impl<'a> Model for RowReader<'a> {
+    ghost use Rattle.std.specs.Prelude.{map};
     ghost use Rattle.fact_reader.specs.Reading.{IsReader, ReaderOf};
 
     ghost Value = { ReaderOf };
 
     ghost view = { λ a. record { catalog = a.catalog.now; header = a.header.now } };
 
-    ghost invariant = { λ a. IsReader a.catalog.now a.header.now a.places.items a.place };
+    ghost invariant = { λ a. IsReader a.catalog.now a.header.now a.places.items (map (λ field. field.now) a.fields.items) a.place };
 }
 
 impl<'a> RowReader<'a> {
@@ -51,6 +54,7 @@ impl<'a> RowReader<'a> {
             catalog,
             header,
             places: places_of(alloc, catalog, header)?,
+            fields: fields_of(alloc, catalog, header)?,
             place: fact_place(catalog, header),
         })
     }
@@ -69,7 +73,9 @@ impl<'a> RowReader<'a> {
     {
         let column = &self.header.columns.as_slice()[k];
         let leaf = piece.leaf(i, self.places[k] as u32);
-        let value = self.catalog.leaf_value(column.0, leaf);
+        // The texts of a column tell the values of its leaves.
+        self.catalog.texts_have_values();
+        let value = self.fields[k].value_at(leaf);
         if allows(&column.1, value) {
             Some(value)
         } else {

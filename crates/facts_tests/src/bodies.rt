@@ -247,8 +247,8 @@ struct Placed {
     seen: Seen,
 }
 
-fn placed_rows(alloc: Global) -> Result<Placed, OutOfMemory> {
-    let mut body = Body::new(alloc, years_and_quarters(alloc)?, Aggregator::Sum)?;
+fn placed_rows(alloc: Global, aggregator: Aggregator) -> Result<Placed, OutOfMemory> {
+    let mut body = Body::new(alloc, years_and_quarters(alloc)?, aggregator)?;
     let places = [
         place(&mut body, 0, 1, Some(5))?,
         place(&mut body, 0, 0, Some(1))?,
@@ -268,16 +268,24 @@ fn placed_rows(alloc: Global) -> Result<Placed, OutOfMemory> {
 
 #[test]
 fn rows_are_added_by_the_places_of_their_groups(rt: HostRuntime) -> Result<(), Fail> {
-    let expected = Placed {
-        places: [Some(0), Some(1), Some(0), None],
-        there: [Some([Some(ValueId(0)), Some(ValueId(0))]), None],
-        seen: Seen {
-            groups: 2,
-            rows: [Some(2), Some(2), None],
-            worths: [Some(Whole(5)), Some(Whole(5)), None],
-        },
-    };
-    assert_eq!(rt; placed_rows(rt.alloc()).map_err(no_memory)?, expected);
+    for (aggregator, first, second) in [
+        (Aggregator::Sum, Whole(5), Whole(5)),
+        (Aggregator::DistinctCount, Whole(2), Whole(1)),
+    ] {
+        let expected = Placed {
+            places: [Some(0), Some(1), Some(0), None],
+            there: [Some([Some(ValueId(0)), Some(ValueId(0))]), None],
+            seen: Seen {
+                groups: 2,
+                rows: [Some(2), Some(2), None],
+                worths: [Some(first), Some(second), None],
+            },
+        };
+        assert_eq!(rt;
+            placed_rows(rt.alloc(), aggregator).map_err(no_memory)?,
+            expected
+        );
+    }
     Ok(())
 }
 

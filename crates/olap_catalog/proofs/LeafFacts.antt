@@ -55,3 +55,14 @@ leaf_valued schema tables columns hierarchies cubes even columned paired column 
     let value : leaf_value catalog column leaf ≡ Some number.0 = sym (leaf_is schema tables columns hierarchies cubes column leaf known paired) ∙ ap (option_and_then (number_of texts)) at ∙ number.1 in
     let below = value_within catalog column leaf number.0 (sym value) in
     ap (is_some_and (λ value. nat_lt value (length (values catalog column)))) value ∙ lt-ltb number.0 (length (values catalog column)) below
+
+-- a column has a text for each leaf, whose number is the leaf's value
+pub texts_valued : (schema : Schema) (tables : List TableOf) (columns : List Column) (hierarchies : List Hierarchy) (cubes : List Cube) → list_all (λ t. have_fields t.levels t.records) tables ≡ true → list_all (is_column tables) columns ≡ true → length tables ≡ length schema.dimensions
+    → (column leaf : ℕ) → leaf < column_leaves (plain schema tables columns hierarchies cubes) column
+    → (leaf < length (column_texts (plain schema tables columns hierarchies cubes) column))
+    × (option_and_then (number_of (column_texts (plain schema tables columns hierarchies cubes) column)) (slice_get (column_texts (plain schema tables columns hierarchies cubes) column) leaf)
+    ≡ leaf_value (plain schema tables columns hierarchies cubes) column leaf)
+texts_valued schema tables columns hierarchies cubes even columned paired column leaf inside =
+    let known = column_known tables columns column even columned (known_column (plain schema tables columns hierarchies cubes) column leaf inside) in
+    let count = leaves_are schema tables columns hierarchies cubes column known paired in
+    (omega (arith, count, inside), leaf_is schema tables columns hierarchies cubes column leaf known paired)

@@ -1,11 +1,12 @@
 //! Looking up what a catalog holds. No look-up takes memory.
-ghost use Rattle.std.specs.Prelude.{ℕ, ◌≡◌, ◌<◌, ◌≤◌, flat_map, length, map, nat_lt, slice_get, true, Some, IfSome, IsTrue};
+ghost use Rattle.std.specs.Prelude.{ℕ, ◌≡◌, ◌<◌, ◌≤◌, flat_map, length, map, nat_lt, option_and_then, slice_get, true, Some, IfSome, IsTrue};
 ghost use Rattle.std.specs.List.{list_all};
 ghost use Rattle.olap_meaning.specs.History.{is_some_and};
 ghost use Rattle.olap_meaning.specs.Legal.{rise};
 ghost use Rattle.olap_meaning.specs.Schema.{cube_over};
 ghost use Rattle.olap_meaning.specs.Whole.{IsWhole};
 ghost use Rattle.olap_meaning.specs.Catalog as meaning;
+ghost use Rattle.catalog_tables.specs.Tables.{number_of};
 ghost use Rattle.olap_catalog.specs.Columns.{column_texts, column_leaves};
 ghost use Rattle.olap_catalog.specs.Named.{HasNames};
 ghost use Rattle.olap_catalog.specs.Parts.{has_levels};
@@ -123,6 +124,17 @@ impl Catalog {
         let _ = &self.columns;
     }
 
+    /// That a column has a text for each leaf of its dimension, whose number is the leaf's value. This costs nothing.
+    pub fn texts_have_values(&self)
+        ensures { (column : ℕ) (leaf : ℕ) → leaf < column_leaves self.now column
+            → (leaf < length (column_texts self.now column))
+            × (option_and_then (number_of (column_texts self.now column))
+            (slice_get (column_texts self.now column) leaf)
+            ≡ meaning.leaf_value self.now column leaf) }
+    {
+        let _ = &self.columns;
+    }
+
     /// How many leaves a dimension has: one for each record of its table, and none where the schema has no such dimension.
     pub fn leaf_count(&self, dimension: u32) -> u32
         ensures { result ≡ length (meaning.records self.now dimension) }
@@ -173,8 +185,9 @@ impl Catalog {
         self.full_names.as_slice()[h.0 as usize].as_str()
     }
 
-    // The texts of a column.
-    pub(crate) fn field_of(&self, column: ColumnId) -> &FieldColumn
+    /// The texts of a column, one for each leaf of its dimension, and the number of each: for one who asks for the values of many
+    /// leaves (`texts_have_values`).
+    pub fn field_of(&self, column: ColumnId) -> &FieldColumn
         requires { column < length self.now.columns }
         ensures { result.now ≡ column_texts self.now column }
     {

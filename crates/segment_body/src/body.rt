@@ -1,5 +1,5 @@
 //! The cells of a segment.
-ghost use Rattle.std.specs.Prelude.{◌≡◌, ◌≢◌, ◌<◌, ◌≤◌, ◌+◌, ◌++◌, ◌∷◌, [], All, IfOk, OnOk, OnErr, IfSome, IfNone, IsTrue, Some, length, map, filter, flat_map, is_some, slice_get, slice_index_or};
+ghost use Rattle.std.specs.Prelude.{◌≡◌, ◌≢◌, ◌<◌, ◌≤◌, ◌+◌, ◌++◌, ◌∷◌, [], All, IfOk, OnOk, OnErr, IfSome, IfNone, IsOk, IsTrue, None, Some, ◌⊎◌, length, map, filter, flat_map, is_some, slice_get, slice_index_or};
 ghost use Rattle.std.specs.List.{AllZip, list_all};
 ghost use Rattle.std.specs.List.Sorted.{IsPermutation};
 ghost use Rattle.olap_meaning.specs.Covering.{header_covers, just_covers};
@@ -101,7 +101,8 @@ impl Body {
         Ok(place)
     }
 
-    /// Adds a row that has the values of the group at a place. Its values are not looked up.
+    /// Adds a row that has the values of the group at a place. Its values are not looked up. Memory is taken only for a distinct
+    /// count of a number.
     pub fn add_at(&mut self, place: usize, value: Option<i64>) -> Result<(), OutOfMemory>
         requires inside { place < length (different_values self.old.rows) }
         requires room { length self.old.rows < ROW_LIMIT }
@@ -112,6 +113,8 @@ impl Body {
                   ++ (slice_index_or (different_values self.old.rows) place [], value) ∷ [];
             }) }
         ensures err { OnErr result (self.new ≡ self.old) }
+        ensures no_memory { (self.old.aggregator ≢ Aggregator.DistinctCount) ⊎ (value ≡ None)
+            → IsOk result }
     {
         self.groups.add_at(place, value)?;
         let numbers = Trace::new().and(&value);

@@ -1,6 +1,6 @@
 //! Groups: the rows that have the same values on the header's columns.
-ghost use Rattle.std.specs.Prelude.{◌≡◌, ◌≢◌, ◌+◌, ◌++◌, ◌≤◌, ◌<◌, ◌∷◌, [], false, All, IfOk, IfSome, OnErr, OnOk, Some, bytes_eq, length, position, slice_index_or, slice_set};
-ghost use Rattle.std.specs.List.{list_any};
+ghost use Rattle.std.specs.Prelude.{◌≡◌, ◌≢◌, ◌==◌, ◌+◌, ◌++◌, ◌≤◌, ◌<◌, ◌∷◌, [], false, ◌⊎◌, All, IfOk, IfSome, IsOk, None, OnErr, OnOk, Some, bytes_eq, length, position, slice_index_or, slice_set};
+ghost use Rattle.std.specs.List.{list_all, list_any, zip};
 ghost use Rattle.segment_body.specs.Groups.{Group, IsAdded, IsMerged, group, values_of, with_number, with_numbers};
 
 use crate::hints::Hints;
@@ -65,11 +65,18 @@ impl GroupTable {
         // No two keys are equal.
         let _groups = self.tallies.len();
         let (key, _) = self.tallies.get_index(place)?;
-        if key.as_slice() == values {
+        if are_equal(key.as_slice(), values) {
             Some(place)
         } else {
             None
         }
+    }
+
+    // The place of the group that has some values, by their hash.
+    fn sought(&self, values: &[ValueId]) -> Option<usize>
+        ensures { result ≡ position (λ group. bytes_eq values.now group.values) self.now }
+    {
+        self.tallies.get_index_of(values)
     }
 
     /// The place of the group that has some values.
@@ -78,7 +85,7 @@ impl GroupTable {
     {
         match self.hinted(values) {
             Some(place) => Some(place),
-            None => self.tallies.get_index_of(values),
+            None => self.sought(values),
         }
     }
 
@@ -142,6 +149,28 @@ impl GroupTable {
         Ok(place)
     }
 
+    // Adds a row, as `add_row` does, where no hint tells of its group.
+    fn add_sought(
+        &mut self,
+        alloc: Global,
+        aggregator: Aggregator,
+        values: &[ValueId],
+        number: Option<i64>,
+    ) -> Result<usize, OutOfMemory>
+        requires { All (λ group. length group.tally.values < ROW_LIMIT) self.old }
+        ensures ok { IfOk result
+            (λ place. IsAdded aggregator values.now number self.old self.new place) }
+        ensures err { OnErr result (self.new ≡ self.old) }
+    {
+        match self.sought(values) {
+            Some(place) => {
+                self.add_at(place, number)?;
+                Ok(place)
+            }
+            None => self.begin(alloc, aggregator, values, number),
+        }
+    }
+
     /// Adds a row to the group that has its values, or a new group at the end. It answers the place of the group.
     pub(crate) fn add_row(
         &mut self,
@@ -155,16 +184,16 @@ impl GroupTable {
             (λ place. IsAdded aggregator values.now number self.old self.new place) }
         ensures err { OnErr result (self.new ≡ self.old) }
     {
-        match self.place_of(values) {
+        match self.hinted(values) {
             Some(place) => {
                 self.add_at(place, number)?;
                 Ok(place)
             }
-            None => self.begin(alloc, aggregator, values, number),
+            None => self.add_sought(alloc, aggregator, values, number),
         }
     }
 
-    /// Adds a row to the group at a place.
+    /// Adds a row to the group at a place. Memory is taken only for a distinct count of a number.
     pub(crate) fn add_at(&mut self, place: usize, number: Option<i64>) -> Result<(), OutOfMemory>
         requires inside { place < length self.old }
         requires room { All (λ group. length group.tally.values < ROW_LIMIT) self.old }
@@ -173,6 +202,9 @@ impl GroupTable {
             → self.new
             ≡ slice_set self.old place (with_number (slice_index_or self.old place d) number)) }
         ensures err { OnErr result (self.new ≡ self.old) }
+        ensures no_memory { All
+            (λ group. group.tally.aggregator ≢ Aggregator.DistinctCount) self.old ⊎ (number ≡ None)
+            → IsOk result }
     {
         let tally = &mut self.tallies[place];
         tally.step(number)?;
@@ -248,6 +280,20 @@ impl GroupTable {
             }
         }
     }
+}
+
+// Whether each of some values is that of the other list at its place, as far as both go.
+fn agree(own: &[ValueId], values: &[ValueId]) -> bool
+    ensures { result ≡ list_all (λ pair. pair.0 == pair.1) (zip own.now values.now) }
+{
+    own.iter().zip(values).all(|pair| *pair.0 == *pair.1)
+}
+
+// Whether two lists of values are equal. They are short, and to look at each value is faster than what finds equal memory.
+fn are_equal(own: &[ValueId], values: &[ValueId]) -> bool
+    ensures { result ≡ bytes_eq own.now values.now }
+{
+    own.len() == values.len() && agree(own, values)
 }
 
 /// The tally of one row.

@@ -6,7 +6,7 @@ use Rattle.std.proofs.lemmas.Option.{slice_get_within}
 use Rattle.olap_meaning.specs.Worth.{row_value}
 use Rattle.segment_body.specs.BodyOf.{BodyOf, different_values}
 use Rattle.segment_body.proofs.ValueFacts.{are_allowed_of}
-use Rattle.fact_reader.specs.Blocks.{IsPlaced, valued_rows}
+use Rattle.fact_reader.specs.Blocks.{IsPlacedRow, valued_rows}
 use Rattle.fact_reader.specs.BodyRows.{row_values}
 use Rattle.fact_reader.specs.Reading.{row_at}
 use Rattle.fact_reader.proofs.BlockFacts.{placed_kept, valued_more}
@@ -24,11 +24,11 @@ returns-in_ok-push-clause-placed c =
     let old = c.args.body.now.rows in
     let row : List ℕ × Option ℤ = (c.as_slice.result.now, c.number.result) in
     let rows = ap (λ (b : BodyOf). b.rows) c.in_ok-group.ensures.ok in
-    let own : IsPlaced piece (different_values c.add_placed.new.self.rows) (record { row = c.args.i; group = c.in_ok-group.group }) =
+    let own : IsPlacedRow piece (different_values c.add_placed.new.self.rows) (record { row = c.args.i; group = c.in_ok-group.group }) =
     record { within = c.requires.row; grouped = slice_get_within (different_values c.add_placed.new.self.rows) c.in_ok-group.group c.as_slice.result.now c.in_ok-group.ensures.place } in
-    let others = subst (λ (all : List (List ℕ × Option ℤ)). All (IsPlaced piece (different_values all)) c.args.block.now.items) (sym rows) (placed_kept piece old row c.args.block.now.items c.requires.placed) in
-    subst (All (IsPlaced piece (different_values c.add_placed.new.self.rows))) (sym c.in_ok-push.ensures.items)
-    (All-push (IsPlaced piece (different_values c.add_placed.new.self.rows)) c.args.block.now.items (record { row = c.args.i; group = c.in_ok-group.group }) others own)
+    let others = subst (λ (all : List (List ℕ × Option ℤ)). All (IsPlacedRow piece (different_values all)) c.args.block.now.items) (sym rows) (placed_kept piece old row c.args.block.now.items c.requires.placed) in
+    subst (All (IsPlacedRow piece (different_values c.add_placed.new.self.rows))) (sym c.in_ok-push.ensures.items)
+    (All-push (IsPlacedRow piece (different_values c.add_placed.new.self.rows)) c.args.block.now.items (record { row = c.args.i; group = c.in_ok-group.group }) others own)
 
 pub returns-in_ok-push-clause-rows : goal.returns-in_ok-push-clause-rows
 returns-in_ok-push-clause-rows c =

@@ -1,8 +1,8 @@
--- What holds at each turn of `add_placed_rows`.
+-- What holds at each turn of `add_block`.
 use Rattle.std.proofs.Common.{◌≡◌, take}
 use Rattle.segment_body.specs.BodyOf.{different_values}
 use Rattle.fact_reader.specs.Blocks.{valued_rows, with_block}
-use Rattle.fact_reader.proofs.reader.RowReader.add_placed_rows.Given as goal
+use Rattle.fact_reader.proofs.reader.RowReader.add_block.Given as goal
 
 -- the rows so far are added
 abbrev pub invariant-loop-k : goal.invariant-loop-k

@@ -1,4 +1,4 @@
--- That `add_placed_rows` keeps what holds at each turn.
+-- That `add_block` keeps what holds at each turn.
 use Rattle.std.proofs.Common.{◌≡◌, ◌∙◌, ◌<◌, ℕ, ℤ, List, [], Option, Some, drop, length, get_or, map, ap, sym, arith}
 use Rattle.std.specs.Prelude.{slice_get}
 use Rattle.std.proofs.lemmas.Option.{slice_get-get_or}
@@ -9,8 +9,8 @@ use Rattle.fact_reader.specs.Blocks.{numbered_row, valued_row, valued_rows}
 use Rattle.fact_reader.specs.BodyRows.{row_number}
 use Rattle.fact_reader.specs.Reading.{row_at}
 use Rattle.fact_reader.proofs.BlockFacts.{behind_so_far, group_kept, placed_next}
-use Rattle.fact_reader.proofs.reader.RowReader.add_placed_rows.Goals as goal
-use Rattle.fact_reader.proofs.reader.RowReader.add_placed_rows.Goals.{then-own-groups+in_ok-add_at, else-own-groups+in_ok-add}
+use Rattle.fact_reader.proofs.reader.RowReader.add_block.Goals as goal
+use Rattle.fact_reader.proofs.reader.RowReader.add_block.Goals.{then-own-groups+in_ok-add_at, else-own-groups+in_ok-add}
 
 pub loop-k-preserved : goal.loop-k-preserved
 loop-k-preserved c =
