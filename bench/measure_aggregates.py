@@ -12,7 +12,10 @@ import sys
 from agg_sales import make
 from timed import run, run_on_files
 
-ROWS, LATER, TIMES = 1_000_000, 10_000, 5
+ROWS, LATER = 1_000_000, 10_000
+# How often a table is built, or its file checked, in a run: so often that reading the files, which a run without any takes as well, is
+# the lesser part of it.
+TIMES = {"olapd": 20, "plain": 20, "sqlite3": 2}
 # How often a load is run that reads the facts, and one that reads a table.
 LOADS = {"facts": 10, "table": 400}
 aggregates, plain, rounds = sys.argv[1], sys.argv[2], int(sys.argv[3])
@@ -64,12 +67,12 @@ cases = {}
 for measures in (1, 3):
     place = place_of(measures)
     cases["olapd", measures, "none"] = asked(f"build {place} 0", measures)
-    cases["olapd", measures, "build"] = asked(f"build {place} {TIMES}", measures)
-    cases["olapd", measures, "check"] = asked(f"check {place} {TIMES}", measures)
+    cases["olapd", measures, "build"] = asked(f"build {place} {TIMES['olapd']}", measures)
+    cases["olapd", measures, "check"] = asked(f"check {place} {TIMES['olapd']}", measures)
     cases["plain", measures, "none"] = [plain, str(measures), "0"], ""
-    cases["plain", measures, "build"] = [plain, str(measures), str(TIMES)], ""
+    cases["plain", measures, "build"] = [plain, str(measures), str(TIMES["plain"])], ""
     cases["sqlite3", measures, "none"] = sql(measures, 0)
-    cases["sqlite3", measures, "build"] = sql(measures, TIMES)
+    cases["sqlite3", measures, "build"] = sql(measures, TIMES["sqlite3"])
 for source, times in LOADS.items():
     for header in HEADERS:
         for version in VERSIONS:
@@ -92,18 +95,18 @@ for measures in (1, 3):
         sys.exit("sqlite3 and the plain program differ")
 
 
+def each_ms(program, measures, kind):
+    """How long one took in each round: what a run took above one without any in the same round."""
+    return [(busy - none) * 1e3 / TIMES[program] for busy, none in zip(each[program, measures, kind], each[program, measures, "none"])]
+
+
 def ms(program, measures, kind):
-    return (best[program, measures, kind] - best[program, measures, "none"]) * 1e3 / TIMES
-
-
-def rounds_of(program, measures, kind):
-    """How long it took in each round, above what a run without it took in the same round."""
-    return [busy - none for busy, none in zip(each[program, measures, kind], each[program, measures, "none"])]
+    return (best[program, measures, kind] - best[program, measures, "none"]) * 1e3 / TIMES[program]
 
 
 def in_the_middle(measures, kind):
     """How many times as long as the plain program in the same round, in the middle of all rounds."""
-    return statistics.median(own / plain for own, plain in zip(rounds_of("olapd", measures, kind), rounds_of("plain", measures, "build")))
+    return statistics.median(own / plain for own, plain in zip(each_ms("olapd", measures, kind), each_ms("plain", measures, "build")))
 
 
 print(f"{len(os.sched_getaffinity(0))} cores, rustc {run(['rustc', '--version'], '')[1].split()[1]}, sqlite3 {run(['sqlite3', '--version'], '')[1].split()[0]}, best of {rounds} rounds; {ROWS:,} rows, 2,400 groups\n")
