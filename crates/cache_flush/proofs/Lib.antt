@@ -1,6 +1,5 @@
 pub mod ListFacts
 pub mod Differing
-pub mod Searching
 pub mod Sorting
 pub mod Shelves
 pub mod Naming

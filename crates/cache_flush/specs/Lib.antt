@@ -3,4 +3,3 @@ pub mod Named
 pub mod Handles
 pub mod Loads
 pub mod Flights
-pub mod Search

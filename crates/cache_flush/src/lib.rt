@@ -1,8 +1,8 @@
 //! What a flush shuts off: the loads that a cache keeps, those in flight, and the regions that shut off part of each.
 //!
 //! A region is added to each load that it concerns, also where it does not touch the load, since it may cover a cell with
-//! fewer columns. The kept loads stand on a shelf, whose contracts are a trait's; the one here is the plainest, a list, for
-//! tests. Room is made by calls of their own, so that what a flush changes takes no memory.
+//! fewer columns. The kept loads stand on a shelf, whose contracts are a trait's. Room is made by calls of their own, so that
+//! what a flush changes takes no memory.
 #![tactic(auto)]
 
 mod flights;
@@ -10,7 +10,6 @@ mod handles;
 mod kept;
 mod named_column;
 mod named_values;
-mod plain_shelf;
 mod shared;
 mod shelf;
 mod shut;
@@ -19,7 +18,6 @@ mod touch;
 pub use flights::Flights;
 pub use handles::{handles_of, next_handle};
 pub use kept::Kept;
-pub use plain_shelf::PlainShelf;
 pub use shelf::{CacheShelf, Shelf};
 pub use shut::Shut;
 pub use touch::{concerns, touches};

@@ -1,7 +1,6 @@
 //! Threads may take what stands here from one another and share it: this is proved only where the bounds hold.
 use crate::flights::Flights;
 use crate::kept::Kept;
-use crate::plain_shelf::PlainShelf;
 use crate::shut::Shut;
 
 fn may_be_shared<T: Send + Sync>() {}
@@ -9,6 +8,5 @@ fn may_be_shared<T: Send + Sync>() {}
 fn threads_share() {
     may_be_shared::<Shut>();
     may_be_shared::<Kept>();
-    may_be_shared::<PlainShelf>();
     may_be_shared::<Flights>();
 }

@@ -13,5 +13,5 @@ pub use grid_reader::{GridFault, read_grid};
 pub use kept::cache_text;
 pub use layout::grid;
 pub use query_meaning::{Grid, GridRow};
-pub use shown_values::{Formatter, GivesTexts, Showing, shown_plainly, shown_with_commas};
+pub use shown_values::{Formatter, GivesTexts, Showing, shown_plainly};
 pub use titles::{member_title, tuple_title};

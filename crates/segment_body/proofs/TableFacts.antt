@@ -27,7 +27,7 @@ use Rattle.measure_folds.specs.Tallied.{Tallied}
 use Rattle.list_orders.specs.Parts.{are_different}
 use Rattle.list_orders.proofs.Aggregates.{aggregate_permutes}
 use Rattle.segment_body.specs.declared.tallies.Fold.{Fold}
-use Rattle.segment_body.specs.AllFolds.{AreFolded, FoldOf, IsFolded, are_alike, fold_numbers, fold_of, folded_numbers, values_in}
+use Rattle.segment_body.specs.AllFolds.{AreFolded, FoldOf, are_alike, fold_numbers, fold_of, folded_numbers, values_in}
 use Rattle.segment_body.specs.Tables.{AreKeyed, HoldsCells, AreTallied, TableOf, are_taken, chosen, folds_in, grown, has_room, places_of, taken_by}
 use Rattle.segment_body.specs.BodyOf.{BodyOf, body_row_in, different_values}
 use Rattle.segment_body.specs.Folds.{are_at, are_at_allowed, body_row_within, has_allowed, numbers_where, picked}
@@ -530,37 +530,6 @@ module _ (h : Header) (a : Aggregator) (rows : List (List ℕ × Option ℤ)) (f
         rw (picked_same (length h.columns) (are_taken (places_of h.columns (columns_of cell)) (has_allowed h.columns column own) (values_in cell)) (are_at_allowed h.columns cell.at column own)
         (λ v long. ap (λ (b : Bool). b && has_allowed h.columns column own v) (key_same v long)) (groups_of a rows) rows_long)
         (picked_permutes a (are_at_allowed h.columns cell.at column own) rows)
-
-  -- ---- one body
-
-  -- the tally of a group that was fresh
-  fresh_grown : (taken : List ℕ → List ℕ → Bool) (old : List Group) (w : List ℕ) (t : Tallied) → All (λ (g : Group). g.tally ≡ record { aggregator = a; values = [] }) old → Contains (map (grown taken (groups_of a rows)) old) (group w t)
-      → t ≡ record { aggregator = a; values = picked (taken w) (groups_of a rows) }
-  fresh_grown taken [] w t fresh held = absurd (none_in (group w t) held)
-  fresh_grown taken (g ∷ gs) w t fresh (zero, inside, here) =
-      let own = fresh 0 g (omega arith) in
-      let key : g.values ≡ w = ap (λ (x : Group). x.values) here in
-      sym (ap (λ (x : Group). x.tally) here) ∙ rw (own, key) refl
-  fresh_grown taken (g ∷ gs) w t fresh (suc k, inside, here) = fresh_grown taken gs w t (λ j d within. fresh (suc j) d (omega arith)) (k, omega arith, here)
-
-  -- what is taken into a table of cells is what is in each cell
-  pub folded_all : (cells : List Cell) (table : TableOf) (r : Result (List Tallied) OutOfMemory) → list_all (header_covers h) cells ≡ true → AreKeyed a cells table
-      → IfOk r (λ ts. map Some ts ≡ map (λ place. option_map (λ (g : Group). g.tally) (slice_get (map (grown (are_taken (places_of h.columns table.columns) (λ v. true)) (groups_of a rows)) table.groups) place)) table.at)
-      → IfOk r (AllZip (IsFolded (record { header = h; aggregator = a; rows = rows })) cells)
-  folded_all cells table (Err e) covered keyed are = tt
-  folded_all cells table (Ok ts) covered keyed are =
-      let taken : List ℕ → List ℕ → Bool = are_taken (places_of h.columns table.columns) (λ v. true) in
-      let all : List Group = map (grown taken (groups_of a rows)) table.groups in
-      let keys : map (slice_get (values_of all)) table.at ≡ map (λ cell. Some (values_in cell)) cells = rw (grown_values taken (groups_of a rows) table.groups) keyed.cells_held.placed in
-      zip_weaker (λ cell tally. Contains all (group (values_in cell) tally)) (IsFolded (record { header = h; aggregator = a; rows = rows }))
-      (λ cell. IsTrue (header_covers h cell) × (columns_of cell ≡ table.columns))
-      (λ cell t known held.
-      let is = fresh_grown taken table.groups (values_in cell) t keyed.fresh held in
-      let permuted : IsPermutation (numbers_where (body_row_in h cell) rows) (picked (taken (values_in cell)) (groups_of a rows)) =
-      subst (λ (cs : List ℕ). IsPermutation (numbers_where (body_row_in h cell) rows) (picked (are_taken (places_of h.columns cs) (λ v. true) (values_in cell)) (groups_of a rows))) known.1 (cell_permutes cell known.0) in
-      rw is (record { aggregator = refl; rows = permuted; worth = sym (aggregate_permutes a _ _ permuted) }))
-      cells ts (λ k d inside. (all_at (header_covers h) cells k d covered inside, keyed.cells_held.columns k d inside))
-      (zip_placed all table.at cells ts keys are)
 
   -- ---- many bodies
 

@@ -21,13 +21,6 @@ are_alike [] = true
 are_alike (cell ∷ cells) =
     list_all (λ other. bytes_eq (columns_of cell) (columns_of other)) cells
 
--- a tally is that of the rows of a body that are in a cell, in some order
-pub record IsFolded (body : BodyOf) (cell : Cell) (tally : Tallied) : Type 0 where
-  pub aggregator : tally.aggregator ≡ body.aggregator
-  pub rows : IsPermutation (numbers_where (body_row_in body.header cell) body.rows) tally.values
-  pub worth : aggregate tally.aggregator tally.values
-      ≡ aggregate body.aggregator (numbers_where (body_row_in body.header cell) body.rows)
-
 -- a fold of a body: of its rows, those that have in one column a value that is allowed
 pub record FoldOf : Type 0 where
   pub body : BodyOf

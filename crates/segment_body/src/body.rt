@@ -7,7 +7,7 @@ ghost use Rattle.olap_meaning.specs.Legal.{rise};
 ghost use Rattle.olap_meaning.specs.Texts.{CanBeShown};
 ghost use Rattle.olap_meaning.specs.Values.{aggregate};
 ghost use Rattle.segment_header.specs.Headers.{are_allowed, is_header, is_set};
-ghost use Rattle.segment_body.specs.AllFolds.{IsFolded, are_alike, fold_of, folded_numbers};
+ghost use Rattle.segment_body.specs.AllFolds.{fold_of, folded_numbers};
 ghost use Rattle.segment_body.specs.BodyOf.{body_row_in, different_values, has_row, numbers_at};
 ghost use Rattle.segment_body.specs.Folds.{body_row_at, body_row_within, numbers_where};
 ghost use Rattle.segment_body.specs.Groups.{group};
@@ -17,7 +17,6 @@ use crate::folds::{fold_allowed, fold_in, fold_valued};
 use crate::group::{Block, GroupTable};
 use crate::narrow::narrow_values;
 use crate::search::place_in;
-use crate::tables::CellTable;
 use crate::tallies::CellTallies;
 use fact_versions::Steps;
 use measure_folds::Tally;
@@ -252,24 +251,6 @@ impl Body {
             column,
             own,
         )
-    }
-
-    /// The tallies of the rows that are in each of some cells of the same columns, in one pass over the groups.
-    pub fn fold_all(&self, cells: &[Cell]) -> Result<List<Tally>, OutOfMemory>
-        requires adds_up { self.now.aggregator ≢ Aggregator.DistinctCount }
-        requires alike { IsTrue (are_alike cells.now) }
-        requires covered { IsTrue (list_all (header_covers self.now.header) cells.now) }
-        ensures { IfOk result (AllZip (IsFolded self.now) cells.now) }
-    {
-        let mut table = CellTable::new(self.alloc, self.aggregator, cells)?;
-        table.take(
-            self.aggregator,
-            self.header.columns.as_slice(),
-            &self.groups,
-            ColumnId(0),
-            None,
-        );
-        table.tallies(self.alloc, self.aggregator)
     }
 
     /// Adds to the tally of each of some cells the rows that are in the cell and have in one column a value that is allowed,

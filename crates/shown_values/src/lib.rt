@@ -9,5 +9,5 @@ mod plain;
 mod reading;
 
 pub use formatter::{Formatter, GivesTexts, Showing, formatters_are_shared};
-pub use plain::{plain_formatter, shown_plainly, shown_with_commas};
+pub use plain::{plain_formatter, shown_plainly};
 pub use reading::read_value;
