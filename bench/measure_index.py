@@ -1,7 +1,7 @@
-"""Measures how cells are found over many kept loads. usage: measure_index.py FINDS ROUNDS
+"""Measures how cells are found over many kept loads. usage: measure_index.py FINDS PLAIN ROUNDS
 
-A run puts 1,000 loads on a shelf and finds 10,000 cells, each in its load, TIMES times over. A case is an index or a plain shelf, and
-loads of ten different column sets or of one. What finding takes is what such a run takes longer than one that finds nothing, for
+A run keeps 1,000 loads and finds 10,000 cells, each in its load, TIMES times over. A case is the index or a plain walk, and loads
+of ten different column sets or of one. What finding takes is what such a run takes longer than one that finds nothing, for
 each time: the best of all rounds, of the time that the processor is busy.
 """
 import os
@@ -12,14 +12,14 @@ LOADS, CELLS, TIMES = 1_000, 10_000, 20
 # Each load, from 1 to the last, is found for as many cells.
 SUM = CELLS // LOADS * LOADS * (LOADS + 1) // 2
 MARK = 3
-finds, rounds = sys.argv[1], int(sys.argv[2])
+programs, rounds = dict(index=sys.argv[1], plain=sys.argv[2]), int(sys.argv[3])
 
 
 def run(shelf, sets, times):
     with open("asked", "w") as it:
-        it.write(f"{shelf} {sets} {times}")
+        it.write(f"{sets} {times}")
     with open("asked") as asked, open("told", "w") as told:
-        ran = subprocess.Popen([finds], stdin=asked, stdout=told)
+        ran = subprocess.Popen([programs[shelf]], stdin=asked, stdout=told)
         _, status, used = os.wait4(ran.pid, 0)
     ran.returncode = os.waitstatus_to_exitcode(status)
     with open("told") as told:

@@ -86,6 +86,18 @@ fn told(alloc: Global, answer: &Answer) -> Result<String, Failure> {
     Ok(text)
 }
 
+// What the answer to the program's query tells.
+fn asked<L: Ledger>(
+    alloc: Global,
+    desk: &mut ManagerDesk,
+    widener: &Widener,
+    steps: &mut Steps<L>,
+) -> Result<String, Failure> {
+    let cells = cells_of(alloc, desk)?;
+    let answer = answer_to(alloc, desk, cells.as_slice(), widener, steps)?;
+    told(alloc, &answer)
+}
+
 // Opens the cache, and asks. The rows that either reads are counted.
 fn run<D: Depot, L: Ledger>(
     alloc: Global,
@@ -99,9 +111,7 @@ fn run<D: Depot, L: Ledger>(
 {
     let mut steps: Steps<L> = Steps::new(blank);
     let mut desk = ManagerDesk::new(open_cache(alloc, depot, SCHEMA, &mut steps)?);
-    let cells = cells_of(alloc, &desk)?;
-    let answer = answer_to(alloc, &mut desk, cells.as_slice(), widener, &mut steps)?;
-    told(alloc, &answer)
+    asked(alloc, &mut desk, widener, &mut steps)
 }
 
 fn main(rt: HostRuntime) -> anyhow::Result<()> {

@@ -1,8 +1,39 @@
 //! The objects in memory around a run.
-use crate::case::{Case, Stored};
+use crate::case::{Case, Stored, add_files, input_of};
+use crate::fields::number_at;
+use crate::recorded::Recorded;
+use anyhow::{Result, anyhow};
 use olap_meaning::{List, OutOfMemory, Text};
 use outside::{Calls, MemoryDepot, MemoryLink, MemorySink, MemorySource, Pair};
+use serde_json::Value;
 use std::alloc::Global;
+use std::rt::Files;
+
+/// The most bytes that a read gives, how many bytes the output takes, and the numbers of the calls that fail, each where one
+/// is given.
+#[derive(Clone, Copy)]
+pub(crate) struct Limits {
+    pub most: Option<usize>,
+    pub room: Option<u64>,
+    pub fetch: Option<u64>,
+    pub read: Option<u64>,
+    pub write: Option<u64>,
+}
+
+/// The limits of a case, where one read gives so many bytes at most, 0 for no limit.
+pub(crate) fn limits_of(object: &Value, most: u64) -> Result<Limits> {
+    Ok(Limits {
+        most: if most == 0 { None } else { Some(most as usize) },
+        room: number_at(object, "room")?,
+        fetch: number_at(object, "fetch")?,
+        read: number_at(object, "read")?,
+        write: number_at(object, "write")?,
+    })
+}
+
+fn no_memory(_fault: OutOfMemory) -> anyhow::Error {
+    anyhow!("no memory")
+}
 
 // The plan by which the call of this number fails.
 fn calls(alloc: Global, failing: Option<u64>) -> Result<Calls, OutOfMemory> {
@@ -17,62 +48,100 @@ fn copy(alloc: Global, bytes: &[u8]) -> Result<List<u8>, OutOfMemory> {
     Ok(List::from_vec(Vec::from_slice(alloc, bytes)?))
 }
 
+/// The files of a depot, as it holds them.
+type Held = List<(Text, List<u8>)>;
+
+// Adds a file to those that a depot is to hold.
+fn hold_file(alloc: Global, held: &mut Held, name: &str, bytes: &[u8]) -> Result<(), OutOfMemory> {
+    let name = Text::from_str(alloc, name)?;
+    held.push((name, copy(alloc, bytes)?))
+}
+
 // Adds files to those that a depot is to hold.
-fn hold(
-    alloc: Global,
-    held: &mut List<(Text, List<u8>)>,
-    files: &Stored,
-) -> Result<(), OutOfMemory> {
+fn hold(alloc: Global, held: &mut Held, files: &Stored) -> Result<(), OutOfMemory> {
     for (name, bytes) in files {
-        let name = Text::from_str(alloc, name.as_str())?;
-        held.push((name, copy(alloc, bytes.as_slice())?))?;
+        hold_file(alloc, held, name.as_str(), bytes.as_slice())?;
     }
     Ok(())
 }
 
-/// A depot of these files, and of more.
-pub(crate) fn depot(
-    alloc: Global,
-    files: &Stored,
-    more: &Stored,
-    failing: Option<u64>,
-) -> Result<MemoryDepot, OutOfMemory> {
-    let mut held = List::new(alloc);
-    hold(alloc, &mut held, files)?;
-    hold(alloc, &mut held, more)?;
-    Ok(MemoryDepot::new(held, calls(alloc, failing)?))
+// The files of a field, where there is one.
+fn files_at(rt: &(impl Files + AllocGlobal), object: &Value, name: &str) -> Result<Stored> {
+    let mut files = Vec::new(rt.alloc());
+    if let Some(said) = object.get(name) {
+        add_files(rt, &mut files, said)?;
+    }
+    Ok(files)
 }
 
-// A source of these bytes, of which one read gives at most so many, where a number is given.
-fn source(
-    alloc: Global,
-    bytes: &[u8],
-    most: Option<usize>,
+// Adds the files of a field to those that a depot is to hold.
+fn hold_field(
+    rt: &(impl Files + AllocGlobal),
+    held: &mut Held,
+    object: &Value,
+    name: &str,
+) -> Result<()> {
+    let files = files_at(rt, object, name)?;
+    hold(rt.alloc(), held, &files).map_err(no_memory)
+}
+
+// Adds the files of a case, its own or those of its group, and those beside them.
+fn hold_case(rt: &(impl Files + AllocGlobal), held: &mut Held, case: &Case<'_>) -> Result<()> {
+    if case.object.get("files").is_none() {
+        hold(rt.alloc(), held, case.files).map_err(no_memory)?;
+    }
+    hold_field(rt, held, case.object, "files")?;
+    hold_field(rt, held, case.object, "more")
+}
+
+// The files of a case, as a depot holds them.
+fn held_of(rt: &(impl Files + AllocGlobal), case: &Case<'_>) -> Result<Held> {
+    let mut held = List::new(rt.alloc());
+    hold_case(rt, &mut held, case)?;
+    Ok(held)
+}
+
+/// The depot of a case.
+pub(crate) fn depot(
+    rt: &(impl Files + AllocGlobal),
+    case: &Case<'_>,
     failing: Option<u64>,
-) -> Result<MemorySource, OutOfMemory> {
-    let bytes = copy(alloc, bytes)?;
-    Ok(MemorySource::new(bytes, calls(alloc, failing)?, None, most))
+) -> Result<MemoryDepot> {
+    let calls = calls(rt.alloc(), failing).map_err(no_memory)?;
+    Ok(MemoryDepot::new(held_of(rt, case)?, calls))
+}
+
+// A source of these bytes.
+fn source(alloc: Global, bytes: Vec<u8>, limits: Limits) -> Result<MemorySource, OutOfMemory> {
+    let calls = calls(alloc, limits.read)?;
+    Ok(MemorySource::new(List::from_vec(bytes), calls, None, limits.most))
 }
 
 // The most bytes that a sink takes for which no number is given: more than any case writes.
 const ROOM: usize = 1_000_000;
 
 // A sink with room for so many bytes, where a number is given.
-fn sink(alloc: Global, room: Option<u64>, failing: Option<u64>) -> Result<MemorySink, OutOfMemory> {
-    let room = match room {
+fn sink(alloc: Global, limits: Limits) -> Result<MemorySink, OutOfMemory> {
+    let room = match limits.room {
         Some(room) => (room as usize).min(ROOM),
         None => ROOM,
     };
-    MemorySink::new(alloc, calls(alloc, failing)?, room)
+    MemorySink::new(alloc, calls(alloc, limits.write)?, room)
 }
 
-/// The link of a case, of which one receive gives at most so many bytes, where a number is given.
+// A link over which these bytes come.
+fn link_over(alloc: Global, bytes: Vec<u8>, limits: Limits) -> Result<MemoryLink, OutOfMemory> {
+    let input = source(alloc, bytes, limits)?;
+    Ok(Pair::new(input, sink(alloc, limits)?))
+}
+
+/// The link of a case, which keeps what passes.
 pub(crate) fn link(
-    alloc: Global,
-    case: &Case,
-    most: Option<usize>,
-) -> Result<MemoryLink, OutOfMemory> {
-    let input = source(alloc, case.input.as_slice(), most, case.read)?;
-    let output = sink(alloc, case.room, case.write)?;
-    Ok(Pair::new(input, output))
+    rt: &(impl Files + AllocGlobal),
+    object: &Value,
+    limits: Limits,
+) -> Result<Recorded<MemoryLink>> {
+    let input = input_of(rt, object)?;
+    let link = link_over(rt.alloc(), input, limits).map_err(no_memory)?;
+    Ok(Recorded::new(rt.alloc(), link))
 }

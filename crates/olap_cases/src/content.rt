@@ -83,17 +83,30 @@ fn add_item(alloc: Global, bytes: &mut Vec<u8>, item: Item<'_>, time: u64) -> Re
     }
 }
 
-fn add_block(alloc: Global, bytes: &mut Vec<u8>, block: &Value) -> Result<()> {
-    let mut of = Vec::new(alloc);
-    for item in items(field(block, "of")?)? {
-        of.push(item_of(item)?)?;
+// The items of a block.
+fn items_of<'a>(alloc: Global, list: &'a [Value]) -> Result<Vec<Item<'a>>> {
+    let mut items = Vec::new(alloc);
+    for item in list {
+        items.push(item_of(item)?)?;
     }
-    for time in 0..number(field(block, "times")?)? {
-        for item in of.as_slice() {
+    Ok(items)
+}
+
+// Adds items one behind the other, so many times.
+fn add_items(alloc: Global, bytes: &mut Vec<u8>, items: &[Item<'_>], times: u64) -> Result<()> {
+    for time in 0..times {
+        for item in items {
             add_item(alloc, bytes, *item, time)?;
         }
     }
     Ok(())
+}
+
+fn add_block(alloc: Global, bytes: &mut Vec<u8>, block: &Value) -> Result<()> {
+    let times = number(field(block, "times")?)?;
+    let list = items(field(block, "of")?)?;
+    let items = items_of(alloc, list)?;
+    add_items(alloc, bytes, &items, times)
 }
 
 // Adds a text in which the first of a text is exchanged, which has to be there.
@@ -139,16 +152,24 @@ fn add_part(rt: &(impl Files + AllocGlobal), bytes: &mut Vec<u8>, part: &Value) 
     }
 }
 
+/// Adds the bytes of a content.
+pub(crate) fn add_content(
+    rt: &(impl Files + AllocGlobal),
+    bytes: &mut Vec<u8>,
+    content: &Value,
+) -> Result<()> {
+    let Value::Array(parts) = content else {
+        return add_part(rt, bytes, content);
+    };
+    for part in parts.as_slice() {
+        add_part(rt, bytes, part)?;
+    }
+    Ok(())
+}
+
 /// The bytes of a content.
 pub(crate) fn bytes_of(rt: &(impl Files + AllocGlobal), content: &Value) -> Result<Vec<u8>> {
     let mut bytes = Vec::new(rt.alloc());
-    match content {
-        Value::Array(parts) => {
-            for part in parts.as_slice() {
-                add_part(rt, &mut bytes, part)?;
-            }
-        }
-        part => add_part(rt, &mut bytes, part)?,
-    }
+    add_content(rt, &mut bytes, content)?;
     Ok(bytes)
 }

@@ -2,96 +2,40 @@
 //!
 //! A case file is a list of groups. A group has `files`, an object of contents by the names of the files in the depot, a
 //! list of `cases`, and the `words` of those cases that name none.
-use crate::around::{depot, link};
-use crate::case::{Case, Stored, files_of, read_case};
-use crate::difference::difference;
+use crate::case::{Case, Stored, add_files, words_of};
 use crate::fields::{field, items, text};
-use crate::outcome::{Outcome, outcome_of};
-use anyhow::{Result, anyhow};
-use olap_meaning::OutOfMemory;
-use olap_server::{Tools, carry_out};
-use outside::{MemoryDepot, MemoryLink};
+use crate::run::first_difference;
+use crate::talk::{first_fault, turns_of};
+use anyhow::Result;
+use olap_server::{Tools, Words};
 use serde_json::Value;
-use std::alloc::Global;
-use std::marker::Brand;
 use std::rt::Files;
-use std::sync::ledger::Blank;
 use std::thread::Threads;
 
-fn no_memory(_fault: OutOfMemory) -> anyhow::Error {
-    anyhow!("no memory")
+// Carries out the talks of a script, and says what is wrong with the first that is none.
+fn fault_of_talk(
+    rt: &(impl Files + AllocGlobal + Threads + Sync),
+    tools: &Tools,
+    case: &Case<'_>,
+    words: &Words,
+    script: &Value,
+) -> Result<Option<String>> {
+    let turns = turns_of(rt, script)?;
+    first_fault(rt, tools, case, words, &turns)
 }
 
-// What differs between what came of a case and what is to come of it.
-fn compared(alloc: Global, case: &Case, found: (Outcome, &[u8])) -> Result<Option<String>> {
-    let wanted = (case.outcome, case.written.as_slice());
-    if found == wanted {
-        return Ok(None);
+// Carries a case out, and says what is wrong.
+fn wrong(
+    rt: &(impl Files + AllocGlobal + Threads + Sync),
+    tools: &Tools,
+    case: &Case<'_>,
+    words: &Words,
+) -> Result<Option<String>> {
+    let difference = first_difference(rt, tools, case, words)?;
+    match case.object.get("script") {
+        Some(script) if difference.is_none() => fault_of_talk(rt, tools, case, words, script),
+        _ => Ok(difference),
     }
-    Ok(Some(difference(alloc, found, wanted)?))
-}
-
-// Carries a case out over a depot and a link.
-fn carried_out(
-    rt: &(impl AllocGlobal + Threads + Sync),
-    tools: &Tools,
-    case: &Case,
-    depot: &mut MemoryDepot,
-    link: &mut MemoryLink,
-) -> Outcome {
-    let ended = carry_out::<_, _, Brand>(
-        rt,
-        rt.alloc(),
-        &case.words,
-        depot,
-        link,
-        tools,
-        Blank::new(1),
-    );
-    outcome_of(&ended)
-}
-
-// Carries a case out over a depot, where one read gives so many bytes at most, and says what differs.
-fn difference_over(
-    rt: &(impl AllocGlobal + Threads + Sync),
-    tools: &Tools,
-    case: &Case,
-    depot: &mut MemoryDepot,
-    most: Option<usize>,
-) -> Result<Option<String>> {
-    let alloc = rt.alloc();
-    let mut link = link(alloc, case, most).map_err(no_memory)?;
-    let outcome = carried_out(rt, tools, case, depot, &mut link);
-    compared(alloc, case, (outcome, link.output().taken()))
-}
-
-// Carries a case out, where one read gives so many bytes at most, and says what differs.
-fn difference_at(
-    rt: &(impl AllocGlobal + Threads + Sync),
-    tools: &Tools,
-    files: &Stored,
-    case: &Case,
-    most: u64,
-) -> Result<Option<String>> {
-    let most = if most == 0 { None } else { Some(most as usize) };
-    let mut depot = depot(rt.alloc(), files, &case.more, case.fetch).map_err(no_memory)?;
-    difference_over(rt, tools, case, &mut depot, most)
-}
-
-// Carries a case out for each of its cuts, and says what differs at the first that differs.
-fn first_difference(
-    rt: &(impl AllocGlobal + Threads + Sync),
-    tools: &Tools,
-    files: &Stored,
-    case: &Case,
-) -> Result<Option<String>> {
-    for most in case.cuts.as_slice() {
-        if let Some(difference) = difference_at(rt, tools, files, case, *most)? {
-            let text = format!(in rt.alloc(); "cut {most}: {difference}")?;
-            return Ok(Some(text));
-        }
-    }
-    Ok(None)
 }
 
 // Writes the line of a case.
@@ -103,16 +47,15 @@ fn write_line(rt: &impl Print, name: &str, difference: Option<&str>) -> Result<(
     Ok(())
 }
 
-// Carries a case out over its own files, or those of its group where it has none, and writes its line.
+// Carries a case out, and writes its line.
 fn tell_case(
-    rt: &(impl AllocGlobal + Print + Threads + Sync),
+    rt: &(impl Files + AllocGlobal + Print + Threads + Sync),
     tools: &Tools,
-    files: &Stored,
-    name: &str,
-    case: &Case,
+    case: &Case<'_>,
 ) -> Result<()> {
-    let held = case.files.as_ref().unwrap_or(files);
-    let difference = first_difference(rt, tools, held, case)?;
+    let name = text(field(case.object, "name")?)?;
+    let words = words_of(rt.alloc(), case)?;
+    let difference = wrong(rt, tools, case, &words)?;
     write_line(rt, name, difference.as_deref())
 }
 
@@ -124,11 +67,21 @@ fn tell_cases(
     group: &Value,
 ) -> Result<()> {
     for object in items(field(group, "cases")?)? {
-        let name = text(field(object, "name")?)?;
-        let case = read_case(rt, object, group.get("words"))?;
-        tell_case(rt, tools, files, name, &case)?;
+        let case = Case {
+            object,
+            words: group.get("words"),
+            files,
+        };
+        tell_case(rt, tools, &case)?;
     }
     Ok(())
+}
+
+// The files of a group.
+fn files_of(rt: &(impl Files + AllocGlobal), group: &Value) -> Result<Stored> {
+    let mut files = Vec::new(rt.alloc());
+    add_files(rt, &mut files, field(group, "files")?)?;
+    Ok(files)
 }
 
 /// Carries out the cases of a group, and writes a line for each.
@@ -137,6 +90,6 @@ pub(crate) fn tell(
     tools: &Tools,
     group: &Value,
 ) -> Result<()> {
-    let files = files_of(rt, field(group, "files")?)?;
+    let files = files_of(rt, group)?;
     tell_cases(rt, tools, &files, group)
 }

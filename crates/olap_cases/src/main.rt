@@ -16,6 +16,9 @@ mod difference;
 mod fields;
 mod group;
 mod outcome;
+mod recorded;
+mod run;
+mod talk;
 
 use anyhow::{Context, Result};
 use olap_meaning::{Allowed, CellValue, OutOfMemory, Text, ValueId};
@@ -27,19 +30,32 @@ use std::rt::{Env, Files};
 use std::thread::Threads;
 use std::{env, fs};
 
+// What a case file says.
+fn groups_of(rt: &(impl Files + AllocGlobal), name: &str) -> Result<Value> {
+    let text = fs::read_to_string(rt, name)?;
+    Ok(Value::from_str(rt.alloc(), text.as_str())?)
+}
+
+// The cases of groups, one line each.
+fn tell_groups(
+    rt: &(impl Files + AllocGlobal + Print + Threads + Sync),
+    tools: &Tools,
+    groups: &Value,
+) -> Result<()> {
+    for group in fields::items(groups)? {
+        group::tell(rt, tools, group)?;
+    }
+    Ok(())
+}
+
 // The cases of a file, one line each.
 fn tell_file(
     rt: &(impl Files + AllocGlobal + Print + Threads + Sync),
     tools: &Tools,
     name: &str,
 ) -> Result<()> {
-    let alloc = rt.alloc();
-    let text = fs::read_to_string(rt, name)?;
-    let groups = Value::from_str(alloc, text.as_str())?;
-    for group in fields::items(&groups)? {
-        group::tell(rt, tools, group)?;
-    }
-    Ok(())
+    let groups = groups_of(rt, name)?;
+    tell_groups(rt, tools, &groups)
 }
 
 // The cases of the files that words name.

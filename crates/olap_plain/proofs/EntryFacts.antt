@@ -1,5 +1,5 @@
 -- Plain entries as entries, place by place.
-use Rattle.std.proofs.Common.{◌≡◌, refl, sym, ◌∙◌, ap, ℕ, zero, suc, ◌-◌, ◌<◌, List, [], ◌∷◌, drop, take, Bool, true, false, cond, ◌||◌, ◌+◌, ◌++◌, filter_map, option_to_list, Some, None, option_map, slice_get, Option, arith, length, get_or}
+use Rattle.std.proofs.Common.{◌≡◌, refl, sym, ◌∙◌, ap, ℕ, zero, suc, ◌-◌, ◌<◌, List, [], ◌∷◌, drop, take, Bool, true, false, cond, ◌||◌, ◌+◌, ◌++◌, filter_map, Some, None, option_map, slice_get, Option, arith, length, get_or}
 use Rattle.std.specs.List.{list_any, count_by, sum_by}
 use Rattle.std.proofs.lemmas.List.{drop-map, take-map, take_rest}
 use Rattle.std.proofs.lemmas.Option.{slice_get-map, slice_get_read, slice_get_past}
@@ -8,9 +8,7 @@ use Rattle.olap_meaning.specs.History.{Entry, entry_at, latest, flushes, flushed
 use Rattle.olap_meaning.specs.declared.cells.Cell.{Cell}
 use Rattle.olap_meaning.specs.declared.cells.Header.{Header}
 use Rattle.olap_meaning.specs.declared.regions.Region.{Region}
-use Rattle.olap_meaning.specs.Covering.{concerning, region_concerns, region_touches, touching}
-use Rattle.std.proofs.lemmas.List.{map_push}
-use Rattle.std.proofs.lemmas.List.Elements.{filter-append, filter_map-append}
+use Rattle.olap_meaning.specs.Covering.{region_touches, touching}
 use Rattle.std.proofs.lemmas.List.Sums.{sum_by-cons}
 use Rattle.std.proofs.Math.Seq.{take-suc}
 use Rattle.olap_plain.specs.Entries.{entry_of, entries}
@@ -85,28 +83,3 @@ touching_tail header n plain =
     ap (count_by (λ e. is_some_and (λ r. region_touches r header) (flushed (entry_of e)))) (take_rest plain n)
     ∙ sym (count_flushed (λ r. region_touches r header) (drop n plain))
     ∙ ap (λ (es : List Entry). touching header (filter_map flushed es)) (sym (drop_entries n plain))
-
-one_flushed : (e : Entry) → filter_map flushed (e ∷ []) ≡ option_to_list (flushed e)
-one_flushed e = by (flushed e) refl
-  where
-    by : (o : Option Region) → flushed e ≡ o → filter_map flushed (e ∷ []) ≡ option_to_list o
-    by None is = rw is refl
-    by (Some r) is = rw is refl
-
--- the regions of one entry more
-pub concerning_more : (header : Header) (plain : List PlainEntry) (i : ℕ) (e : PlainEntry) (before after : List Region) → i < length plain → e ≡ get_or plain i e → before ≡ concerning header (filter_map flushed (entries (take i plain)))
-    → after ≡ before ++ concerning header (option_to_list (flushed (entry_of e))) → after ≡ concerning header (filter_map flushed (entries (take (i + 1) plain)))
-concerning_more header plain i e before after l at was is =
-    is
-    ∙ ap (λ (rs : List Region). rs ++ concerning header (option_to_list (flushed (entry_of e)))) was
-    ∙ sym (filter-append (λ region. region_concerns region header) (filter_map flushed (entries (take i plain))) (option_to_list (flushed (entry_of e))))
-    ∙ ap (λ (rs : List Region). concerning header (filter_map flushed (entries (take i plain)) ++ rs)) (sym (one_flushed (entry_of e)))
-    ∙ ap (concerning header) (sym (filter_map-append flushed (entries (take i plain)) (entry_of e ∷ [])))
-    ∙ ap (λ (es : List Entry). concerning header (filter_map flushed es)) (sym (map_push entry_of (take i plain) e))
-    ∙ ap (λ (es : List PlainEntry). concerning header (filter_map flushed (entries es))) (ap (λ (x : PlainEntry). take i plain ++ x ∷ []) at ∙ sym (take-suc plain i e l))
-    ∙ ap (λ n. concerning header (filter_map flushed (entries (take n plain)))) (let next : suc i ≡ i + 1 = omega arith in next)
-
-pub concerning_tail : (header : Header) (n : ℕ) (plain : List PlainEntry) → concerning header (filter_map flushed (entries (take (length plain - n) (drop n plain)))) ≡ concerning header (regions_after (entries plain) n)
-concerning_tail header n plain =
-    ap (λ (es : List PlainEntry). concerning header (filter_map flushed (entries es))) (take_rest plain n)
-    ∙ ap (λ (es : List Entry). concerning header (filter_map flushed es)) (sym (drop_entries n plain))

@@ -1,6 +1,5 @@
-//! The meanings of regions, headers and histories as plain, slow code: each walks the whole list each time. Tests
-//! compare faster bodies with it.
-ghost use Rattle.std.specs.Prelude.{count_by, filter_map, drop, map, IfOk, OnOk, ◌++◌, option_to_list, ◌≡◌, ◌≤◌, ◌<◌, ◌+◌, ◌&&◌, ◌||◌, option_map, option_copied, ◌==◌, not, length, unwrap_or, is_some, Option};
+//! The meanings of regions, headers and histories as plain, slow code: each walks the whole list each time.
+ghost use Rattle.std.specs.Prelude.{count_by, drop, ◌≡◌, ◌≤◌, ◌<◌, ◌+◌, ◌&&◌, ◌||◌, option_map, option_copied, ◌==◌, not, length, unwrap_or, is_some, Option};
 ghost use Rattle.std.specs.List.{list_any, list_all};
 ghost use Rattle.olap_meaning.specs.Covering as covering;
 ghost use Rattle.olap_meaning.specs.History as meaning;
@@ -8,10 +7,8 @@ ghost use Rattle.olap_plain.specs.Entries as plain_view;
 
 use crate::PlainEntry;
 use olap_meaning::{
-    Allowed, Cell, ColumnId, CubeId, Header, MeasureId, OutOfMemory, Region, RegionBox, ValueId,
-    Who,
+    Allowed, Cell, ColumnId, CubeId, Header, MeasureId, Region, RegionBox, ValueId, Who,
 };
-use std::alloc::Global;
 
 /// Whether a value is one of a list.
 pub fn among(values: &[ValueId], value: ValueId) -> bool
@@ -172,19 +169,6 @@ pub fn region_touches(region: &Region, header: &Header) -> bool
     ensures { result ≡ covering.region_touches region.now header.now }
 {
     region.cube == header.cube && some_box_touches(region.boxes.as_slice(), header)
-}
-
-fn some_box_of(boxes: &[RegionBox], measure: MeasureId) -> bool
-    ensures { result ≡ list_any (λ b. covering.of_measure b.measures measure) boxes.now }
-{
-    boxes.iter().any(|b| of_measure(b, measure))
-}
-
-/// Whether a region concerns a header.
-pub fn region_concerns(region: &Region, header: &Header) -> bool
-    ensures { result ≡ covering.region_concerns region.now header.now }
-{
-    region.cube == header.cube && some_box_of(region.boxes.as_slice(), header.measure)
 }
 
 fn flushes(cell: &Cell, entry: &PlainEntry) -> bool
@@ -427,70 +411,6 @@ pub fn flush_count(entries: &[PlainEntry], j: u64) -> usize
         None => 0,
         Some(header) => touching_after(entries, j, header),
     }
-}
-
-/// The regions that shut off part of a load.
-pub fn shutting(alloc: Global, entries: &[PlainEntry], j: u64) -> Result<Vec<&Region>, OutOfMemory>
-    ensures { IfOk result
-        (λ regions. map (λ region. region.now) regions.items
-        ≡ meaning.shutting (plain_view.entries entries.now) j) }
-{
-    match load_header(entries, j) {
-        None => Ok(Vec::new(alloc)),
-        Some(header) => shutting_after(alloc, entries, j, header),
-    }
-}
-
-fn shutting_after<'a>(
-    alloc: Global,
-    entries: &'a [PlainEntry],
-    position: u64,
-    header: &Header,
-) -> Result<Vec<&'a Region>, OutOfMemory>
-    requires { position ≤ length entries.now }
-    ensures { IfOk result
-        (λ regions. map (λ region. region.now) regions.items
-        ≡ covering.concerning header.now
-        (meaning.regions_after (plain_view.entries entries.now) position)) }
-{
-    concerning(alloc, &entries[position as usize..], header)
-}
-
-fn concerning<'a>(
-    alloc: Global,
-    entries: &'a [PlainEntry],
-    header: &Header,
-) -> Result<Vec<&'a Region>, OutOfMemory>
-    ensures { IfOk result
-        (λ regions. map (λ region. region.now) regions.items
-        ≡ covering.concerning header.now
-        (filter_map meaning.flushed (plain_view.entries entries.now))) }
-{
-    let mut regions = Vec::new(alloc);
-    for i in 0..entries.len() {
-        add_concerning(&mut regions, &entries[i], header)?;
-    }
-    Ok(regions)
-}
-
-fn add_concerning<'a>(
-    regions: &mut Vec<&'a Region>,
-    entry: &'a PlainEntry,
-    header: &Header,
-) -> Result<(), OutOfMemory>
-    ensures { OnOk result
-        (map (λ region. region.now) regions.new.items
-        ≡ map (λ region. region.now) regions.old.items
-        ++ covering.concerning header.now
-        (option_to_list (meaning.flushed (plain_view.entry_of entry.now)))) }
-{
-    let Some(region) = region_of(entry) else {
-        return Ok(());
-    };
-    if region_concerns(region, header) {
-        regions.push(region)?;
-    }
-    Ok(())
 }
 
 /// Whether a load is awaited for a cell.

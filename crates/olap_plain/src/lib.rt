@@ -1,11 +1,10 @@
-//! The definitions as plain, slow code, for tests: later crates compare their faster bodies with these.
+//! The definitions of a cache's history as plain, slow code, for tables that are worked by hand.
 //!
 //! Each body walks whole lists each time, and its contract is the definition that it computes.
 #![tactic(auto)]
 
 ghost use Rattle.std.specs.Prelude.{◌≡◌};
 
-mod bodies;
 pub mod catalogs;
 mod entries;
 pub mod history;
@@ -13,5 +12,4 @@ mod offers;
 pub mod sources;
 pub mod steps;
 
-pub use bodies::RowList;
 pub use entries::PlainEntry;

@@ -1,4 +1,0 @@
-//! Schemas, tables and catalogs.
-mod faults;
-mod members;
-mod sample;

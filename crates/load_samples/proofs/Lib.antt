@@ -1,2 +1,0 @@
-mod TableFacts
-mod OfferFacts

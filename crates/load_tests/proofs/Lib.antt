@@ -1,2 +1,0 @@
-pub mod HeldFacts
-pub mod BehindFacts

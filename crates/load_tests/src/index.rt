@@ -1,4 +1,0 @@
-//! The index over kept loads, beside the plain shelf.
-mod agreeing;
-mod finding;
-mod promises;

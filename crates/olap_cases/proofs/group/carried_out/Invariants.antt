@@ -1,5 +1,0 @@
--- The counter of the steps is new.
-use Rattle.olap_cases.proofs.group.carried_out.Given as goal
-
-abbrev pub ghosts-carry_out : goal.ghosts-carry_out
-ghosts-carry_out g a = record { name = a.blank.name; parts = a.blank.parts }

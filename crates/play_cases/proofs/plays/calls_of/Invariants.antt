@@ -1,0 +1,8 @@
+-- Each call so far may be made.
+use Rattle.std.proofs.Common.{All}
+use Rattle.cache_manager.specs.Runs.{MayCall}
+use Rattle.play_cases.proofs.plays.calls_of.Given as goal
+
+-- each call so far may be made
+abbrev pub invariant-loop-line : goal.invariant-loop-line
+invariant-loop-line l = All (MayCall l.catalog) l.calls

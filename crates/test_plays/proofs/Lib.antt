@@ -1,3 +1,0 @@
-mod CallFacts
-mod JobFacts
-mod SmallFacts

@@ -1,8 +1,0 @@
--- Each call so far may be made.
-use Rattle.std.proofs.Common.{All}
-use Rattle.cache_manager.specs.Runs.{MayCall}
-use Rattle.test_plays.proofs.runs.calls_of.Given as goal
-
--- each call so far may be made
-abbrev pub invariant-loop-line : goal.invariant-loop-line
-invariant-loop-line l = All (MayCall l.catalog) l.calls

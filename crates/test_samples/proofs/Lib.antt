@@ -1,2 +1,0 @@
-mod LevelFacts
-mod SalesFacts

@@ -1,6 +1,0 @@
--- That `checked` ensures what it says.
-use Rattle.segment_header.proofs.WideFacts.{any_serves}
-use Rattle.test_samples.proofs.wideners.checked.Goals as goal
-
-pub returns : goal.returns
-returns c = any_serves c.args.wanted.now c.args.count
