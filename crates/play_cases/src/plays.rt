@@ -38,16 +38,27 @@ fn is_call(line: &str) -> bool {
     !is_remark(line) && !is_question(parts(line).0)
 }
 
-// The calls of a table.
+// The lines of a table that are calls.
+fn call_lines(alloc: Global, table: &str) -> Result<Vec<&str>, Wrong> {
+    let mut lines = Vec::new(alloc);
+    for line in table.lines() {
+        if is_call(line) {
+            lines.push(line)?;
+        }
+    }
+    Ok(lines)
+}
+
+// The calls of lines.
 fn calls_of(
     rt: &(impl Files + AllocGlobal),
     catalog: &Catalog,
-    table: &str,
+    lines: &[&str],
 ) -> Result<List<Call>, Wrong>
     ensures { IfOk result (λ calls. All (MayCall catalog.now) calls) }
 {
     let mut calls = List::new(rt.alloc());
-    for line in table.lines().filter(|line| is_call(line)) {
+    for line in lines {
         let call = call_of(rt, catalog, parts(line).0)?;
         let Ok(()) = calls.push(call) else {
             return Err(Wrong::OutOfMemory);
@@ -82,7 +93,8 @@ fn run_of(
     widener: &Widener,
 ) -> Result<Run, Wrong> {
     let catalog = catalog(rt)?;
-    let calls = calls_of(rt, &catalog, table)?;
+    let lines = call_lines(rt.alloc(), table)?;
+    let calls = calls_of(rt, &catalog, lines.as_slice())?;
     let row_limit = row_limit.min(ROW_LIMIT);
     match run::<Brand>(
         rt.alloc(),

@@ -6,6 +6,6 @@ use Rattle.cache_manager.specs.declared.calls.Call.{Call}
 use Rattle.play_cases.proofs.plays.calls_of.Goals as goal
 
 pub loop-line-preserved : goal.loop-line-preserved
-loop-line-preserved c =
+loop-line-preserved g c =
     let one = All-cons (MayCall c.args.catalog.now) c.in_ok-call.call [] c.in_ok-call.ensures (All-nil (MayCall c.args.catalog.now)) in
     subst (λ (calls : List Call). All (MayCall c.args.catalog.now) calls) (sym c.in-Ok.ensures.ok) (All-append (MayCall c.args.catalog.now) c.loop-line.calls (c.in_ok-call.call ∷ []) c.loop-line.invariant one)

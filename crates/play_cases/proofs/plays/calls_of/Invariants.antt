@@ -5,4 +5,4 @@ use Rattle.play_cases.proofs.plays.calls_of.Given as goal
 
 -- each call so far may be made
 abbrev pub invariant-loop-line : goal.invariant-loop-line
-invariant-loop-line l = All (MayCall l.catalog) l.calls
+invariant-loop-line g l = All (MayCall l.catalog) l.calls
