@@ -72,9 +72,9 @@ while True:
     if made < at:
         break
     said = ran.stdout.strip()
-    # The program itself may find no memory, or a call that is no flush.
-    elsewhere = not said or said == "a flush: no memory" or any(
-        "no memory" in line and not line.startswith(FLUSHED) for line in said.splitlines())
+    # The program itself may find no memory, so that a line is not read, or a call that is no flush.
+    elsewhere = "\n" not in said or any(
+        "memory" in line and not line.startswith(FLUSHED) for line in said.splitlines())
     if said in RIGHT:
         counts[RIGHT[said]] += 1
     elif elsewhere:
