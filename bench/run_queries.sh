@@ -7,7 +7,7 @@ folder=$(mktemp -d)
 trap 'rm -rf "$folder"' EXIT
 mkdir -p "$folder/crates/queries/src"
 cp "$here/../HANDLES" "$here/../LICENSE" "$folder"
-for crate in olap_meaning query_meaning text_forms tokens mdx_reader; do
+for crate in olap_meaning query_meaning text_forms mdx_reader; do
     cp -r "$here/../crates/$crate" "$folder/crates"
     grep "^$crate:" "$here/../crates.txt" >> "$folder/crates.txt"
 done

@@ -1,18 +1,12 @@
 -- What a load reads is the cheapest: of several that cost as much the first, and the facts last.
 use Rattle.std.proofs.Common.{◌≡◌, ◌≤◌, ◌<◌, ℕ, Bool, true, false, List, [], ◌∷◌, Option, None, Some, refl, ap, arith, All}
+use Rattle.std.proofs.lemmas.Bool.{leb-false, leb-true}
 use Rattle.std.specs.Prelude.{◌&&◌, nat_le, if◌then◌else◌}
-use Rattle.std.proofs.lemmas.Bool.Decides.{nat_tests}
 use Rattle.std.proofs.lemmas.List.Elements.{All-append, All-cons, All-nil, All-weaker}
 use Rattle.olap_meaning.specs.declared.cells.Header.{Header}
 use Rattle.agg_tables.specs.Cheapest.{IfMayRead, IsCheapest}
 use Rattle.agg_tables.specs.Costs.{cheapest, may_read, read_cost, table_cost}
 use Rattle.agg_tables.specs.Tables.{TableOf}
-
-le_of : (a b : ℕ) → nat_le a b ≡ true → a ≤ b
-le_of a b h = grind (arith, nat_tests)
-
-gt_of : (a b : ℕ) → nat_le a b ≡ false → b < a
-gt_of a b h = grind (arith, nat_tests)
 
 module _ (header : Header) (version rows : ℕ) where
   abbrev dearer : ℕ → TableOf → Type 0
@@ -48,6 +42,6 @@ module _ (header : Header) (version rows : ℕ) where
       by : (may less : Bool) → may_read header version t ≡ may → nat_le (table_cost rows t) (read_cost rows (cheapest header version rows ts)) ≡ less → IsCheapest header version rows ts (cheapest header version rows ts)
           → IsCheapest header version rows (t ∷ ts) (if may && less then Some t else cheapest header version rows ts)
       by true true is few rest =
-          (is, omega (arith, le_of _ _ few, facts_cost (cheapest header version rows ts) rest), [], ts, refl, All-nil (dearer (table_cost rows t)), none_less (table_cost rows t) ts (cheapest header version rows ts) rest (le_of _ _ few))
-      by true false is many rest = kept (cheapest header version rows ts) rest (λ may. gt_of _ _ many)
+          (is, omega (arith, leb-true _ _ few, facts_cost (cheapest header version rows ts) rest), [], ts, refl, All-nil (dearer (table_cost rows t)), none_less (table_cost rows t) ts (cheapest header version rows ts) rest (leb-true _ _ few))
+      by true false is many rest = kept (cheapest header version rows ts) rest (λ may. leb-false _ _ many)
       by false less is few rest = kept (cheapest header version rows ts) rest (λ may. absurd (let both = may in cc))

@@ -3,8 +3,7 @@ use Rattle.std.proofs.Common.{◌≡◌, ◌∙◌, ◌⊎◌, ◌+◌, ◌==◌
 use Rattle.std.specs.Prelude.{IfErr, IsTrue, OnOk}
 use Rattle.std.specs.List.{list_all, list_any, zip}
 use Rattle.std.specs.Option.{option_or}
-use Rattle.std.proofs.lemmas.Bool.{and_from}
-use Rattle.std.proofs.lemmas.Bool.Decides.{nat_tests}
+use Rattle.std.proofs.lemmas.Bool.{and_from, eq-eqb}
 use Rattle.std.proofs.lemmas.List.{length-map, map-append}
 use Rattle.catalog_tables.proofs.SeenFacts.{list_any-map}
 use Rattle.olap_meaning.specs.declared.cells.Allowed.{Allowed}
@@ -59,13 +58,10 @@ any_allowed [] values = refl
 any_allowed (c ∷ cs) [] = refl
 any_allowed (c ∷ cs) (v ∷ vs) = any_allowed cs vs
 
-eq_true : (a b : ℕ) → a ≡ b → (a == b) ≡ true
-eq_true a b h = grind (arith, nat_tests)
-
 pub row_allowed : (catalog : Catalog) (declared : Declared) (seen : BodyOf) (values : List ℕ) → seen.header.columns ≡ table_columns catalog declared → length values ≡ length (table_columns catalog declared)
     → IsTrue (are_allowed seen.header values)
 row_allowed catalog declared seen values columns each =
-    let length_told : (length values == length seen.header.columns) ≡ true = eq_true _ _ (each ∙ sym (ap length columns)) in
+    let length_told : (length values == length seen.header.columns) ≡ true = eq-eqb _ _ (each ∙ sym (ap length columns)) in
     let all : list_all (λ (own : (ℕ × Allowed) × ℕ). allows own.0.1 own.1) (zip seen.header.columns values) ≡ true = rw columns (any_allowed (columns_below declared.levels (length catalog.columns)) values) in
     and_from _ _ length_told all
 

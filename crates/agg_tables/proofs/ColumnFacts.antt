@@ -2,7 +2,7 @@
 use Rattle.std.proofs.Common.{◌≡◌, ◌∙◌, ◌<◌, ◌==◌, ℕ, zero, suc, Bool, true, false, List, [], ◌∷◌, ◌++◌, Option, Some, length, map, refl, ap, arith, inl, inr, if◌then◌else◌}
 use Rattle.std.specs.Prelude.{IsTrue, nat_lt, option_and_then, slice_get}
 use Rattle.std.specs.List.{list_all}
-use Rattle.std.proofs.lemmas.Bool.{and_from, and_parts, cases_Bool}
+use Rattle.std.proofs.lemmas.Bool.{and_from, and_parts, cases_Bool, eqb-true}
 use Rattle.std.proofs.lemmas.Bool.Decides.{nat_tests}
 use Rattle.std.proofs.lemmas.List.Folds.{list_all-append}
 use Rattle.std.proofs.lemmas.Option.{slice_get-get_or}
@@ -19,9 +19,6 @@ use Rattle.agg_tables.specs.declared.declared.Declared.{Declared}
 use Rattle.agg_tables.specs.declared.declared.TableLevel.{TableLevel}
 use Rattle.agg_tables.specs.Declarations.{columns_below, has_column}
 use Rattle.agg_tables.specs.Tables.{table_columns, table_header}
-
-eq_of : (a b : ℕ) → (a == b) ≡ true → a ≡ b
-eq_of a b h = grind (arith, nat_tests)
 
 lt_suc : (a b : ℕ) → nat_lt a b ≡ true → nat_lt a (suc b) ≡ true
 lt_suc a b h = grind (arith, nat_tests)
@@ -81,7 +78,7 @@ level_passes q [] column all there = absurd (cc)
 level_passes q (level ∷ levels) column all there =
     let parts = and_parts (q level.column) (list_all (λ level. q level.column) levels) all in
     elim (cases_Bool (level.column == column)) [
-      | inl same ↦ rw (← eq_of level.column column same) parts.0
+      | inl same ↦ rw (← eqb-true level.column column same) parts.0
       | inr other ↦ level_passes q levels column parts.1 (rw other at there)
     ]
 

@@ -1,14 +1,12 @@
 -- What is found of a declared table in its catalog.
-use Rattle.std.proofs.Common.{◌≡◌, ◌≢◌, ◌∙◌, ◌<◌, ◌≤◌, ◌+◌, ◌||◌, ◌==◌, ℕ, zero, suc, Bool, true, false, not, List, [], ◌∷◌, ◌++◌, Option, None, Some, find, filter, filter_map, length, map, take, drop, get_or, bytes_eq, refl, sym, ap, subst, arith, inl, inr, All}
+use Rattle.std.proofs.Common.{◌≡◌, ◌≢◌, ◌∙◌, ◌<◌, ◌≤◌, ◌+◌, ◌||◌, ◌==◌, ℕ, zero, suc, Bool, true, false, not, List, [], ◌∷◌, ◌++◌, Option, None, Some, find, filter, filter_map, length, map, take, drop, get_or, bytes_eq, refl, sym, ap, subst, arith, inl, inr}
 use Rattle.std.specs.Prelude.{nat_lt, option_and_then, option_map, option_to_list, position, slice_get}
 use Rattle.std.specs.List.{cons_option, list_all, list_any}
-use Rattle.std.proofs.lemmas.Bool.{and_from, and_parts, cases_Bool}
+use Rattle.std.proofs.lemmas.Bool.{and_from, and_parts, cases_Bool, eq-eqb, eqb-true}
 use Rattle.std.proofs.lemmas.Bool.Decides.{nat_tests}
 use Rattle.std.proofs.lemmas.List.Elements.{All-get_or, filter-append, filter_map-append}
-use Rattle.std.proofs.lemmas.Option.{slice_get-get_or, slice_get-map, slice_get_within}
+use Rattle.std.proofs.lemmas.Option.{slice_get-map, slice_get_within}
 use Rattle.catalog_tables.proofs.SeenFacts.{position-map}
-use Rattle.csv_records.proofs.PlaceFacts.{item_upto}
-use Rattle.fact_reader.proofs.RowFacts.{position_of, some_and}
 use Rattle.olap_meaning.specs.declared.schema.AggregateLevel.{AggregateLevel}
 use Rattle.olap_meaning.specs.declared.schema.AggregateMeasure.{AggregateMeasure}
 use Rattle.olap_meaning.specs.declared.schema.SchemaAggregate.{SchemaAggregate}
@@ -26,16 +24,12 @@ use Rattle.olap_meaning.specs.Legal.{is_column_of}
 use Rattle.olap_catalog.specs.Parts.{has_levels, is_level}
 use Rattle.olap_meaning.specs.Schema.{IsWithinCube, cube_over}
 use Rattle.olap_meaning.specs.Whole.{IsNamedCube, IsTableOf, IsWhole}
+use Rattle.olap_meaning.proofs.Lists.{holds_at, mapped_from, position_there, take_step}
+use Rattle.olap_meaning.proofs.Loads.{some_and}
 use Rattle.agg_tables.specs.declared.declared.TableLevel.{TableLevel}
 use Rattle.agg_tables.specs.declared.declared.TableMeasure.{TableMeasure}
 use Rattle.agg_tables.specs.Declarations.{declared_for, declared_table, each_once, has_column, is_hierarchy, is_named, level_column, measure_with, table_level, table_measure}
 use Rattle.agg_tables.specs.Bound.{IsPlaced, with_level}
-
-eq_of : (a b : ℕ) → (a == b) ≡ true → a ≡ b
-eq_of a b h = grind (arith, nat_tests)
-
-eq_true : (a b : ℕ) → a ≡ b → (a == b) ≡ true
-eq_true a b h = grind (arith, nat_tests)
 
 -- what is left out by a test that holds where another does takes nothing from the other
 any_filter : {A : Type 0} (p q : A → Bool) (zs : List A) → ((z : A) → p z ≡ true → q z ≡ true) → list_any p (filter q zs) ≡ list_any p zs
@@ -60,7 +54,7 @@ among_once (level ∷ levels) column = elim (cases_Bool (level.column == column)
   where
     apart : (a b c : ℕ) → (a == c) ≡ false → (b == c) ≡ true → not (a == b) ≡ true
     apart a b c off on = elim (cases_Bool (a == b)) [
-      | inl same ↦ absurd (let e : (b == c) ≡ false = rw (eq_of a b same) at off in cc)
+      | inl same ↦ absurd (let e : (b == c) ≡ false = rw (eqb-true a b same) at off in cc)
       | inr other ↦ rw other refl
     ]
 
@@ -93,7 +87,7 @@ once_more (first ∷ levels) level = elim (cases_Bool (first.column == level.col
 
 -- one item more of a list of which some are kept
 pub kept_next : {A B : Type 0} (f : A → Option B) (xs : List A) (i : ℕ) (x : A) → i < length xs → x ≡ get_or xs i x → filter_map f (take (i + 1) xs) ≡ filter_map f (take i xs) ++ option_to_list (f x)
-kept_next f xs i x within is = rw (item_upto xs i x within is) (filter_map-append f (take i xs) (x ∷ []) ∙ ap (λ (more : List _). filter_map f (take i xs) ++ more) (one (f x)))
+kept_next f xs i x within is = rw (take_step xs i x within is) (filter_map-append f (take i xs) (x ∷ []) ∙ ap (λ (more : List _). filter_map f (take i xs) ++ more) (one (f x)))
   where
     one : {B : Type 0} (o : Option B) → cons_option o [] ≡ option_to_list o
     one None = refl
@@ -115,7 +109,7 @@ pub record IsCubeOf (catalog : Catalog) (name : List ℕ) : Type 0 where
 cube_in : (dimensions : List SchemaDimension) (cubes : List SchemaCube) (name : List ℕ) (cube : SchemaCube) → find (λ (c : SchemaCube). bytes_eq name c.name) cubes ≡ Some cube
     → (place : ℕ) × (position (λ (c : Cube). bytes_eq name c.name) (map (cube_over dimensions) cubes) ≡ Some place)
 cube_in dimensions cubes name cube found =
-    let there = position_of (λ (c : SchemaCube). bytes_eq name c.name) cubes (found_any (λ (c : SchemaCube). bytes_eq name c.name) cubes cube found) in
+    let there = position_there (λ (c : SchemaCube). bytes_eq name c.name) cubes (found_any (λ (c : SchemaCube). bytes_eq name c.name) cubes cube found) in
     (there.0, position-map (cube_over dimensions) (λ (c : Cube). bytes_eq name c.name) cubes ∙ there.1)
 
 pub cube_found : (catalog : Catalog) (table : ℕ) (own : SchemaAggregate) → IsWhole catalog.schema → catalog.cubes ≡ map (cube_over catalog.schema.dimensions) catalog.schema.cubes
@@ -163,11 +157,6 @@ all_kept {A} {B} f q (x ∷ xs) each = by (f x) refl (all_kept f q xs each)
     by None e rest = rest
     by (Some y) e rest = and_from _ _ (each x y e) rest
 
--- the parts of what is there where a value is mapped or gone on from
-pub mapped_there : {A B : Type 0} (f : A → B) (o : Option A) (y : B) → option_map f o ≡ Some y → (x : A) × (o ≡ Some x) × (f x ≡ y)
-mapped_there f None y h = absurd (cc)
-mapped_there f (Some x) y h = (x, refl, cc)
-
 pub gone_on : {A B : Type 0} (f : A → Option B) (o : Option A) (y : B) → option_and_then f o ≡ Some y → (x : A) × (o ≡ Some x) × (f x ≡ Some y)
 gone_on f None y h = absurd (cc)
 gone_on f (Some x) y h = (x, refl, h)
@@ -176,7 +165,7 @@ gone_on f (Some x) y h = (x, refl, h)
 level_own : (catalog : Catalog) (cube : Cube) (declared : AggregateLevel) (level : TableLevel) → list_all (has_levels catalog.columns) catalog.hierarchies ≡ true → table_level catalog cube declared ≡ Some level
     → is_column_of catalog cube.dimensions level.column ≡ true
 level_own catalog cube declared level leveled made =
-    let column = mapped_there (λ (column : ℕ). record { column = column; name = declared.column }) (level_column catalog cube declared) level made in
+    let column = mapped_from (λ (column : ℕ). record { column = column; name = declared.column }) (level_column catalog cube declared) level made in
     let hierarchy = gone_on (λ (h : Hierarchy). find (is_named catalog declared.level) h.levels) (find (is_hierarchy catalog cube declared.hierarchy) catalog.hierarchies) column.0 column.1 in
     let h = hierarchy.0 in
     let own = found_passes (is_hierarchy catalog cube declared.hierarchy) (has_levels catalog.columns) catalog.hierarchies h hierarchy.1 leveled in
@@ -184,12 +173,12 @@ level_own catalog cube declared level leveled made =
     let at = (found_passes (is_named catalog declared.level) (is_level catalog.columns h.dimension) h.levels column.0 hierarchy.2 own.1).1 in
     let there = some_and (λ (c : Column). c.dimension == h.dimension) (slice_get catalog.columns column.0) at in
     let same : level.column ≡ column.0 = ap (λ (l : TableLevel). l.column) (sym column.2) in
-    rw (same, there.1, eq_of there.0.dimension h.dimension there.2) among_them
+    rw (same, there.1, eqb-true there.0.dimension h.dimension there.2) among_them
 
 measure_own : (cube : Cube) (declared : AggregateMeasure) (own : TableMeasure) → table_measure cube declared ≡ Some own → nat_lt own.measure (length cube.measures) ≡ true
 measure_own cube declared own made =
     let place = gone_on (λ (place : ℕ). option_map (measure_with place declared) (slice_get cube.measures place)) (position (λ (measure : Measure). bytes_eq declared.measure measure.name) cube.measures) own made in
-    let measure = mapped_there (measure_with place.0 declared) (slice_get cube.measures place.0) own place.2 in
+    let measure = mapped_from (measure_with place.0 declared) (slice_get cube.measures place.0) own place.2 in
     let within = slice_get_within cube.measures place.0 measure.0 measure.1 in
     let same : own.measure ≡ place.0 = ap (λ (m : TableMeasure). m.measure) (sym measure.2) in
     rw same (lt_true place.0 (length cube.measures) within)
@@ -202,18 +191,12 @@ pub record HasMeasures (cube : Cube) : Type 0 where
   pub some : 0 < length cube.measures
   pub few : length cube.measures ≤ MEASURE_LIMIT
 
-all_of : {A : Type 0} (P : A → Type 0) (xs : List A) (i : ℕ) (x : A) → All P xs → slice_get xs i ≡ Some x → P x
-all_of P xs i x all at =
-    let within = slice_get_within xs i x at in
-    let here : get_or xs i x ≡ x = (let e : Some (get_or xs i x) ≡ Some x = sym (slice_get-get_or xs i x within) ∙ at in cc) in
-    subst P here (All-get_or P xs i x within all)
-
 pub has_measures : (catalog : Catalog) (place : ℕ) (cube : Cube) → IsWhole catalog.schema → catalog.cubes ≡ map (cube_over catalog.schema.dimensions) catalog.schema.cubes → slice_get catalog.cubes place ≡ Some cube → HasMeasures cube
 has_measures catalog place cube whole cubes at =
-    let there = mapped_there (cube_over catalog.schema.dimensions) (slice_get catalog.schema.cubes place) cube (sym (slice_get-map (cube_over catalog.schema.dimensions) catalog.schema.cubes place) ∙ ap (λ (cs : List Cube). slice_get cs place) (sym cubes) ∙ at) in
+    let there = mapped_from (cube_over catalog.schema.dimensions) (slice_get catalog.schema.cubes place) cube (sym (slice_get-map (cube_over catalog.schema.dimensions) catalog.schema.cubes place) ∙ ap (λ (cs : List Cube). slice_get cs place) (sym cubes) ∙ at) in
     let own = there.0 in
-    let within = all_of IsWithinCube catalog.schema.cubes place own whole.limits.each there.1 in
-    let named = all_of IsNamedCube catalog.schema.cubes place own whole.named_cubes there.1 in
+    let within = holds_at IsWithinCube catalog.schema.cubes place own whole.limits.each there.1 in
+    let named = holds_at IsNamedCube catalog.schema.cubes place own whole.named_cubes there.1 in
     let same : cube.measures ≡ own.measures = ap (λ (c : Cube). c.measures) (sym there.2) in
     record { some = rw same (positive own.measures named.some); few = rw same within.measures }
   where

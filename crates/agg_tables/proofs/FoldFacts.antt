@@ -2,9 +2,8 @@
 use Rattle.std.proofs.Common.{◌≡◌, ◌∙◌, ◌<◌, ℕ, zero, suc, true, List, [], ◌∷◌, Some, length, map, get_or, refl, sym, ap, arith, All}
 use Rattle.std.specs.Prelude.{IsTrue, nat_lt}
 use Rattle.std.specs.List.{list_all}
-use Rattle.std.proofs.lemmas.Bool.{and_from, and_parts}
+use Rattle.std.proofs.lemmas.Bool.{and_from, and_parts, lt-ltb, ltb-true}
 use Rattle.std.proofs.lemmas.List.Elements.{All-map}
-use Rattle.std.proofs.lemmas.Bool.Decides.{nat_tests}
 use Rattle.olap_meaning.specs.declared.tables.Catalog.{Catalog}
 use Rattle.olap_meaning.specs.declared.tables.Row.{Row}
 use Rattle.segment_body.specs.BodyOf.{BodyOf}
@@ -15,12 +14,6 @@ use Rattle.agg_tables.specs.declared.declared.TableMeasure.{TableMeasure}
 use Rattle.agg_tables.specs.Bound.{AreFolds, IsPlaced}
 use Rattle.agg_tables.specs.Tables.{fold_over, folds_of}
 use Rattle.agg_tables.proofs.ColumnFacts.{can_be_loaded}
-
-lt_of : (a b : ℕ) → nat_lt a b ≡ true → a < b
-lt_of a b h = grind (arith, nat_tests)
-
-lt_true : (a b : ℕ) → a < b → nat_lt a b ≡ true
-lt_true a b h = grind (arith, nat_tests)
 
 -- the folds of a table are of measures that it has, or of the first one
 pub folds_measured : (n : ℕ) (measures : List TableMeasure) → 0 < n → list_all (λ (own : TableMeasure). nat_lt own.measure n) measures ≡ true
@@ -35,7 +28,7 @@ folds_measured n measures some all = by measures all
         and_from _ _ parts.0 (each ms parts.1)
 
     by : (ms : List TableMeasure) → list_all (λ (own : TableMeasure). nat_lt own.measure n) ms ≡ true → list_all (λ (fold : Fold). nat_lt fold.measure n) (folds_of ms) ≡ true
-    by [] all = and_from _ _ (lt_true 0 n some) refl
+    by [] all = and_from _ _ (lt-ltb 0 n some) refl
     by (m ∷ ms) all = each (m ∷ ms) all
 
 -- so they are of measures of its cube
@@ -49,7 +42,7 @@ rows_over catalog declared rows (fold ∷ folds) = ap (λ (rest : List BodyOf). 
 
 measured_at : (n : ℕ) (folds : List Fold) (k : ℕ) (d : Fold) → list_all (λ (fold : Fold). nat_lt fold.measure n) folds ≡ true → k < length folds → (get_or folds k d).measure < n
 measured_at n [] k d all within = absurd (omega arith)
-measured_at n (fold ∷ folds) zero d all within = lt_of fold.measure n (and_parts (nat_lt fold.measure n) (list_all (λ (fold : Fold). nat_lt fold.measure n) folds) all).0
+measured_at n (fold ∷ folds) zero d all within = ltb-true fold.measure n (and_parts (nat_lt fold.measure n) (list_all (λ (fold : Fold). nat_lt fold.measure n) folds) all).0
 measured_at n (fold ∷ folds) (suc k) d all within = measured_at n folds k d (and_parts (nat_lt fold.measure n) (list_all (λ (fold : Fold). nat_lt fold.measure n) folds) all).1 (omega arith)
 
 -- the bodies of folds can be loaded

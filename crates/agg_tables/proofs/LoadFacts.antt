@@ -3,8 +3,7 @@ use Rattle.std.proofs.Common.{◌≡◌, ◌∙◌, ◌<◌, ◌≤◌, ◌+◌,
 use Rattle.std.specs.Prelude.{◌&&◌, IsTrue, Contains, filter_map, nat_lt, option_and_then, option_map, position, slice_get}
 use Rattle.std.specs.List.{cons_option, list_all, list_any}
 use Rattle.std.specs.List.Sorted.{IsPermutation}
-use Rattle.std.proofs.lemmas.Bool.{and_from, and_parts}
-use Rattle.std.proofs.lemmas.Bool.Decides.{nat_tests}
+use Rattle.std.proofs.lemmas.Bool.{and_from, and_parts, eqb-true}
 use Rattle.std.proofs.lemmas.List.Elements.{All-cons, All-contains, All-head, All-nil, All-tail}
 use Rattle.std.proofs.lemmas.List.Folds.{list_all-append}
 use Rattle.std.proofs.lemmas.List.Quantifiers.{position-Some}
@@ -25,6 +24,7 @@ use Rattle.olap_meaning.specs.History.{is_some_and}
 use Rattle.olap_meaning.specs.Legal.{is_column_of, is_row}
 use Rattle.olap_meaning.specs.Rolled.{adds_up, value_count}
 use Rattle.olap_meaning.specs.Worth.{row_value}
+use Rattle.olap_meaning.proofs.Lists.{mapped_from}
 use Rattle.fact_versions.specs.FactRows.{FactRows}
 use Rattle.segment_body.specs.BodyOf.{BodyOf}
 use Rattle.segment_body.specs.Narrowed.{IsNarrowed, allowed_values, if_allowed, narrowed_row, narrowed_values, value_in}
@@ -41,10 +41,7 @@ use Rattle.agg_tables.specs.Costs.{IsTableOver, has_column_of, is_usable, serves
 use Rattle.agg_tables.specs.Declarations.{columns_below, declared_for, declared_table, measure_with, measures_of, table_measure}
 use Rattle.agg_tables.specs.Tables.{TableOf, fold_over, folds_of, groups_in, table_header, table_over}
 use Rattle.agg_tables.proofs.ColumnFacts.{columns_pass}
-use Rattle.agg_tables.proofs.FindFacts.{gone_on, mapped_there}
-
-eq_of : (a b : ℕ) → (a == b) ≡ true → a ≡ b
-eq_of a b h = grind (arith, nat_tests)
+use Rattle.agg_tables.proofs.FindFacts.{gone_on}
 
 -- what a column has, of values on columns that were read by a function
 at_place : (f : ℕ → Option ℕ) (columns : List (ℕ × Allowed)) (vs : List ℕ) (i : ℕ) (d : ℕ × Allowed) → allowed_values f columns ≡ Some vs → i < length columns → slice_get vs i ≡ f (get_or columns i d).0
@@ -63,7 +60,7 @@ value_read f columns vs column h there = by (position (λ own. own.0 == column) 
     by None e = let none = missed (λ (own : ℕ × Allowed). own.0 == column) columns e in absurd (cc)
     by (Some i) e =
         let first = position-Some (λ (own : ℕ × Allowed). own.0 == column) columns i (column, Any) e in
-        at_place f columns vs i (column, Any) h first.0 ∙ ap f (eq_of _ _ first.1)
+        at_place f columns vs i (column, Any) h first.0 ∙ ap f (eqb-true _ _ first.1)
 
 -- values that are read alike
 alike_values : (f g : ℕ → Option ℕ) (p : ℕ → Bool) → ((column : ℕ) → p column ≡ true → g column ≡ f column) → (columns : List (ℕ × Allowed)) → list_all (λ own. p own.0) columns ≡ true → allowed_values g columns ≡ allowed_values f columns
@@ -93,7 +90,7 @@ rows_are catalog cube (batch ∷ batches) (suc n) fit =
     let own = (and_parts _ (list_all (is_row catalog cube) batch.rows) parts.0).1 in
     list_all-append (is_row catalog cube) batch.rows (rows_in (take n batches)) ∙ and_from _ _ own (rows_are catalog cube batches n parts.1)
 
--- the rows of the first batches, and those behind them
+-- the rows of the first batches, and those after them
 pub rows_split : (batches : List FactRows) (n : ℕ) → rows_in batches ≡ rows_in (take n batches) ++ rows_in (drop n batches)
 rows_split batches zero = refl
 rows_split [] (suc n) = refl
@@ -149,7 +146,7 @@ measures_own cube (m ∷ ms) = by (table_measure cube m) refl (measures_own cube
     by None e rest = rest
     by (Some own) e rest =
         let place = gone_on (λ (place : ℕ). option_map (measure_with place m) (slice_get cube.measures place)) (position (λ (measure : Measure). bytes_eq m.measure measure.name) cube.measures) own e in
-        let measure = mapped_there (measure_with place.0 m) (slice_get cube.measures place.0) own place.2 in
+        let measure = mapped_from (measure_with place.0 m) (slice_get cube.measures place.0) own place.2 in
         All-cons (λ (own : TableMeasure). option_map (λ (m : Measure). m.aggregator) (slice_get cube.measures own.measure) ≡ Some own.aggregator) own (measures_of cube ms) (there place.0 measure.0 own measure.1 measure.2) rest
       where
         there : (place : ℕ) (measure : Measure) (own : TableMeasure) → slice_get cube.measures place ≡ Some measure → measure_with place m measure ≡ own → option_map (λ (m : Measure). m.aggregator) (slice_get cube.measures own.measure) ≡ Some own.aggregator
@@ -194,10 +191,10 @@ pub record IsOver (catalog : Catalog) (rows : List Row) (table : TableOf) : Type
 pub is_over : (catalog : Catalog) (snapshot : List FactRows) (table : TableOf) → IsTableOver catalog snapshot table → IsOver catalog (rows_in (take table.version snapshot)) table
 is_over catalog snapshot table own =
     let rows = rows_in (take table.version snapshot) in
-    let made = mapped_there (table_over catalog table.table (length (take table.version snapshot)) rows) (declared_table catalog table.table) table own in
+    let made = mapped_from (table_over catalog table.table (length (take table.version snapshot)) rows) (declared_table catalog table.table) table own in
     let aggregate = gone_on (λ (a : SchemaAggregate). option_and_then (λ place. option_map (declared_for catalog a place) (slice_get catalog.cubes place)) (table_cube catalog table.table)) (slice_get catalog.schema.aggregates table.table) made.0 made.1 in
     let place = gone_on (λ place. option_map (declared_for catalog aggregate.0 place) (slice_get catalog.cubes place)) (table_cube catalog table.table) made.0 aggregate.2 in
-    let cube = mapped_there (declared_for catalog aggregate.0 place.0) (slice_get catalog.cubes place.0) made.0 place.2 in
+    let cube = mapped_from (declared_for catalog aggregate.0 place.0) (slice_get catalog.cubes place.0) made.0 place.2 in
     let is : table_over catalog table.table (length (take table.version snapshot)) rows made.0 ≡ table = made.2 in
     record {
       declared = made.0;
@@ -219,11 +216,11 @@ taken_few (x ∷ xs) (suc n) = omega (arith, taken_few xs n)
 -- its version is one of the snapshot's
 pub not_newer : (catalog : Catalog) (snapshot : List FactRows) (table : TableOf) → IsTableOver catalog snapshot table → table.version ≤ length snapshot
 not_newer catalog snapshot table own =
-    let made = mapped_there (table_over catalog table.table (length (take table.version snapshot)) (rows_in (take table.version snapshot))) (declared_table catalog table.table) table own in
+    let made = mapped_from (table_over catalog table.table (length (take table.version snapshot)) (rows_in (take table.version snapshot))) (declared_table catalog table.table) table own in
     let version : length (take table.version snapshot) ≡ table.version = ap (λ (t : TableOf). t.version) made.2 in
     omega (arith, version, taken_few snapshot table.version)
 
--- what reading it costs: its groups, and the rows that come behind
+-- what reading it costs: its groups, and the rows that come after
 pub cost_split : (catalog : Catalog) (snapshot : List FactRows) (table : TableOf) → IsTableOver catalog snapshot table → table_cost (length (rows_in snapshot)) table ≡ length (groups_in table.bodies) + length (rows_in (drop table.version snapshot))
 cost_split catalog snapshot table own =
     let counted = (is_over catalog snapshot table own).counted in
@@ -242,7 +239,7 @@ serves_header header body is =
     let one = and_parts (((body.header.cube == header.cube) && (body.header.measure == header.measure)) && adds_up body.aggregator) all is in
     let two = and_parts ((body.header.cube == header.cube) && (body.header.measure == header.measure)) (adds_up body.aggregator) one.0 in
     let three = and_parts (body.header.cube == header.cube) (body.header.measure == header.measure) two.0 in
-    record { cube = eq_of _ _ three.0; measure = eq_of _ _ three.1; adds = two.1; has = one.1 }
+    record { cube = eqb-true _ _ three.0; measure = eqb-true _ _ three.1; adds = two.1; has = one.1 }
 
 -- what serves adds up
 pub serving_adds : (header : Header) (body : BodyOf) → IsTrue (serves header body) → body.aggregator ≡ DistinctCount → ⊥

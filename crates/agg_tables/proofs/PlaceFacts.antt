@@ -6,10 +6,12 @@ use Rattle.std.specs.Option.{option_or, option_map_or}
 use Rattle.std.proofs.lemmas.Bool.{and_from, and_parts}
 use Rattle.std.proofs.lemmas.List.{map-append}
 use Rattle.std.proofs.lemmas.List.Folds.{list_all-append}
-use Rattle.csv_records.proofs.PlaceFacts.{item_upto, missing_append}
+use Rattle.csv_records.proofs.PlaceFacts.{missing_append}
 use Rattle.olap_meaning.specs.declared.Aggregator.TheVariants.{Count, Sum}
 use Rattle.olap_meaning.specs.Records.{column_place, is_csv, missing_column}
 use Rattle.olap_meaning.specs.Whole.{is_average}
+use Rattle.olap_meaning.proofs.Positions.{get-append}
+use Rattle.olap_meaning.proofs.Lists.{take_step}
 use Rattle.agg_tables.specs.declared.declared.Declared.{Declared}
 use Rattle.agg_tables.specs.declared.declared.FileColumn.{FileColumn}
 use Rattle.agg_tables.specs.declared.declared.Fold.{Fold}
@@ -65,11 +67,6 @@ columns_known test (own ∷ measures) all =
     by true o is = and_from _ _ is (counted o is)
     by false o is = and_from _ _ is refl
 
-at_more : {A : Type 0} (xs ys : List A) (i : ℕ) (x : A) → slice_get xs i ≡ Some x → slice_get (xs ++ ys) i ≡ Some x
-at_more [] ys i x at = absurd (cc)
-at_more (y ∷ xs) ys zero x at = at
-at_more (y ∷ xs) ys (suc i) x at = at_more xs ys i x at
-
 -- what stands in a list stands in one that goes on from it
 summed_more : (folds more : List Fold) (columns : List FileColumn) (places : List ℕ) → AreSummed folds columns places → AreSummed (folds ++ more) columns places
 summed_more folds more [] [] same = refl
@@ -78,7 +75,7 @@ summed_more folds more (c ∷ cs) [] same = absurd (cc)
 summed_more folds more (c ∷ cs) (p ∷ ps) same =
     let first : slice_get folds p ≡ Some c.fold = cc in
     let rest : AreSummed folds cs ps = cc in
-    rw (at_more folds more p c.fold first, summed_more folds more cs ps rest) refl
+    rw (get-append folds more p c.fold first, summed_more folds more cs ps rest) refl
 
 -- a list that is as it was, or has one fold more
 pub kept_summed : (old new : List Fold) (fold : Fold) (columns : List FileColumn) (places : List ℕ) → (new ≡ old) ⊎ (new ≡ old ++ fold ∷ []) → AreSummed old columns places → AreSummed new columns places
@@ -107,7 +104,7 @@ kept_all test old new fold (inr more) all one = rw more (list_all-append test ol
 pub summed_next : (folds : List Fold) (columns : List FileColumn) (places : List ℕ) (i place : ℕ) (column : FileColumn) → i < length columns → column ≡ get_or columns i column
     → AreSummed folds (take i columns) places → slice_get folds place ≡ Some column.fold → AreSummed folds (take (i + 1) columns) (places ++ place ∷ [])
 summed_next folds columns places i place column within is summed at =
-    rw (item_upto columns i column within is)
+    rw (take_step columns i column within is)
     (map-append (slice_get folds) places (place ∷ [])
     ∙ ap (λ (fs : List (Option Fold)). fs ++ slice_get folds place ∷ []) summed
     ∙ ap (λ (o : Option Fold). map (λ (c : FileColumn). Some c.fold) (take i columns) ++ o ∷ []) at

@@ -2,23 +2,22 @@
 use Rattle.std.proofs.Common.{◌≡◌, ◌∙◌, ◌⊎◌, ◌<◌, ◌+◌, ◌==◌, ℕ, zero, suc, Bool, true, false, List, [], ◌∷◌, ◌++◌, Option, None, Some, find, filter_map, length, length-append, map, take, drop, get_or, option_map, refl, sym, ap, arith, inl, inr, if◌then◌else◌}
 use Rattle.std.specs.Prelude.{nat_lt, is_some, option_and_then, option_to_list, position, slice_get, slice_index_or}
 use Rattle.std.specs.List.{list_all, list_any, position_or_len}
-use Rattle.std.proofs.lemmas.Bool.{and_from, cases_Bool}
-use Rattle.std.proofs.lemmas.Bool.Decides.{nat_tests}
+use Rattle.std.proofs.lemmas.Bool.{and_from, cases_Bool, lt-ltb}
 use Rattle.std.proofs.lemmas.List.{map-append}
 use Rattle.std.proofs.lemmas.List.Elements.{filter_map-append}
 use Rattle.std.proofs.lemmas.List.Folds.{find_at, list_all-append}
 use Rattle.std.proofs.lemmas.List.Quantifiers.{position-Some}
 use Rattle.std.proofs.lemmas.List.Sums.{position_or_len_is}
 use Rattle.std.proofs.lemmas.Option.{slice_get_within}
-use Rattle.csv_records.proofs.PlaceFacts.{item_from, item_upto}
 use Rattle.catalog_tables.proofs.FieldFacts.{position_within}
-use Rattle.fact_reader.proofs.RowFacts.{position_of, some_and}
 use Rattle.olap_meaning.specs.declared.tables.Catalog.{Catalog}
 use Rattle.olap_meaning.specs.declared.tables.Column.{Column}
 use Rattle.olap_meaning.specs.declared.tables.Cube.{Cube}
 use Rattle.olap_meaning.specs.Covering.{among}
 use Rattle.olap_meaning.specs.Legal.{is_column_of}
 use Rattle.olap_meaning.specs.Records.{column_place}
+use Rattle.olap_meaning.proofs.Lists.{drop_step, item_there, mapped_from, position_there, take_step}
+use Rattle.olap_meaning.proofs.Loads.{some_and}
 use Rattle.segment_header.proofs.RiseFacts.{all_at}
 use Rattle.agg_tables.specs.declared.declared.Declared.{Declared}
 use Rattle.agg_tables.specs.declared.declared.FileColumn.{FileColumn}
@@ -29,7 +28,6 @@ use Rattle.agg_tables.specs.declared.fault.AggFault.TheVariants.{UnknownValue, O
 use Rattle.agg_tables.specs.Declarations.{columns_below, has_column}
 use Rattle.agg_tables.specs.Files.{column_value, level_fault, level_value}
 use Rattle.agg_tables.specs.Places.{AreNumbersPlaced, AreSummed, chosen, order_below}
-use Rattle.agg_tables.proofs.FindFacts.{mapped_there}
 
 -- what two lists give item by item
 pub paired_at : {A B C : Type 0} (g : A → C) (f : B → C) (xs : List A) (ys : List B) (k : ℕ) (x : A) → map g xs ≡ map f ys → k < length ys → x ≡ get_or xs k x → Some (g x) ≡ option_map f (slice_get ys k)
@@ -50,7 +48,7 @@ fold_there folds columns places j place summed within is = by (slice_get columns
 pub number_placed : (header : List (List ℕ)) (columns : List FileColumn) (places : List ℕ) (j place : ℕ) → AreNumbersPlaced header columns places → j < length columns → place ≡ get_or places j place
     → (column : FileColumn) × (slice_get columns j ≡ Some column) × (column_place column.name header ≡ Some place)
 number_placed header columns places j place placed within is =
-    let there = mapped_there (λ (column : FileColumn). column_place column.name header) (slice_get columns j) (Some place) (sym (paired_at (λ (p : ℕ). Some p) (λ (column : FileColumn). column_place column.name header) places columns j place placed within is)) in
+    let there = mapped_from (λ (column : FileColumn). column_place column.name header) (slice_get columns j) (Some place) (sym (paired_at (λ (p : ℕ). Some p) (λ (column : FileColumn). column_place column.name header) places columns j place placed within is)) in
     (there.0, there.1, there.2)
 
 -- a level's column is one of the catalog's
@@ -64,7 +62,7 @@ level_there catalog cube levels k level own within is =
 -- the faults of the levels from a place on
 pub levels_from : (catalog : Catalog) (header : List (List ℕ)) (n : ℕ) (row : List (List ℕ)) (levels : List TableLevel) (k : ℕ) (level : TableLevel) (o : Option ℕ) → k < length levels → level ≡ get_or levels k level → level_value catalog header row level ≡ o
     → level_fault catalog header n row (drop k levels) ≡ (if is_some o then level_fault catalog header n row (drop (k + 1) levels) else Some (UnknownValue n level.name))
-levels_from catalog header n row levels k level o within is means = rw (item_from levels k level within is, means) refl
+levels_from catalog header n row levels k level o within is means = rw (drop_step levels k level within is, means) refl
 
 -- the values of the levels, with one more
 pub values_upto : (catalog : Catalog) (header row : List (List ℕ)) (levels : List TableLevel) (k v : ℕ) (level : TableLevel) (found : List ℕ) → k < length levels → level ≡ get_or levels k level → level_value catalog header row level ≡ Some v
@@ -73,15 +71,12 @@ values_upto catalog header row levels k v level found within is means so_far =
     map-append (λ (x : ℕ). Some x) found (v ∷ [])
     ∙ ap (λ (os : List (Option ℕ)). os ++ Some v ∷ []) so_far
     ∙ ap (λ (o : Option ℕ). map (level_value catalog header row) (take k levels) ++ o ∷ []) (sym means)
-    ∙ sym (rw (item_upto levels k level within is) (map-append (level_value catalog header row) (take k levels) (level ∷ [])))
+    ∙ sym (rw (take_step levels k level within is) (map-append (level_value catalog header row) (take k levels) (level ∷ [])))
 
 -- the answer to an unknown value tells it, where there was memory for it
 pub unknown_or_not : (answer fault : AggFault) (whole : Option AggFault) → whole ≡ Some fault → (answer ≡ fault) ⊎ (answer ≡ NoMemory) → (answer ≡ NoMemory) ⊎ (whole ≡ Some answer)
 unknown_or_not answer fault whole is (inl told) = inr (rw (is, told) refl)
 unknown_or_not answer fault whole is (inr none) = inl none
-
-lt_true : (a b : ℕ) → a < b → nat_lt a b ≡ true
-lt_true a b h = grind (arith, nat_tests)
 
 -- each place is that of a level
 pub order_within : (levels : List TableLevel) (n : ℕ) → list_all (λ p. nat_lt p (length levels)) (order_below levels n) ≡ true
@@ -92,12 +87,12 @@ order_within levels (suc n) =
   where
     last : (o : Option ℕ) → position (λ (l : TableLevel). l.column == n) levels ≡ o → list_all (λ p. nat_lt p (length levels)) (option_to_list o) ≡ true
     last None e = refl
-    last (Some p) e = and_from _ _ (lt_true p (length levels) (position_within (λ (l : TableLevel). l.column == n) levels p e)) refl
+    last (Some p) e = and_from _ _ (lt-ltb p (length levels) (position_within (λ (l : TableLevel). l.column == n) levels p e)) refl
 
 pub chosen_next : (places found : List ℕ) (i place : ℕ) (values : List ℕ) → i < length places → place ≡ get_or places i place → values ≡ chosen (take i places) found → values ++ slice_index_or found place 0 ∷ [] ≡ chosen (take (i + 1) places) found
 chosen_next places found i place values within is so_far =
     ap (λ (vs : List ℕ). vs ++ slice_index_or found place 0 ∷ []) so_far
-    ∙ sym (rw (item_upto places i place within is) (map-append (λ p. slice_index_or found p 0) (take i places) (place ∷ [])))
+    ∙ sym (rw (take_step places i place within is) (map-append (λ p. slice_index_or found p 0) (take i places) (place ∷ [])))
 
 -- where a column's level stands, and what is found for it
 record IsFound (levels : List TableLevel) (column : ℕ) : Type 0 where
@@ -107,15 +102,10 @@ record IsFound (levels : List TableLevel) (column : ℕ) : Type 0 where
   there : find (λ (l : TableLevel). l.column == column) levels ≡ Some level
   stands : slice_get levels place ≡ Some level
 
-item_there : {A : Type 0} (xs : List A) (i : ℕ) → i < length xs → (x : A) × (slice_get xs i ≡ Some x)
-item_there [] i h = absurd (omega arith)
-item_there (x ∷ xs) zero h = (x, refl)
-item_there (x ∷ xs) (suc i) h = item_there xs i (omega arith)
-
 column_found : (levels : List TableLevel) (column : ℕ) → has_column levels column ≡ true → IsFound levels column
 column_found levels column some =
     let p = λ (l : TableLevel). l.column == column in
-    let at = position_of p levels some in
+    let at = position_there p levels some in
     let here = item_there levels at.0 (position_within p levels at.0 at.1) in
     let first = position-Some p levels at.0 here.0 at.1 in
     let is : position_or_len p levels ≡ at.0 = position_or_len_is p levels at.0 here.0 (omega (arith, first.0)) first.2 (λ _. first.1) in

@@ -4,8 +4,7 @@ use Rattle.std.specs.Prelude.{IsTrue}
 use Rattle.std.specs.List.{AllByRecursion, IsDistinct, list_any, remove}
 use Rattle.std.specs.List.Sorted.{IsPermutation}
 use Rattle.std.specs.Option.{option_or}
-use Rattle.std.specs.Cmp.Lexicographic.{bytes_decides}
-use Rattle.std.proofs.lemmas.Bool.{and_parts, cases_Bool}
+use Rattle.std.proofs.lemmas.Bool.{and_parts, cases_Bool, le-ltb, ltb-false}
 use Rattle.std.proofs.lemmas.Bool.Decides.{nat_tests}
 use Rattle.std.proofs.lemmas.Cmp.{nat_list_eq_equiv}
 use Rattle.std.proofs.lemmas.List.{append-nil, append_assoc, length-append}
@@ -20,6 +19,7 @@ use Rattle.olap_meaning.specs.Records.{field_in, header_of, is_csv, records_of}
 use Rattle.olap_meaning.specs.declared.CellValue.TheVariants.{Whole}
 use Rattle.olap_meaning.specs.declared.tables.Catalog.{Catalog}
 use Rattle.olap_meaning.specs.declared.tables.Row.{Row}
+use Rattle.olap_meaning.proofs.Lists.{same_text}
 use Rattle.agg_tables.specs.declared.declared.Declared.{Declared}
 use Rattle.agg_tables.specs.declared.declared.FileColumn.{FileColumn}
 use Rattle.agg_tables.specs.declared.declared.TableLevel.{TableLevel}
@@ -33,17 +33,8 @@ neither : {A : Type 0} (first rest : Option A) → option_or first rest ≡ None
 neither None rest h = (refl, h)
 neither (Some e) rest h = absurd (cc)
 
-not_below : (a b : ℕ) → nat_lt a b ≡ false → b ≤ a
-not_below a b h = grind (arith, nat_tests)
-
-no_less : (a b : ℕ) → b ≤ a → nat_lt a b ≡ false
-no_less a b h = grind (arith, nat_tests)
-
 one_more : (n : ℕ) → nat_lt 0 (suc n) ≡ true
 one_more n = grind (arith, nat_tests)
-
-same_text : (x y : List ℕ) → bytes_eq x y ≡ true → x ≡ y
-same_text x y h = (bytes_decides x y).0 h
 
 -- a text that equals one of some texts is one of them
 contained : (x : List ℕ) (xs : List (List ℕ)) → list_any (bytes_eq x) xs ≡ true → Contains xs x
@@ -56,7 +47,7 @@ contained x (y ∷ ys) h = elim (cases_Bool (bytes_eq x y)) [
 seen_in : (x : List ℕ) (xs : List (List ℕ)) → Contains xs x → list_any (bytes_eq x) xs ≡ true
 seen_in x xs h = list_any-from_Contains nat_list_eq_equiv x xs h
 
--- each of the texts behind one that differs from them differs from it
+-- each of the texts after one that differs from them differs from it
 later_differs : (x y : List ℕ) (xs : List (List ℕ)) → AllByRecursion (λ z. bytes_eq x z ≡ false) xs → Contains xs y → bytes_eq x y ≡ false
 later_differs x y [] each at = absurd (omega (arith, at.1))
 later_differs x y (z ∷ zs) each (zero, within, is) = subst (λ w. bytes_eq x w ≡ false) is each.0
@@ -93,7 +84,7 @@ no_more (x ∷ xs) ys different within =
     let few = no_more xs left.rest (IsDistinct-tail bytes_eq x xs different) left.within in
     omega (arith, few, long)
 
--- and where they are no fewer, they are these but for their order
+-- and where they are no fewer, they are these except for their order
 same_texts : (xs ys : List (List ℕ)) → IsDistinct bytes_eq xs → ((x : List ℕ) → Contains xs x → Contains ys x) → length ys ≤ length xs → IsPermutation ys xs
 same_texts [] [] different within few = IsPermutation-refl []
 same_texts [] (y ∷ ys) different within few = absurd (omega (arith, few))
@@ -278,7 +269,7 @@ module _ (catalog : Catalog) (declared : Declared) (header : List (List ℕ)) (r
       let longer = length-append seen (values_of row ∷ []) in
       omega (arith, few, longer, within)
 
-  -- what is known of records without a fault behind some that were seen
+  -- what is known of records without a fault after some that were seen
   record AreRight (seen : List (List ℕ)) (records : List (List (List ℕ))) : Type 0 where
     each : All Own records
     some : All HasRows records
@@ -295,7 +286,7 @@ module _ (catalog : Catalog) (declared : Declared) (header : List (List ℕ)) (r
       each = All-nil Own;
       some = All-nil HasRows;
       different = subst (IsDistinct bytes_eq) (sym (append-nil seen)) different;
-      enough = rw (append-nil seen) (not_below (length seen) _ enough);
+      enough = rw (append-nil seen) (ltb-false (length seen) _ enough);
     }
   ]
   records_right seen (row ∷ records) different h =
@@ -311,7 +302,7 @@ module _ (catalog : Catalog) (declared : Declared) (header : List (List ℕ)) (r
 
   records_faultless : (seen : List (List ℕ)) (records : List (List (List ℕ))) → AreRight seen records → records_fault catalog declared header rows seen records ≡ None
   records_faultless seen [] are =
-      let enough : nat_lt (length seen) (length (groups_over catalog declared rows)) ≡ false = no_less (length seen) _ (rw (append-nil seen) at are.enough) in
+      let enough : nat_lt (length seen) (length (groups_over catalog declared rows)) ≡ false = le-ltb (length seen) _ (rw (append-nil seen) at are.enough) in
       rw enough refl
   records_faultless seen (row ∷ records) are =
       let new = before_differs seen (map values_of records) (values_of row) are.different in

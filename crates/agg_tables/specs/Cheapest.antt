@@ -9,7 +9,7 @@ abbrev pub IfMayRead : Header → ℕ → (TableOf → Type 0) → TableOf → T
 IfMayRead header version so table = IsTrue (may_read header version table) → so table
 
 -- what is read is the cheapest: the facts, where they cost less than each table that may be read; or a table that may be
--- read, no dearer than the facts, where each that may be read costs more, if it stands before, and no less, if behind
+-- read, no dearer than the facts, where each that may be read costs more, if it stands before, and no less, if after
 abbrev pub IsCheapest : Header → ℕ → ℕ → List TableOf → Option TableOf → Type 0
 IsCheapest header version rows tables None =
     All (IfMayRead header version (λ table. rows < table_cost rows table)) tables

@@ -29,7 +29,7 @@ is_usable header table = table.measured && list_any (serves header) table.bodies
 abbrev pub may_read : Header → ℕ → TableOf → Bool
 may_read header version table = is_usable header table && nat_le table.version version
 
--- what it costs to read a table for a version of so many rows: its groups, and the rows behind its own
+-- what it costs to read a table for a version of this many rows: its groups, and the rows after its own
 abbrev pub table_cost : ℕ → TableOf → ℕ
 table_cost rows table = length (groups_in table.bodies) + (rows - table.rows)
 

@@ -140,7 +140,7 @@ abbrev pub twice_fault : ℕ → List (List ℕ) → List ℕ → Option AggFaul
 twice_fault n seen values =
     if list_any (bytes_eq values) seen then Some (GroupTwice n) else None
 
--- what is wrong with a record of this number, behind records with these values. Records are numbered from 1; the header
+-- what is wrong with a record of this number, after records with these values. Records are numbered from 1; the header
 -- has the number 0
 abbrev pub row_fault : Catalog → Declared → List (List ℕ) → List Row → ℕ → List (List ℕ)
     → List (List ℕ) → Option AggFault
@@ -151,12 +151,12 @@ row_fault catalog declared header rows n seen row =
     (option_or (twice_fault n seen values)
     (group_fault catalog declared header n row (group_rows catalog declared rows values)))
 
--- what is missing behind the last record: there are fewer than the rows have groups
+-- what is missing after the last record: there are fewer than the rows have groups
 abbrev pub missing_fault : ℕ → ℕ → Option AggFault
 missing_fault stored groups =
     if nat_lt stored groups then Some (GroupMissing stored groups) else None
 
--- the first fault of some records, behind records with these values
+-- the first fault of some records, after records with these values
 abbrev pub records_fault : Catalog → Declared → List (List ℕ) → List Row → List (List ℕ)
     → List (List (List ℕ)) → Option AggFault
 records_fault catalog declared header rows seen [] =

@@ -54,7 +54,7 @@ abbrev pub AreSummed : List Fold → List FileColumn → List ℕ → Type 0
 AreSummed folds columns places =
     map (slice_get folds) places ≡ map (λ column. Some column.fold) columns
 
--- a table is one of a catalog, and folds are those that it keeps, and behind them others of its cube's measures
+-- a table is one of a catalog, and folds are those that it keeps, and after them others of its cube's measures
 pub record IsBound (catalog : Catalog) (declared : Declared) (folds : List Fold) : Type 0 where
   pub placed : IsPlaced catalog declared
   pub known : AreFolds catalog declared folds

@@ -182,7 +182,7 @@ impl<'a> Checker<'a> {
         self.check_numbers(alloc, row, n, values)
     }
 
-    // Checks the record of this number, behind records whose values were seen. The buffers are for the values of its levels,
+    // Checks the record of this number, after records whose values were seen. The buffers are for the values of its levels,
     // and of the table's columns.
     fn check_row(
         &self,
@@ -281,7 +281,7 @@ impl<'a> Checker<'a> {
     }
 }
 
-// Whether so many groups have a record each, where so many records are stored.
+// Whether this many groups have a record each, where this many records are stored.
 fn check_missing(stored: u64, groups: u64) -> Result<(), AggFault>
     ensures sound { OnOk result (missing_fault stored groups ≡ None) }
     ensures err { IfErr result (λ e. missing_fault stored groups ≡ Some e) }

@@ -39,7 +39,7 @@ impl AggTable {
         self.usable(header) && self.version() <= snapshot.version()
     }
 
-    /// How many steps a load takes that reads it for a version of its cube that is not older: its groups, and the rows behind
+    /// How many steps a load takes that reads it for a version of its cube that is not older: its groups, and the rows after
     /// its own. It takes no memory.
     pub fn cost(&self, snapshot: &Snapshot) -> u64
         ensures { result ≡ table_cost (length (rows_in snapshot.now)) self.now }

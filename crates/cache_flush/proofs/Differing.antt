@@ -1,35 +1,15 @@
 -- Numbers of which none stands twice, and the one thing of a number.
-use Rattle.std.proofs.Common.{◌≡◌, ◌<◌, ◌++◌, ◌||◌, ℕ, zero, suc, Bool, true, false, not, List, [], ◌∷◌, Option, None, Some, refl, sym, ap, subst, arith, inl, inr, one-add, map, length, take, drop, slice_get, filter, option_map}
-use Rattle.std.specs.Prelude.{◌==◌, nat_lt, IsSome}
+use Rattle.std.proofs.Common.{◌≡◌, ◌<◌, ◌++◌, ℕ, zero, suc, Bool, true, false, not, List, [], ◌∷◌, Option, None, Some, refl, sym, ap, subst, arith, inl, inr, one-add, map, length, take, drop, slice_get, filter, option_map}
+use Rattle.std.specs.Prelude.{◌==◌, IsSome}
 use Rattle.std.specs.List.{find, position, position_or_len}
-use Rattle.std.proofs.lemmas.Bool.{and_parts, cases_Bool}
+use Rattle.std.proofs.lemmas.Bool.{and_parts, cases_Bool, eq-eqb, eqb-true, lt-ltb, not-true}
 use Rattle.std.proofs.lemmas.Bool.Decides.{nat_tests}
 use Rattle.olap_meaning.specs.Covering.{among}
+use Rattle.olap_meaning.proofs.Lists.{or_first, or_second}
 use Rattle.cache_flush.specs.Loads.{are_different}
-
-eq_self : (a : ℕ) → (a == a) ≡ true
-eq_self a = grind (arith, nat_tests)
-
-eq_of : (a b : ℕ) → (a == b) ≡ true → a ≡ b
-eq_of a b h = grind (arith, nat_tests)
 
 eq_turned : (a b : ℕ) → (a == b) ≡ false → (b == a) ≡ false
 eq_turned a b h = grind (arith, nat_tests)
-
-lt_true : (a b : ℕ) → a < b → nat_lt a b ≡ true
-lt_true a b h = grind (arith, nat_tests)
-
-not_false : (b : Bool) → not b ≡ true → b ≡ false
-not_false true h = absurd (cc)
-not_false false h = refl
-
-or_first : (a b : Bool) → (a || b) ≡ false → a ≡ false
-or_first true b e = absurd (cc e)
-or_first false b e = refl
-
-or_second : (a b : Bool) → (a || b) ≡ false → b ≡ false
-or_second true b e = absurd (cc e)
-or_second false b e = e
 
 -- a number is not among more, where it is another than the last
 among_more : (ns : List ℕ) (n m : ℕ) → among ns m ≡ false → (n == m) ≡ false → among (ns ++ n ∷ []) m ≡ false
@@ -42,7 +22,7 @@ pub differ_more : (ns : List ℕ) (n : ℕ) → are_different ns ≡ true → am
 differ_more [] n differ new = refl
 differ_more (m ∷ ns) n differ new =
     let parts = and_parts (not (among ns m)) (are_different ns) differ in
-    let none = among_more ns n m (not_false (among ns m) parts.0) (eq_turned m n (or_first (m == n) (among ns n) new)) in
+    let none = among_more ns n m (not-true (among ns m) parts.0) (eq_turned m n (or_first (m == n) (among ns n) new)) in
     rw none (differ_more ns n parts.1 (or_second (m == n) (among ns n) new))
 
 module _ {X : Type 0} where
@@ -62,7 +42,7 @@ module _ {X : Type 0} where
       let parts = and_parts (not (among (map f xs) (f x))) (are_different (map f xs)) differ in
       let rest = differ_fewer f p xs parts.1 in
       elim (cases_Bool (p x)) [
-        | inl passes ↦ rw (passes, among_fewer f p xs (f x) (not_false (among (map f xs) (f x)) parts.0)) rest
+        | inl passes ↦ rw (passes, among_fewer f p xs (f x) (not-true (among (map f xs) (f x)) parts.0)) rest
         | inr fails ↦ rw fails rest
       ]
 
@@ -73,7 +53,7 @@ module _ {X : Type 0} where
 
   is_among : (f : X → ℕ) (xs : List X) (i : ℕ) (x : X) → slice_get xs i ≡ Some x → among (map f xs) (f x) ≡ true
   is_among f [] i x is = absurd (cc)
-  is_among f (y ∷ xs) zero x is = let e : y ≡ x = cc in rw (e, eq_self (f x)) refl
+  is_among f (y ∷ xs) zero x is = let e : y ≡ x = cc in rw (e, eq-eqb (f x) (f x) refl) refl
   is_among f (y ∷ xs) (suc i) x is =
       let rest = is_among f xs i x is in
       elim (cases_Bool (f y == f x)) [ inl same ↦ rw same refl | inr other ↦ rw other rest ]
@@ -83,16 +63,16 @@ module _ {X : Type 0} where
   other_number f y xs i x differ is =
       elim (cases_Bool (f y == f x)) [
         | inl same ↦
-            let e : f y ≡ f x = eq_of (f y) (f x) same in
+            let e : f y ≡ f x = eqb-true (f y) (f x) same in
             let one = is_among f xs i x is in
-            let none = not_false (among (map f xs) (f y)) differ in
+            let none = not-true (among (map f xs) (f y)) differ in
             absurd (cc)
         | inr other ↦ other
       ]
 
   found_at : (f : X → ℕ) (xs : List X) (i : ℕ) (x : X) → are_different (map f xs) ≡ true → slice_get xs i ≡ Some x → find (λ y. f y == f x) xs ≡ Some x
   found_at f [] i x differ is = absurd (cc)
-  found_at f (y ∷ xs) zero x differ is = let e : y ≡ x = cc in rw (e, eq_self (f x)) refl
+  found_at f (y ∷ xs) zero x differ is = let e : y ≡ x = cc in rw (e, eq-eqb (f x) (f x) refl) refl
   found_at f (y ∷ xs) (suc i) x differ is =
       let parts = and_parts (not (among (map f xs) (f y))) (are_different (map f xs)) differ in
       rw (other_number f y xs i x parts.0 is) (found_at f xs i x parts.1 is)
@@ -102,8 +82,8 @@ module _ {X : Type 0} where
   left_at f (y ∷ xs) zero x differ is =
       let parts = and_parts (not (among (map f xs) (f y))) (are_different (map f xs)) differ in
       let e : y ≡ x = cc in
-      let none = not_false (among (map f xs) (f y)) parts.0 in
-      rw (e, eq_self (f x)) (sym (none_struck f (f x) xs (rw e at none)))
+      let none = not-true (among (map f xs) (f y)) parts.0 in
+      rw (e, eq-eqb (f x) (f x) refl) (sym (none_struck f (f x) xs (rw e at none)))
   left_at f (y ∷ xs) (suc i) x differ is =
       let parts = and_parts (not (among (map f xs) (f y))) (are_different (map f xs)) differ in
       rw (other_number f y xs i x parts.0 is) (ap (λ (zs : List _). y ∷ zs) (left_at f xs i x parts.1 is))
@@ -138,7 +118,7 @@ module _ {X : Type 0} where
   first_at f n [] there = absurd (cc)
   first_at f n (y ∷ ys) there =
       elim (cases_Bool (f y == n)) [
-        | inl same ↦ rw (same, eq_of (f y) n same) refl
+        | inl same ↦ rw (same, eqb-true (f y) n same) refl
         | inr other ↦ rw (other, one-add) (first_at f n ys (rw other at there))
       ]
 
@@ -151,7 +131,7 @@ module _ {X : Type 0} where
       ]
 
   position_is : (f : X → ℕ) (n : ℕ) (xs : List X) → among (map f xs) n ≡ true → position (λ x. f x == n) xs ≡ Some (position_or_len (λ x. f x == n) xs)
-  position_is f n xs there = rw (lt_true (position_or_len (λ x. f x == n) xs) (length xs) (inside f n xs there)) refl
+  position_is f n xs there = rw (lt-ltb (position_or_len (λ x. f x == n) xs) (length xs) (inside f n xs there)) refl
 
   -- a number that is among those of some things has a place
   pub has_place : (f : X → ℕ) (n : ℕ) (xs : List X) → among (map f xs) n ≡ true → IsSome (position (λ x. f x == n) xs)

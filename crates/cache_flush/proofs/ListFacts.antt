@@ -1,19 +1,9 @@
 -- Lists through a map: what is found in them, what passes a test, and what a change of one element is.
-use Rattle.std.proofs.Common.{◌≡◌, ◌<◌, ◌≤◌, ◌+◌, ◌++◌, ℕ, zero, suc, Bool, ◌||◌, List, [], ◌∷◌, refl, sym, ap, arith, inl, inr, map, length, take, drop, set, get_or, option_map, find, append-nil, drop_of_length-le, take_all, ◌∙◌}
+use Rattle.std.proofs.Common.{◌≡◌, ◌<◌, ◌≤◌, ◌+◌, ◌++◌, ℕ, zero, suc, List, [], ◌∷◌, refl, sym, ap, arith, map, length, take, drop, set, get_or, append-nil, drop_of_length-le, take_all, ◌∙◌}
 use Rattle.std.proofs.lemmas.List.{length-map}
-use Rattle.std.specs.List.{list_any}
-use Rattle.std.proofs.lemmas.Bool.{cases_Bool}
+pub use Rattle.olap_meaning.proofs.Lists.{find-map as find_map}
 
 module _ {X Y : Type 0} where
-  pub find_map : (p : Y → Bool) (f : X → Y) (xs : List X) → find p (map f xs) ≡ option_map f (find (λ x. p (f x)) xs)
-  find_map p f [] = refl
-  find_map p f (x ∷ xs) =
-      elim (cases_Bool (p (f x))) [ inl passes ↦ rw passes refl | inr fails ↦ rw fails (find_map p f xs) ]
-
-  pub any_map : (p : Y → Bool) (f : X → Y) (xs : List X) → list_any p (map f xs) ≡ list_any (λ x. p (f x)) xs
-  any_map p f [] = refl
-  any_map p f (x ∷ xs) = ap (λ rest. p (f x) || rest) (any_map p f xs)
-
   pub map_append : (f : X → Y) (xs ys : List X) → map f (xs ++ ys) ≡ map f xs ++ map f ys
   map_append f [] ys = refl
   map_append f (x ∷ xs) ys = ap (λ (zs : List _). f x ∷ zs) (map_append f xs ys)

@@ -6,13 +6,10 @@ use Rattle.olap_meaning.specs.declared.cells.Cell.{Cell}
 use Rattle.olap_meaning.specs.declared.regions.Region.{Region}
 use Rattle.olap_meaning.specs.declared.regions.RegionBox.{RegionBox}
 use Rattle.olap_meaning.specs.Covering.{among, box_covers, region_covers}
+use Rattle.olap_meaning.proofs.Lists.{all_filter, all_weaker}
 use Rattle.cache_flush.specs.Named.{all_name_within, are_named, has_few_boxes, is_outside, is_ruled_out, names_within, narrowed}
 
 module _ {X : Type 0} where
-  pub all_weaker : (p q : X → Bool) (xs : List X) → ((x : X) → p x ≡ true → q x ≡ true) → list_all p xs ≡ true → list_all q xs ≡ true
-  all_weaker p q [] more all = refl
-  all_weaker p q (x ∷ xs) more all = and_from _ _ (more x (and_parts _ _ all).0) (all_weaker p q xs more (and_parts _ _ all).1)
-
   pub any_weaker : (p q : X → Bool) (xs : List X) → ((x : X) → p x ≡ true → q x ≡ true) → list_any p xs ≡ true → list_any q xs ≡ true
   any_weaker p q [] more any = absurd (cc)
   any_weaker p q (x ∷ xs) more any = elim (or_cases (p x) (list_any p xs) any) [
@@ -24,15 +21,6 @@ module _ {X : Type 0} where
   none_passes : (p q : X → Bool) (xs : List X) → ((x : X) → p x ≡ true → q x ≡ false) → list_all p xs ≡ true → list_any q xs ≡ false
   none_passes p q [] fails all = refl
   none_passes p q (x ∷ xs) fails all = or_from _ _ (fails x (and_parts _ _ all).0) (none_passes p q xs fails (and_parts _ _ all).1)
-
-  -- what holds of all holds of those that a test keeps
-  all_kept : (p keep : X → Bool) (xs : List X) → list_all p xs ≡ true → list_all p (filter keep xs) ≡ true
-  all_kept p keep [] all = refl
-  all_kept p keep (x ∷ xs) all = by (cases_Bool (keep x)) (all_kept p keep xs (and_parts _ _ all).1)
-    where
-      by : (keep x ≡ true) ⊎ (keep x ≡ false) → list_all p (filter keep xs) ≡ true → list_all p (filter keep (x ∷ xs)) ≡ true
-      by (inl e) rest = rw e (and_from _ _ (and_parts _ _ all).0 rest)
-      by (inr e) rest = rw e rest
 
   -- and they pass it
   kept_pass : (keep : X → Bool) (xs : List X) → list_all keep (filter keep xs) ≡ true
@@ -67,7 +55,7 @@ pub narrowed_still : (region other : Region) (columns : List (ℕ × List ℕ)) 
 narrowed_still region other columns all = by (has_few_boxes region) refl
   where
     by : (b : Bool) → has_few_boxes region ≡ b → are_named (narrowed region columns) other ≡ true
-    by true e = rw e (all_kept (λ named. all_name_within named other) (λ named. all_name_within named region) columns all)
+    by true e = rw e (all_filter (λ named. all_name_within named other) (λ named. all_name_within named region) columns all)
     by false e = rw e refl
 
 -- what holds of all values holds of one among them

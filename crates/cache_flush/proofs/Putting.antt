@@ -4,18 +4,16 @@ use Rattle.std.specs.Prelude.{if◌then◌else◌, nat_lt, insert}
 use Rattle.std.specs.List.{list_all}
 use Rattle.std.specs.List.Sorted.{IsBinarySearchResult}
 use Rattle.std.specs.Ordering.{nat_cmp}
-use Rattle.std.proofs.lemmas.Bool.{and_from, and_parts, cases_order, eq-eqb, eqb-true, false_from_ne_true, lt-ltb, ltb-true, or_left}
+use Rattle.std.proofs.lemmas.Bool.{and_from, and_parts, cases_order, eq-eqb, eqb-true, false_from_ne_true, le-ltb, lt-ltb, ltb-true, or_left}
 use Rattle.std.proofs.lemmas.List.Sorted.{searched}
 use Rattle.olap_meaning.specs.Covering.{among}
 use Rattle.olap_meaning.specs.Legal.{rise}
+use Rattle.olap_meaning.proofs.Orders.{all_above}
 
 -- a number put into rising numbers, where it is not among them
 abbrev pub put : ℕ → List ℕ → List ℕ
 put n [] = n ∷ []
 put n (m ∷ ms) = if nat_lt n m then n ∷ m ∷ ms else if n == m then m ∷ ms else m ∷ put n ms
-
-pub not_below : (a b : ℕ) → b ≤ a → nat_lt a b ≡ false
-not_below a b le = false_from_ne_true (nat_lt a b) (λ h. let l : a < b = ltb-true a b h in absurd (omega (arith, le, l)))
 
 pub not_same : (a b : ℕ) → b < a → (a == b) ≡ false
 not_same a b l = false_from_ne_true (a == b) (λ h. let e : a ≡ b = eqb-true a b h in absurd (omega (arith, e, l)))
@@ -36,10 +34,10 @@ rises_up (x ∷ xs) up (suc i) (suc j) le l = rises_up xs (and_parts _ _ up).1 i
 -- a number that is there is not put
 put_there : (x : ℕ) (xs : List ℕ) (i : ℕ) → rise xs ≡ true → i < length xs → get_or xs i 0 ≡ x → put x xs ≡ xs
 put_there x [] i up l at = absurd (omega arith)
-put_there x (y ∷ ys) zero up l at = rw (not_below x y (omega (arith, at)), eq-eqb x y (sym at)) refl
+put_there x (y ∷ ys) zero up l at = rw (le-ltb x y (omega (arith, at)), eq-eqb x y (sym at)) refl
 put_there x (y ∷ ys) (suc i) up l at =
     let below : y < get_or ys i 0 = below_at y ys i (and_parts _ _ up).0 (omega (arith, l)) in
-    rw (not_below x y (omega (arith, below, at)), not_same x y (omega (arith, below, at))) (ap (λ (zs : List ℕ). y ∷ zs) (put_there x ys i (and_parts _ _ up).1 (omega (arith, l)) at))
+    rw (le-ltb x y (omega (arith, below, at)), not_same x y (omega (arith, below, at))) (ap (λ (zs : List ℕ). y ∷ zs) (put_there x ys i (and_parts _ _ up).1 (omega (arith, l)) at))
 
 -- a number that is not there is put where it belongs
 put_at : (x : ℕ) (xs : List ℕ) (i : ℕ) → i ≤ length xs → ((k : ℕ) → k < i → get_or xs k 0 < x) → ((k : ℕ) → i ≤ k → k < length xs → x < get_or xs k 0) → put x xs ≡ insert xs i x
@@ -48,7 +46,7 @@ put_at x [] (suc i) l before after = absurd (omega (arith, l))
 put_at x (y ∷ ys) zero l before after = let above : x < y = after 0 (omega arith) (omega arith) in rw (lt-ltb x y above) refl
 put_at x (y ∷ ys) (suc i) l before after =
     let below : y < x = before 0 (omega arith) in
-    rw (not_below x y (omega (arith, below)), not_same x y below)
+    rw (le-ltb x y (omega (arith, below)), not_same x y below)
     (ap (λ (zs : List ℕ). y ∷ zs) (put_at x ys i (omega (arith, l)) (λ k lt. before (suc k) (omega (arith, lt))) (λ k le lt. after (suc k) (omega (arith, le)) (omega (arith, lt)))))
 
 -- what a search says of the place where a number is to be put
@@ -67,20 +65,14 @@ all_put p x (y ∷ ys) here all = by (nat_lt x y) (x == y) refl refl (all_put p 
     by false true e f rest = rw (e, f) all
     by false false e f rest = rw (e, f) (and_from _ _ (and_parts _ _ all).0 rest)
 
-all_below : (x y : ℕ) (ys : List ℕ) → x < y → list_all (nat_lt y) ys ≡ true → list_all (nat_lt x) ys ≡ true
-all_below x y [] l all = refl
-all_below x y (z ∷ zs) l all =
-    let next : y < z = ltb-true y z (and_parts _ _ all).0 in
-    and_from _ _ (lt-ltb x z (omega (arith, l, next))) (all_below x y zs l (and_parts _ _ all).1)
-
 pub rise_put : (x : ℕ) (xs : List ℕ) → rise xs ≡ true → rise (put x xs) ≡ true
 rise_put x [] up = refl
 rise_put x (y ∷ ys) up =
     elim (cases_order x y) [
-      | inl same ↦ rw (not_below x y (omega (arith, same)), eq-eqb x y same) up
+      | inl same ↦ rw (le-ltb x y (omega (arith, same)), eq-eqb x y same) up
       | inr apart ↦ elim apart [
-        | inl less ↦ rw (lt-ltb x y less) (and_from _ _ (and_from _ _ (lt-ltb x y less) (all_below x y ys less (and_parts _ _ up).0)) up)
-        | inr more ↦ rw (not_below x y (omega (arith, more)), not_same x y more) (and_from _ _ (all_put (nat_lt y) x ys (lt-ltb y x more) (and_parts _ _ up).0) (rise_put x ys (and_parts _ _ up).1))
+        | inl less ↦ rw (lt-ltb x y less) (and_from _ _ (and_from _ _ (lt-ltb x y less) (all_above x y ys less (and_parts _ _ up).0)) up)
+        | inr more ↦ rw (le-ltb x y (omega (arith, more)), not_same x y more) (and_from _ _ (all_put (nat_lt y) x ys (lt-ltb y x more) (and_parts _ _ up).0) (rise_put x ys (and_parts _ _ up).1))
       ]
     ]
 

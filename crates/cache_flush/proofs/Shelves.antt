@@ -1,10 +1,10 @@
 -- Kept loads and loads in flight, as they are seen: their numbers, their rooms, and what is left where one is taken out.
-use Rattle.std.proofs.Common.{◌≡◌, ◌∙◌, ◌<◌, ◌++◌, ℕ, suc, true, false, not, List, [], ◌∷◌, Option, None, Some, All, refl, ap, arith, map, length, take, drop, slice_get, filter, option_map}
+use Rattle.std.proofs.Common.{◌≡◌, ◌∙◌, ◌++◌, ℕ, suc, true, false, not, List, [], ◌∷◌, Some, refl, ap, map, take, drop, slice_get, filter, option_map}
 use Rattle.std.specs.Prelude.{◌==◌}
-use Rattle.std.proofs.lemmas.List.{length-map, get_or-map}
 use Rattle.std.proofs.lemmas.Option.{slice_get-map}
 use Rattle.olap_meaning.specs.declared.regions.Region.{Region}
 use Rattle.olap_meaning.specs.Covering.{among}
+use Rattle.olap_meaning.proofs.Lists.{option_map-map}
 use Rattle.cache_flush.specs.Flights as flying
 use Rattle.cache_flush.specs.Flights.{FlightOf, flight_of}
 use Rattle.cache_flush.specs.Loads as loads
@@ -18,24 +18,7 @@ module _ {X Y Z : Type 0} where
   map_mapped g f [] = refl
   map_mapped g f (x ∷ xs) = ap (λ (zs : List _). g (f x) ∷ zs) (map_mapped g f xs)
 
-  option_mapped : (g : Y → Z) (f : X → Y) (o : Option X) → option_map g (option_map f o) ≡ option_map (λ x. g (f x)) o
-  option_mapped g f None = refl
-  option_mapped g f (Some x) = refl
-
 module _ {X Y : Type 0} where
-  -- what holds of all that is seen, and what holds of how each is seen
-  pub all_seen : (P : Y → Type 0) (f : X → Y) (xs : List X) → All P (map f xs) → All (λ x. P (f x)) xs
-  all_seen P f xs all k d below =
-      let lt : k < length (map f xs) = rw length-map below in
-      let one = all k (f d) lt in
-      rw (get_or-map f xs k d (f d) below) at one
-
-  pub all_shown : (P : Y → Type 0) (f : X → Y) (xs : List X) → All (λ x. P (f x)) xs → All P (map f xs)
-  all_shown P f [] all k d below = absurd (omega arith)
-  all_shown P f (x ∷ xs) all k d below =
-      let lt : k < length (x ∷ xs) = rw length-map at below in
-      rw (get_or-map f (x ∷ xs) k x d lt) (all k x lt)
-
   -- with one more of another number none stands twice
   pub differ_with : (g : Y → ℕ) (f : X → Y) (xs : List X) (x : X) → are_different (map g (map f xs)) ≡ true → among (map g (map f xs)) (g (f x)) ≡ false → are_different (map g (map f (xs ++ x ∷ []))) ≡ true
   differ_with g f xs x differ another =
@@ -52,7 +35,7 @@ same_flights region (f ∷ flights) = ap (λ (zs : List _). f.load ∷ zs) (same
 
 -- a place, as it is seen
 seen_place : (flights : List Flight) (place load : ℕ) → option_map (λ flight. flight.load) (slice_get flights place) ≡ Some load → option_map (λ flight. flight.load) (slice_get (map flight_of flights) place) ≡ Some load
-seen_place flights place load is = rw (slice_get-map flight_of flights place, option_mapped (λ flight. flight.load) flight_of (slice_get flights place)) is
+seen_place flights place load is = rw (slice_get-map flight_of flights place, option_map-map (λ flight. flight.load) flight_of (slice_get flights place)) is
 
 -- the loads in flight that are left where one is taken out
 pub left_flights : (flights : List Flight) (place load : ℕ) → are_different (flying.numbers_of (map flight_of flights)) ≡ true → option_map (λ flight. flight.load) (slice_get flights place) ≡ Some load → map flight_of (take place flights ++ drop (suc place) flights) ≡ filter (λ flight. not (flight.load == load)) (map flight_of flights)

@@ -113,7 +113,7 @@ impl Flights {
         Some(flight.version)
     }
 
-    /// Makes room for so many loads more, so that starting them takes no memory.
+    /// Makes room for this many loads more, so that starting them takes no memory.
     pub fn reserve(&mut self, n: usize) -> Result<(), OutOfMemory>
         ensures ok { OnOk result (n ≤ self.new.places) }
         ensures flights { self.new.flights ≡ self.old.flights }
@@ -150,7 +150,7 @@ impl Flights {
     }
 
     /// Makes room for one region more in what shuts off part of each load in flight, and as many handles of the region as
-    /// loads are in flight. The loads stay as they were, also where memory is wanting.
+    /// loads are in flight. The loads stay as they were, also where there is no memory.
     pub fn reserve_shut(&mut self, region: &Arc<Region>) -> Result<List<Arc<Region>>, OutOfMemory>
         ensures handles { IfOk result (AreHandles region.now.value (length self.old.flights)) }
         ensures rooms { OnOk result (All (λ room. 0 < room) self.new.rooms) }

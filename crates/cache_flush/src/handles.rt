@@ -6,7 +6,7 @@ use olap_meaning::{List, OutOfMemory, Region};
 use std::alloc::Global;
 use std::sync::Arc;
 
-/// So many handles of a region.
+/// This many handles of a region.
 pub fn handles_of(
     alloc: Global,
     region: &Arc<Region>,

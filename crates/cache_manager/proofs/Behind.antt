@@ -1,10 +1,11 @@
--- The rows of the version of a plan's loads lie behind the plan, and what is rolled up is worth what the history says.
+-- The rows of the version of a plan's loads lie after the plan, and what is rolled up is worth what the history says.
 use Rattle.std.proofs.Common.{◌≡◌, refl, sym, ◌∙◌, ap, subst, ℕ, suc, ◌<◌, ◌≤◌, List, [], ◌∷◌, length, map, true, ◌&&◌, ◌==◌, bytes_eq, Some, option_and_then, option_map, slice_get, arith, All, Contains}
 use Rattle.std.specs.Prelude.{IfOk, IsTrue, Result, Ok, Err}
 use Rattle.std.specs.List.{AllZip, list_all}
 use Rattle.std.proofs.lemmas.Bool.{and_from, and_parts}
 use Rattle.std.proofs.lemmas.List.{length-map}
 use Rattle.std.proofs.lemmas.List.Elements.{All-contains}
+use Rattle.cell_groups.proofs.Alike.{Alike, alike_self, alike_told}
 use Rattle.olap_meaning.specs.declared.cells.Cell.{Cell}
 use Rattle.olap_meaning.specs.declared.cells.Header.{Header}
 use Rattle.olap_meaning.specs.declared.tables.Row.{Row}
@@ -32,7 +33,6 @@ use Rattle.rollup_plan.specs.declared.plan.Plan.{Plan}
 use Rattle.cache_manager.specs.Kept.{IsKept}
 use Rattle.cache_manager.specs.Rollups.{AreKept, IsPlanFor, IsRollup, IsToldBy, IsWorth, all_alike, candidates_for, planned}
 use Rattle.cache_manager.specs.declared.rollups.Rollup.{Rollup}
-use Rattle.cache_manager.proofs.Grouping.{Alike, alike_self, alike_told}
 use Rattle.cache_manager.proofs.Serving.{kept_header}
 use Rattle.cache_manager.proofs.Sourcing.{candidate_at}
 use Rattle.cache_manager.proofs.Valued.{column_own, rows_few, rows_known}

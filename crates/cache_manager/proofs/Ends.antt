@@ -11,6 +11,7 @@ use Rattle.olap_meaning.specs.declared.tables.Row.{Row}
 use Rattle.olap_meaning.specs.Covering.{among}
 use Rattle.olap_meaning.specs.History.{Done, Load, flying, load_at, load_version, rows_of, shutting}
 use Rattle.olap_meaning.specs.Legal.{IsLegalEnd, Legal}
+use Rattle.olap_meaning.proofs.Versions.{rows_stay}
 use Rattle.fact_versions.specs.Facts.{FactsOf}
 use Rattle.history_core.specs.History.{HistoryOf}
 use Rattle.history_core.specs.Cache.{CacheOf}
@@ -22,7 +23,7 @@ use Rattle.cache_manager.specs.Kept.{IsFlight, IsKept, IsManager}
 use Rattle.segment_body.specs.BodyOf.{BodyOf}
 use Rattle.segment_header.specs.Headers.{is_header}
 use Rattle.fact_reader.specs.BodyRows.{HoldsRows}
-use Rattle.cache_manager.proofs.Pushes.{kept_landed, kept_new, load_on, recorded, rows_on, shutting_on}
+use Rattle.cache_manager.proofs.Pushes.{kept_landed, kept_new, load_on, recorded, shutting_on}
 use Rattle.cache_manager.proofs.Managing.{flight_found, length-others, numbers_kept}
 use Rattle.cache_manager.proofs.Own.{own_ends, own_flies}
 
@@ -73,7 +74,7 @@ keeps cache history who j v body shut is legal own at formed told = record {
       cc;
   formed = subst (λ (h : Header). IsTrue (is_header h)) holds_here.own_header formed;
   holds = subst (λ (rows : List Row). HoldsRows history.setting.catalog here.load.header rows body)
-      (sym (rows_on history.entries (Done who j) here.load.header.cube here.load.version (recorded history.setting history.entries j here.load legal here.flies.started))) holds_here;
+      (sym (rows_stay history.entries (Done who j) here.load.header.cube here.load.version (recorded history.setting history.entries j here.load legal here.flies.started))) holds_here;
   shut = told ∙ sym (shutting_on history.entries (Done who j) j here.load here.flies.started refl);
 }
   where

@@ -20,6 +20,7 @@ use Rattle.olap_meaning.specs.declared.tables.Cube.{Cube}
 use Rattle.olap_meaning.proofs.Growing.{version_grows}
 use Rattle.olap_meaning.proofs.Positions.{take-push}
 use Rattle.olap_meaning.specs.Legal as legal
+use Rattle.olap_meaning.proofs.Versions.{version-length}
 use Rattle.fact_versions.specs.FactRows.{FactRows}
 use Rattle.fact_versions.specs.Facts.{Arrival, FactsOf, IsAlike, append_fault, arrival, batches_of, rows_held, rows_of_batches, with_batch}
 use Rattle.fact_versions.specs.declared.faults.AppendFault.TheVariants.{TooManyRows, TooManyVersions}
@@ -28,7 +29,6 @@ use Rattle.history_core.specs.Arrivals.{arrival_in}
 use Rattle.fact_versions.proofs.Grown.{batches_of-with_batch, batches_of-with_batch_other, length-cubes}
 use Rattle.fact_reader.specs.BodyRows.{are_batches, is_batch, rows_in}
 use Rattle.cache_manager.specs.Kept.{AreFactsOf}
-use Rattle.cache_manager.proofs.Pushes.{version-length}
 
 flat_map-map : (batches : List FactRows) → flat_map (λ (rows : List Row). rows) (map (λ batch. batch.rows) batches) ≡ rows_in batches
 flat_map-map [] = refl
@@ -175,7 +175,7 @@ all_alike catalog cube batch (one ∷ others) fits all =
     let parts = and_parts (is_batch catalog cube one) (are_batches catalog cube others) all in
     All-cons (IsAlike batch) one others (alike catalog cube batch one fits parts.0) (all_alike catalog cube batch others fits parts.1)
 
--- why so many rows are refused, by the limit, the rows held and the version
+-- why this many rows are refused, by the limit, the rows held and the version
 abbrev found_by : ℕ → ℕ → ℕ → ℕ → Arrival
 found_by rows limit held v = record { limit = limit; held = held; version = v; brought = rows }
 

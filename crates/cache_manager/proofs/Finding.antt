@@ -4,7 +4,7 @@ use Rattle.std.specs.List.{AllZip, list_all}
 use Rattle.std.proofs.Math.Seq.{take-suc}
 use Rattle.std.proofs.lemmas.Bool.{and_parts}
 use Rattle.std.proofs.lemmas.List.{map_push}
-use Rattle.std.proofs.lemmas.List.Elements.{All-append, All-cons, All-head, All-nil, All-tail, All-weaker}
+use Rattle.std.proofs.lemmas.List.Elements.{All-cons, All-head, All-nil, All-tail, All-weaker}
 use Rattle.olap_meaning.specs.declared.cells.Cell.{Cell}
 use Rattle.olap_meaning.specs.declared.tables.Catalog.{Catalog}
 use Rattle.olap_meaning.specs.declared.tables.Measure.{Measure}
@@ -13,6 +13,7 @@ use Rattle.olap_meaning.specs.Legal.{IsSource, has_source, is_cell}
 use Rattle.olap_meaning.specs.Worth.{measure_of}
 use Rattle.olap_meaning.proofs.Loads.{some_and}
 use Rattle.olap_meaning.proofs.RolledSources.{sources_are_decided}
+use Rattle.olap_meaning.proofs.Lists.{zip_push}
 use Rattle.history_core.specs.declared.answers.Answered.{Answered}
 use Rattle.history_core.specs.Groups.{wanting}
 use Rattle.cache_flush.specs.Loads.{KeptOf}
@@ -25,15 +26,9 @@ use Rattle.cache_manager.specs.declared.rollups.Rollup.{Rollup}
 use Rattle.cache_manager.proofs.Sourcing.{plan_source}
 
 module _ {A B : Type 0} (R : A → B → Type 0) where
-  zip_push : (xs : List A) (ys : List B) (x : A) (y : B) → AllZip R xs ys → R x y → AllZip R (xs ++ x ∷ []) (ys ++ y ∷ [])
-  zip_push [] [] x y all here = (here, tt)
-  zip_push [] (z ∷ ys) x y all here = absurd all
-  zip_push (w ∷ xs) [] x y all here = absurd all
-  zip_push (w ∷ xs) (z ∷ ys) x y all here = (all.0, zip_push xs ys x y all.1 here)
-
   -- one pair more
   pub zip_more : (xs : List A) (ys : List B) (i : ℕ) (x : A) (y : B) → i < length xs → x ≡ get_or xs i x → AllZip R (take i xs) ys → R x y → AllZip R (take (suc i) xs) (ys ++ y ∷ [])
-  zip_more xs ys i x y below is so_far here = rw (take-suc xs i x below, ← is) (zip_push (take i xs) ys x y so_far here)
+  zip_more xs ys i x y below is so_far here = rw (take-suc xs i x below, ← is) (zip_push R (take i xs) ys x y so_far here)
 
   -- the pair at a place
   pub zip_get : (xs : List A) (ys : List B) (i : ℕ) (x : A) → AllZip R xs ys → slice_get xs i ≡ Some x → (y : B) × (slice_get ys i ≡ Some y) × R x y
@@ -41,10 +36,6 @@ module _ {A B : Type 0} (R : A → B → Type 0) where
   zip_get (w ∷ xs) [] i x all at = absurd all
   zip_get (w ∷ xs) (z ∷ ys) zero x all at = let same : w ≡ x = cc in (z, refl, subst (λ (v : A). R v z) same all.0)
   zip_get (w ∷ xs) (z ∷ ys) (suc i) x all at = zip_get xs ys i x all.1 at
-
--- one item more
-pub all_more : {A : Type 0} (P : A → Type 0) (xs : List A) (x : A) → All P xs → P x → All P (xs ++ x ∷ [])
-all_more P xs x all here = All-append P xs (x ∷ []) all (All-cons P x [] here (All-nil P))
 
 pub map_more : {A B : Type 0} (f : A → B) (xs : List A) (i : ℕ) (x : A) → i < length xs → x ≡ get_or xs i x → map f (take (suc i) xs) ≡ map f (take i xs) ++ f x ∷ []
 map_more f xs i x below is = rw (take-suc xs i x below, ← is) (map_push f (take i xs) x)

@@ -1,10 +1,9 @@
 -- Cells that may share a load, and the header of their load.
-use Rattle.std.proofs.Common.{◌≡◌, refl, sym, ◌∙◌, ap, subst, ℕ, zero, suc, ◌<◌, List, [], ◌∷◌, ◌++◌, length, map, filter, Bool, true, false, ◌&&◌, ◌||◌, ◌==◌, inl, inr, Option, Some, None, slice_get, option_map, bytes_eq, arith, All, Contains, get_or}
+use Rattle.std.proofs.Common.{◌≡◌, refl, sym, ◌∙◌, ap, subst, ℕ, zero, suc, ◌<◌, List, [], ◌∷◌, ◌++◌, length, map, filter, Bool, true, false, ◌&&◌, ◌||◌, ◌==◌, inl, inr, Option, Some, None, slice_get, option_map, arith, All, Contains, get_or}
 use Rattle.std.specs.Prelude.{nat_lt}
 use Rattle.std.specs.List.{find, list_all, list_any}
 use Rattle.std.proofs.lemmas.Bool.{and_from, and_parts, eq-eqb, eqb-true, ltb-true, or_cases, or_left, or_right}
-use Rattle.std.proofs.lemmas.Option.{slice_get_read}
-use Rattle.std.proofs.lemmas.Slice.Eq.{bytes_eq-Decides}
+use Rattle.std.proofs.lemmas.Option.{slice_get_read, slice_get_within}
 use Rattle.olap_meaning.specs.declared.cells.Allowed.{Allowed}
 use Rattle.olap_meaning.specs.declared.cells.Header.{Header}
 use Rattle.olap_meaning.specs.declared.cells.Cell.{Cell}
@@ -17,46 +16,25 @@ use Rattle.segment_header.specs.Widening.{Allowing, Serves}
 use Rattle.history_core.specs.Groups.{IsHeaderFor, alike, firsts, has_on, value_on, values_on}
 use Rattle.cell_groups.specs.Lent.{lent}
 use Rattle.cell_groups.specs.declared.groups.Group.{Group}
-use Rattle.cache_manager.proofs.Numbers.{passing_there}
-use Rattle.cache_manager.proofs.Rising.{above_one, same_rising}
+use Rattle.cell_groups.proofs.Alike.{Alike, alike_from, alike_self}
+use Rattle.cell_groups.proofs.KeyFacts.{known_rises, known_values}
+use Rattle.cell_groups.proofs.HeaderFacts.{passing_there}
+use Rattle.cache_manager.proofs.Rising.{same_rising}
 use Rattle.fact_reader.specs.BodyRows.{is_loadable}
 use Rattle.std.proofs.lemmas.List.Elements.{All-head, All-tail, All-weaker}
 use Rattle.std.proofs.lemmas.List.Folds.{list_all-map}
+use Rattle.segment_body.proofs.CellFacts.{allowed_among}
 use Rattle.olap_meaning.specs.History.{is_some_and}
 use Rattle.olap_meaning.specs.declared.tables.Cube.{Cube}
-
--- cells that are alike have one cube, one measure and the same columns
-pub record Alike (one other : Cell) : Type 0 where
-  pub cube : one.cube ≡ other.cube
-  pub measure : one.measure ≡ other.measure
-  pub columns : columns_of one ≡ columns_of other
-
-pub alike_told : (one other : Cell) → alike one other ≡ true → Alike one other
-alike_told one other h =
-    let whole = and_parts ((one.cube == other.cube) && (one.measure == other.measure)) (bytes_eq (columns_of one) (columns_of other)) h in
-    let front = and_parts (one.cube == other.cube) (one.measure == other.measure) whole.0 in
-    record { cube = eqb-true one.cube other.cube front.0; measure = eqb-true one.measure other.measure front.1; columns = (bytes_eq-Decides (columns_of one) (columns_of other)).0 whole.1 }
-
-pub alike_from : (one other : Cell) → Alike one other → alike one other ≡ true
-alike_from one other is = and_from _ _ (and_from _ _ (eq-eqb _ _ is.cube) (eq-eqb _ _ is.measure)) ((bytes_eq-Decides (columns_of one) (columns_of other)).1 is.columns)
+use Rattle.olap_meaning.proofs.Lists.{below_differs, passes_at}
 
 -- the columns of pairs
 abbrev pub names : List (ℕ × ℕ) → List ℕ
 names at = map (λ pair. pair.0) at
 
-get_within : {A : Type 0} (xs : List A) (k : ℕ) (x : A) → slice_get xs k ≡ Some x → k < length xs
-get_within [] k x at = absurd (cc)
-get_within (y ∷ ys) zero x at = omega arith
-get_within (y ∷ ys) (suc k) x at = let l = get_within ys k x at in omega (arith, l)
-
 pub all_from : {A : Type 0} (p : A → Bool) (xs : List A) → ((k : ℕ) (x : A) → slice_get xs k ≡ Some x → p x ≡ true) → list_all p xs ≡ true
 all_from p [] each = refl
 all_from p (x ∷ xs) each = and_from _ _ (each 0 x refl) (all_from p xs (λ k y h. each (suc k) y h))
-
-pub all_get : {A : Type 0} (p : A → Bool) (xs : List A) (k : ℕ) (x : A) → list_all p xs ≡ true → slice_get xs k ≡ Some x → p x ≡ true
-all_get p [] k x all h = absurd (cc)
-all_get p (y ∷ ys) zero x all h = let same : y ≡ x = cc in ap p (sym same) ∙ (and_parts _ _ all).0
-all_get p (y ∷ ys) (suc k) x all h = all_get p ys k x (and_parts _ _ all).1 h
 
 name_at : (at : List (ℕ × ℕ)) (k : ℕ) (pair : ℕ × ℕ) → slice_get at k ≡ Some pair → among (names at) pair.0 ≡ true
 name_at [] k pair h = absurd (cc)
@@ -75,7 +53,7 @@ found_pair (p ∷ ps) zero pair up h =
     let same : p ≡ pair = cc in
     let test : (p.0 == pair.0) ≡ true = eq-eqb p.0 pair.0 (ap (λ (q : ℕ × ℕ). q.0) same) in
     rw test (ap (λ (q : ℕ × ℕ). Some q) same)
-found_pair (p ∷ ps) (suc k) pair up h = rw (above_one p.0 pair.0 (name_above p.0 ps k pair (and_parts _ _ up).0 h)) (found_pair ps k pair (and_parts _ _ up).1 h)
+found_pair (p ∷ ps) (suc k) pair up h = rw (below_differs p.0 pair.0 (name_above p.0 ps k pair (and_parts _ _ up).0 h)) (found_pair ps k pair (and_parts _ _ up).1 h)
 
 value_here : (cell : Cell) (k : ℕ) (pair : ℕ × ℕ) → rise (columns_of cell) ≡ true → slice_get cell.at k ≡ Some pair → value_on pair.0 cell ≡ Some pair.1
 value_here cell k pair up h = ap (option_map (λ (q : ℕ × ℕ). q.1)) (found_pair cell.at k pair up h)
@@ -96,12 +74,6 @@ found_value catalog column v (p ∷ ps) all h = by (p.0 == column) refl h (found
         let column_is : length (values catalog p.0) ≡ length (values catalog column) = ap (λ (n : ℕ). length (values catalog n)) (eqb-true p.0 column e) in
         omega (arith, l, same, column_is)
     by false e k later = later (rw e at k)
-
-known_values : (catalog : Catalog) (cell : Cell) → is_cell catalog cell ≡ true → list_all (λ pair. nat_lt pair.0 (length catalog.columns) && is_value catalog pair.0 pair.1) cell.at ≡ true
-known_values catalog cell known = (and_parts _ _ (and_parts _ _ (and_parts _ _ known).0).0).1
-
-pub known_rises : (catalog : Catalog) (cell : Cell) → is_cell catalog cell ≡ true → rise (columns_of cell) ≡ true
-known_rises catalog cell known = (and_parts _ _ (and_parts _ _ known).0).1
 
 -- a cell of a group has its value among the group's
 in_group : (column v : ℕ) (cells : List Cell) (i : ℕ) (cell : Cell) → slice_get cells i ≡ Some cell → has_on column v cell ≡ true → list_any (has_on column v) cells ≡ true
@@ -137,15 +109,6 @@ any_own (p ∷ ps) x v h all =
     elim (or_cases (p.0 == x) (among (map (λ own. own.0) ps) x) h) [
       | inl here ↦ or_left _ _ (and_from _ _ here (All-head (λ own. own.0 ≡ x → allows own.1 v ≡ true) p ps all (eqb-true p.0 x here)))
       | inr there ↦ or_right _ _ (any_own ps x v there (All-tail (λ own. own.0 ≡ x → allows own.1 v ≡ true) p ps all))
-    ]
-
--- a column that allows a value is named
-own_named : (columns : List (ℕ × Allowed)) (x v : ℕ) → list_any (λ own. (own.0 == x) && allows own.1 v) columns ≡ true → among (map (λ own. own.0) columns) x ≡ true
-own_named [] x v h = absurd (cc)
-own_named (p ∷ ps) x v h =
-    elim (or_cases ((p.0 == x) && allows p.1 v) (list_any (λ own. (own.0 == x) && allows own.1 v) ps) h) [
-      | inl here ↦ or_left (p.0 == x) (among (map (λ own. own.0) ps) x) (and_parts (p.0 == x) (allows p.1 v) here).0
-      | inr there ↦ or_right (p.0 == x) (among (map (λ own. own.0) ps) x) (own_named ps x v there)
     ]
 
 -- what all of some values have, one of them has
@@ -215,7 +178,7 @@ module _ (allowing : Allowing) (catalog : Catalog) (first : Cell) (cells : List 
       into [] all x k = absurd (cc)
       into (p ∷ ps) all x k =
           elim (or_cases (p.0 == x) (among (names ps) x) k) [
-            | inl here ↦ ap (among (map (λ own. own.0) header.columns)) (sym (eqb-true p.0 x here)) ∙ own_named header.columns p.0 p.1 (and_parts _ _ all).0
+            | inl here ↦ ap (among (map (λ own. own.0) header.columns)) (sym (eqb-true p.0 x here)) ∙ allowed_among header.columns p.0 p.1 (and_parts _ _ all).0
             | inr there ↦ into ps (and_parts _ _ all).1 x there
           ]
 
@@ -230,9 +193,6 @@ module _ (allowing : Allowing) (catalog : Catalog) (first : Cell) (cells : List 
   -- whatever allows its values, it serves
   pub serving_header : IsHeaderFor Serves catalog first cells header
   serving_header = record { cube = is.cube; measure = is.measure; columns = is.columns; allowed = is.serves; serves = is.serves }
-
-pub alike_self : (cell : Cell) → alike cell cell ≡ true
-alike_self cell = alike_from cell cell (record { cube = refl; measure = refl; columns = refl })
 
 pub kept_place : (keep : Cell → Bool) (cells : List Cell) (k : ℕ) (cell : Cell) → slice_get cells k ≡ Some cell → keep cell ≡ true → (i : ℕ) × (slice_get (filter keep cells) i ≡ Some cell)
 kept_place keep [] k cell at keeps = absurd (cc)
@@ -283,7 +243,7 @@ first_contained cells i cell l is =
     contains_at cells place.0 cell place.1
 
 pub first_passes : (p : Cell → Bool) (cells : List Cell) (i : ℕ) (cell : Cell) → list_all p cells ≡ true → i < length (firsts [] cells) → cell ≡ get_or (firsts [] cells) i cell → p cell ≡ true
-first_passes p cells i cell all l is = all_get p (firsts [] cells) i cell (firsts_all p [] cells all) (slice_get_read (firsts [] cells) (length (firsts [] cells)) i cell refl l is)
+first_passes p cells i cell all l is = passes_at p (firsts [] cells) i cell (firsts_all p [] cells all) (slice_get_read (firsts [] cells) (length (firsts [] cells)) i cell refl l is)
 
 -- a known cell's cube is one of the catalog's
 pub cube_known : (catalog : Catalog) (cell : Cell) → is_cell catalog cell ≡ true → cell.cube < length catalog.cubes
@@ -291,11 +251,11 @@ cube_known catalog cell known = by (slice_get catalog.cubes cell.cube) refl (and
   where
     by : (o : Option Cube) → slice_get catalog.cubes cell.cube ≡ o → is_some_and (λ (cube : Cube). list_all (λ pair. is_column_of catalog cube.dimensions pair.0) cell.at) o ≡ true → cell.cube < length catalog.cubes
     by None at h = absurd (cc)
-    by (Some cube) at h = get_within catalog.cubes cell.cube cube at
+    by (Some cube) at h = slice_get_within catalog.cubes cell.cube cube at
 
 -- one of some known cells is known
 pub known_of : (catalog : Catalog) (cells : List Cell) (cell : Cell) → list_all (is_cell catalog) cells ≡ true → Contains cells cell → is_cell catalog cell ≡ true
-known_of catalog cells cell known has = all_get (is_cell catalog) cells has.0 cell known (slice_get_read cells (length cells) has.0 cell refl has.1 (sym has.2))
+known_of catalog cells cell known has = passes_at (is_cell catalog) cells has.0 cell known (slice_get_read cells (length cells) has.0 cell refl has.1 (sym has.2))
 
 -- what holds of cells holds of those of a group
 pub group_known : (catalog : Catalog) (keep : Cell → Bool) (cells : List Cell) → list_all (is_cell catalog) cells ≡ true → list_all (is_cell catalog) (filter keep cells) ≡ true

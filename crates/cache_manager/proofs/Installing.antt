@@ -8,12 +8,12 @@ use Rattle.olap_meaning.specs.declared.tables.Catalog.{Catalog}
 use Rattle.olap_meaning.specs.Catalog.{table_cube}
 use Rattle.olap_meaning.specs.History.{Agg, rows_of, version}
 use Rattle.olap_meaning.specs.Legal.{IsLegalAgg, Legal, is_next_call}
+use Rattle.olap_meaning.proofs.Lists.{mapped_from}
 use Rattle.fact_versions.specs.FactRows.{FactRows}
 use Rattle.fact_versions.specs.Facts.{FactsOf, batches_of}
 use Rattle.fact_reader.specs.BodyRows.{are_batches, rows_in}
 use Rattle.agg_tables.specs.Declarations.{declared_table}
 use Rattle.agg_tables.specs.Tables.{TableOf, built, built_over, groups_in, table_over}
-use Rattle.agg_tables.proofs.FindFacts.{mapped_there}
 use Rattle.installed_tables.specs.Installed.{groups_built, present_version}
 use Rattle.installed_tables.proofs.BuiltFacts.{built_last}
 use Rattle.history_core.specs.Cache.{CacheOf}
@@ -70,7 +70,7 @@ pub built_made :
     (cache : CacheOf) (catalog : Catalog) (table cube v : ℕ) (snapshot : List FactRows) (made : TableOf) → catalog ≡ cache.setting.catalog → table_cube cache.setting.catalog table ≡ Some cube → v ≤ version cache.entries cube → length snapshot ≡ v
     → rows_in snapshot ≡ rows_of cache.entries cube v → built catalog table snapshot ≡ Some made → IsMade cache table v made
 built_made cache catalog table cube v snapshot made whole known reached many rows is =
-    let found = mapped_there (table_over catalog table (length snapshot) (rows_in snapshot)) (declared_table catalog table) made is in
+    let found = mapped_from (table_over catalog table (length snapshot) (rows_in snapshot)) (declared_table catalog table) made is in
     let place : made.table ≡ table = ap (λ (t : TableOf). t.table) (sym found.2) in
     let newest : made.version ≡ v = ap (λ (t : TableOf). t.version) (sym found.2) ∙ many in
     record {

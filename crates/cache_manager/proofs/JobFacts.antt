@@ -16,13 +16,14 @@ use Rattle.fact_reader.specs.BodyRows.{HoldsRows, rows_in}
 use Rattle.load_costs.specs.Costs.{cost, reads}
 use Rattle.load_costs.proofs.CostFacts.{cost_on, reads_on}
 use Rattle.olap_meaning.specs.declared.tables.Catalog.{Catalog}
+use Rattle.olap_meaning.proofs.Versions.{rows_stay}
 use Rattle.segment_load.specs.Loads.{JobOf}
 use Rattle.history_core.specs.Cache.{CacheOf}
 use Rattle.cache_manager.specs.Jobs.{IsJobOf, IsOwnBody}
 use Rattle.history_core.specs.Seats.{entries_of, is_of_seat}
 use Rattle.history_core.specs.Groups.{numbers_from}
 use Rattle.cache_manager.specs.Runs.{apart}
-use Rattle.cache_manager.proofs.Pushes.{any_none, load_on, recorded, rows_on}
+use Rattle.cache_manager.proofs.Pushes.{any_none, load_on, recorded}
 
 -- what a job has come to, which holds the rows of its snapshot, is the body of an own load
 pub own_body : (cache : CacheOf) (job : JobOf) (body : BodyOf) → IsJobOf cache job → HoldsRows job.catalog job.header (rows_in job.snapshot) body → IsOwnBody cache job.who job.load body
@@ -50,7 +51,7 @@ module _ (before after : CacheOf) (entry : Entry) (same : after.setting ≡ befo
   job_stays job other is =
       let rows : rows_of after.entries is.load.header.cube is.load.version ≡ rows_of before.entries is.load.header.cube is.load.version =
       ap (λ (es : List Entry). rows_of es is.load.header.cube is.load.version) grown
-      ∙ rows_on before.entries entry is.load.header.cube is.load.version (recorded before.setting before.entries job.load is.load legal is.flies.started) in
+      ∙ rows_stay before.entries entry is.load.header.cube is.load.version (recorded before.setting before.entries job.load is.load legal is.flies.started) in
       record {
         load = is.load;
         catalog = is.catalog ∙ sym (ap (λ (s : Setting). s.catalog) same);

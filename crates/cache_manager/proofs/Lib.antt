@@ -5,10 +5,8 @@ pub mod Moves
 pub mod Own
 pub mod Ends
 pub mod Appends
-pub mod Fronts
 pub mod Lending
 pub mod Rising
-pub mod Numbers
 pub mod Grouping
 pub mod Serving
 pub mod Sourcing

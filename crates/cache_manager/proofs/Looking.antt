@@ -12,6 +12,7 @@ use Rattle.olap_meaning.specs.declared.tables.Setting.{Setting}
 use Rattle.olap_meaning.specs.History.{Entry, awaited, awaited_load, flushed_after, flying, load_just_covers}
 use Rattle.olap_meaning.specs.Legal.{IsSource, Legal, has_source, is_cell}
 use Rattle.olap_meaning.proofs.RolledSources.{sources_are_decided}
+use Rattle.olap_meaning.proofs.Sources.{none_latest}
 use Rattle.fact_versions.specs.Facts.{FactsOf}
 use Rattle.agg_tables.specs.Tables.{TableOf}
 use Rattle.cache_flush.specs.Loads.{KeptOf}
@@ -28,7 +29,6 @@ use Rattle.segment_header.specs.Widening.{Allowing}
 use Rattle.cache_manager.proofs.Grouping.{contains_at}
 use Rattle.cache_manager.proofs.Managing.{flights_below}
 use Rattle.cache_manager.proofs.Planning.{all_jobs, all_started, anywhere, header_of, planned_new, planned_steps, prepared_headers, step_of}
-use Rattle.cache_manager.proofs.Serving.{none_latest}
 use Rattle.cache_manager.proofs.Wanting.{steps_legal}
 
 -- where no load flies, none is awaited

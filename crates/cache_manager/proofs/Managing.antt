@@ -15,13 +15,14 @@ use Rattle.olap_meaning.specs.Covering.{among, concerning}
 use Rattle.olap_meaning.specs.History.{Entry, Flush, Load, load_version, kept, delivers, ends, evicts, flushed, flying, shutting, started}
 use Rattle.olap_meaning.specs.Legal.{Legal}
 use Rattle.olap_meaning.proofs.Shutting.{shutting_grows}
+use Rattle.olap_meaning.proofs.Versions.{rows_stay}
 use Rattle.fact_reader.specs.BodyRows.{HoldsRows}
 use Rattle.cache_flush.specs.Loads as of_loads
 use Rattle.cache_flush.specs.Loads.{KeptOf}
 use Rattle.cache_flush.specs.Flights as of_flights
 use Rattle.cache_flush.specs.Flights.{FlightOf, numbers_of}
 use Rattle.cache_manager.specs.Kept.{IsKept, IsFlight, headers_of}
-use Rattle.cache_manager.proofs.Pushes.{flying_back, flying_on, kept_back, kept_stays, load_on, load_within, recorded, rows_on}
+use Rattle.cache_manager.proofs.Pushes.{flying_back, flying_on, kept_back, kept_stays, load_on, load_within, recorded}
 
 -- nothing is shut off by an entry that flushes nothing
 nothing_more : (shut : List Region) (header : Header) (entry : Entry) → flushed entry ≡ None → shut ≡ shut ++ concerning header (option_to_list (flushed entry))
@@ -37,7 +38,7 @@ kept_grown setting entries entry k shut legal stays more is = record {
   delivered = kept_stays entries entry k.load stays is.delivered;
   version = is.version;
   formed = is.formed;
-  holds = subst (λ (rows : List Row). HoldsRows setting.catalog is.load.header rows k.body) (sym (rows_on entries entry is.load.header.cube is.load.version (recorded setting entries k.load is.load legal is.started))) is.holds;
+  holds = subst (λ (rows : List Row). HoldsRows setting.catalog is.load.header rows k.body) (sym (rows_stay entries entry is.load.header.cube is.load.version (recorded setting entries k.load is.load legal is.started))) is.holds;
   shut =
       more
       ∙ ap (λ (rs : List Region). rs ++ concerning k.body.header (option_to_list (flushed entry))) is.shut
@@ -126,9 +127,6 @@ flights_all_on entries entry held none all j h = elim (flying_back entries entry
 among_push : (held : List ℕ) (n j : ℕ) → among (held ++ n ∷ []) j ≡ (among held j || ((n == j) || false))
 among_push held n j = list_any-append (λ v. v == j) held (n ∷ [])
 
-pub among_left : (held : List ℕ) (n j : ℕ) → among held j ≡ true → among (held ++ n ∷ []) j ≡ true
-among_left held n j h = among_push held n j ∙ or_left _ _ h
-
 pub among_last : (held : List ℕ) (n j : ℕ) → n ≡ j → among (held ++ n ∷ []) j ≡ true
 among_last held n j h = among_push held n j ∙ or_right _ _ (or_left _ _ (eq-eqb n j h))
 
@@ -138,7 +136,7 @@ among_back held n j h = elim (or_cases (among held j) ((n == j) || false) (sym (
   | inr new ↦ elim (or_cases (n == j) false new) [ inl same ↦ inr (eqb-true n j same) | inr none ↦ absurd (cc) ]
 ]
 
--- those in flight but for one
+-- those in flight except for one
 module _ (j : ℕ) where
   abbrev pub others : List FlightOf → List FlightOf
   others flights = filter (λ f. not (f.load == j)) flights

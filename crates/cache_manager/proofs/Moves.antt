@@ -13,6 +13,7 @@ use Rattle.olap_meaning.specs.Covering.{among}
 use Rattle.olap_meaning.specs.History.{Entry, Append, Agg, Flush, Start, Done, Drop, Answer, Saw, Load, flying, kept, rows_of, version}
 use Rattle.olap_meaning.specs.Legal.{Legal}
 use Rattle.olap_meaning.proofs.Shutting.{loads_start_whole}
+use Rattle.olap_meaning.proofs.Orders.{among_still}
 use Rattle.fact_versions.specs.FactRows.{FactRows}
 use Rattle.fact_versions.specs.Facts.{FactsOf, with_batch}
 use Rattle.fact_reader.specs.BodyRows.{is_batch}
@@ -26,7 +27,7 @@ use Rattle.cache_flush.specs.Flights as of_flights
 use Rattle.cache_flush.specs.Flights.{FlightOf}
 use Rattle.cache_manager.specs.Kept.{IsFlight, IsKept, IsManager, headers_of}
 use Rattle.cache_manager.proofs.Facts.{facts_more, facts_on}
-use Rattle.cache_manager.proofs.Managing.{all_flights_on, all_flights_shut, all_kept_on, all_kept_shut, among_last, among_left, flight_headers_shut, flight_numbers_shut, flights_all_but, flights_all_on, flights_but, kept_all_on, kept_numbers_shut, length-others, others}
+use Rattle.cache_manager.proofs.Managing.{all_flights_on, all_flights_shut, all_kept_on, all_kept_shut, among_last, flight_headers_shut, flight_numbers_shut, flights_all_but, flights_all_on, flights_but, kept_all_on, kept_numbers_shut, length-others, others}
 use Rattle.cache_manager.proofs.Pushes.{flying_back, kept_back, load_last, starts_flying}
 
 module _ (setting : Setting) (entries : List Entry) (facts : FactsOf) (held : List KeptOf) (places : List Header → Type 0) (flights : List FlightOf) (tables : List TableOf) (legal : Legal setting entries) where
@@ -58,7 +59,7 @@ module _ (setting : Setting) (entries : List Entry) (facts : FactsOf) (held : Li
         kept_are = All-push (IsKept setting.catalog (entries ++ Done who j ∷ [])) held k (all_kept_on setting entries (Done who j) held (λ i. refl) refl legal is.kept_are) keeps;
         kept_all = λ i h. ap (λ (loads : List ℕ). among loads i) (map-append (λ (o : KeptOf). o.load) held (k ∷ []))
             ∙ elim (kept_back entries (Done who j) i h) [
-              | inl old ↦ among_left (map (λ o. o.load) held) k.load i (is.kept_all i old)
+              | inl old ↦ among_still (map (λ o. o.load) held) k.load i (is.kept_all i old)
               | inr new ↦ among_last (map (λ o. o.load) held) k.load i (same ∙ eqb-true j i new)
             ];
         flights_are = flights_but j entries (Done who j) flights (λ i. refl) refl is.flights_are;
@@ -150,7 +151,7 @@ module _ (setting : Setting) (entries : List Entry) (facts : FactsOf) (held : Li
             }));
         flights_all = λ i h. ap (λ (loads : List ℕ). among loads i) (map-append (λ (f : FlightOf). f.load) flights (flight ∷ []))
             ∙ elim (flying_back entries (Start load) i h).1 [
-              | inl old ↦ among_left (map (λ f. f.load) flights) flight.load i (is.flights_all i old)
+              | inl old ↦ among_still (map (λ f. f.load) flights) flight.load i (is.flights_all i old)
               | inr new ↦ among_last (map (λ f. f.load) flights) flight.load i (number ∙ sym new.0)
             ];
         tables_are = is.tables_are ∙ sym (tables_stay setting entries (Start load) legal refl);

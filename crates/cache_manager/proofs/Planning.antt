@@ -12,6 +12,8 @@ use Rattle.olap_meaning.specs.History.{Entry, Start, Load, ends, load_at, rows_o
 use Rattle.olap_meaning.specs.Legal.{Legal}
 use Rattle.olap_meaning.specs.Worth.{load_rows}
 use Rattle.olap_meaning.proofs.Growing.{legal_grows, version_grows}
+use Rattle.olap_meaning.proofs.Sources.{unended}
+use Rattle.olap_meaning.proofs.Versions.{rows_stay}
 use Rattle.fact_versions.specs.Facts.{FactsOf}
 use Rattle.history_core.specs.Entries.{entry_of}
 use Rattle.fact_reader.specs.BodyRows.{rows_in}
@@ -35,7 +37,7 @@ use Rattle.cache_manager.specs.Kept.{IsManager}
 use Rattle.cache_manager.specs.Plans.{AreLegalSteps, AreNew, ArePrepared, IsPrepared, flight_for}
 use Rattle.cache_manager.proofs.Managing.{among_back}
 use Rattle.cache_manager.proofs.Moves.{starts}
-use Rattle.cache_manager.proofs.Pushes.{any_none, load_last, load_on, recorded, rows_on, unended}
+use Rattle.cache_manager.proofs.Pushes.{any_none, load_last, load_on, recorded}
 
 -- the step that was prepared
 abbrev pub step_of : Planned → Entry
@@ -86,7 +88,7 @@ module _ (allowing : Allowing) (cache : CacheOf) (who : Who) (wanted : List Cell
   planned_numbers n (c ∷ cs) [] are = absurd are
   planned_numbers n (c ∷ cs) (p ∷ ps) are = ap (λ (m : ℕ). m ∷ map (λ job. job.load) (map (λ p. p.job) ps)) are.0.load ∙ ap (λ (ns : List ℕ). n ∷ ns) (planned_numbers (suc n) cs ps are.1)
 
-  -- each of their numbers is new behind those below
+  -- each of their numbers is new after those below
   pub planned_new :
       (n : ℕ) (cells : List Cell) (plans : List Planned) (before : List ℕ) → ArePrepared allowing cache who wanted n cells plans → ((i : ℕ) → among before i ≡ true → i < n) → AreNew before (map (λ p. p.flight.load) plans)
   planned_new n [] [] before are below = tt
@@ -139,7 +141,7 @@ module _ (allowing : Allowing) (cache : CacheOf) (who : Who) (wanted : List Cell
   job_on : (entries : List Entry) (load : Load) (job : JobOf) → Legal cache.setting entries → IsJobOf (at entries) job → IsJobOf (at (entries ++ Start load ∷ [])) job
   job_on entries load job legal is =
       let rows : rows_of (entries ++ Start load ∷ []) is.load.header.cube is.load.version ≡ rows_of entries is.load.header.cube is.load.version =
-      rows_on entries (Start load) is.load.header.cube is.load.version (recorded cache.setting entries job.load is.load legal is.flies.started) in
+      rows_stay entries (Start load) is.load.header.cube is.load.version (recorded cache.setting entries job.load is.load legal is.flies.started) in
       record {
         load = is.load;
         catalog = is.catalog;
@@ -158,7 +160,7 @@ module _ (allowing : Allowing) (cache : CacheOf) (who : Who) (wanted : List Cell
   job_new entries n c p legal built is number present same =
       let place : p.job.load ≡ suc (length entries) = is.load ∙ number in
       let rows : rows_in p.job.snapshot ≡ rows_of (entries ++ Start (load_of c p) ∷ []) p.job.header.cube (version cache.entries c.cube) =
-      is.rows ∙ sym same ∙ sym (rows_on entries (Start (load_of c p)) c.cube (version cache.entries c.cube) (omega (arith, present)))
+      is.rows ∙ sym same ∙ sym (rows_stay entries (Start (load_of c p)) c.cube (version cache.entries c.cube) (omega (arith, present)))
       ∙ ap (λ (cube : ℕ). rows_of (entries ++ Start (load_of c p) ∷ []) cube (version cache.entries c.cube)) (sym is.allowed.cube) in
       let many : length (rows_of cache.entries c.cube (version cache.entries c.cube)) ≡ load_rows entries (load_of c p) =
       ap length (sym same ∙ ap (λ (cube : ℕ). rows_of entries cube (version cache.entries c.cube)) (sym is.allowed.cube)) in
@@ -208,4 +210,4 @@ module _ (allowing : Allowing) (cache : CacheOf) (who : Who) (wanted : List Cell
       later_rows : (cube : ℕ) → rows_of (entries ++ step_of p ∷ []) cube (version cache.entries cube) ≡ rows_of cache.entries cube (version cache.entries cube)
       later_rows cube =
           ap (λ (e : Entry). rows_of (entries ++ e ∷ []) cube (version cache.entries cube)) are.0.start
-          ∙ rows_on entries (Start (load_of c p)) cube (version cache.entries cube) (omega (arith, present cube)) ∙ same cube
+          ∙ rows_stay entries (Start (load_of c p)) cube (version cache.entries cube) (omega (arith, present cube)) ∙ same cube

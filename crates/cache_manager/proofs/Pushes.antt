@@ -1,23 +1,21 @@
 -- One more entry in a history.
-use Rattle.std.proofs.Common.{◌≡◌, refl, sym, ◌∙◌, ap, ℕ, zero, suc, ◌+◌, ◌<◌, ◌≤◌, List, [], ◌∷◌, ◌++◌, length, take, take_all, Bool, true, false, cond, not, ◌||◌, ◌⊎◌, inl, inr, Option, Some, None, arith, is_some, option_and_then, option_to_list, filter_map, flat_map}
+use Rattle.std.proofs.Common.{◌≡◌, refl, sym, ◌∙◌, ap, ℕ, zero, suc, ◌+◌, ◌<◌, ◌≤◌, List, [], ◌∷◌, ◌++◌, length, take_all, Bool, true, false, not, ◌||◌, ◌⊎◌, inl, inr, Option, Some, None, arith, is_some, option_and_then, option_to_list}
 use Rattle.std.specs.List.{list_any}
 use Rattle.std.proofs.lemmas.Bool.{both_ways, and_parts, and_from, eq-eqb, or_cases, or_left, or_right, or_from, not-true, not_from_false, false_from_ne_true}
-use Rattle.std.proofs.lemmas.List.{append-nil, take-append-le}
-use Rattle.std.proofs.lemmas.List.Elements.{filter_map-append}
+use Rattle.std.proofs.lemmas.List.{append-nil}
 use Rattle.std.proofs.lemmas.List.Folds.{list_any-append}
-use Rattle.std.proofs.lemmas.List.Recursion.{is_count_by}
 use Rattle.olap_meaning.specs.declared.cells.Who.{Who}
 use Rattle.olap_meaning.specs.declared.tables.Setting.{Setting}
-use Rattle.olap_meaning.specs.declared.tables.Row.{Row}
 use Rattle.olap_meaning.specs.declared.regions.Region.{Region}
 use Rattle.olap_meaning.specs.Covering.{concerning}
-use Rattle.olap_meaning.specs.History.{Entry, Append, Agg, Flush, Start, Done, Drop, Evict, Answer, Saw, Load, entry_at, started, load_at, delivered, delivers, ends, evicts, flushed, flying, appended, kept, shutting, version, rows_of}
+use Rattle.olap_meaning.specs.History.{Entry, Append, Agg, Flush, Start, Done, Drop, Evict, Answer, Saw, Load, entry_at, started, load_at, delivered, delivers, ends, evicts, flushed, flying, kept, shutting, version}
 use Rattle.olap_meaning.specs.Legal.{Legal}
-use Rattle.olap_meaning.proofs.Positions.{get_last, get_push, entry-append, entry_from-take, entry_within, after_passes}
+use Rattle.olap_meaning.proofs.Positions.{get_last, get_push, entry-append, entry_within, after_passes}
 use Rattle.olap_meaning.proofs.Loads.{load_start, start_load}
 use Rattle.olap_meaning.proofs.Shutting.{shutting_grows}
-use Rattle.olap_meaning.proofs.Steps.{ended_flew, none_evicted}
+use Rattle.olap_meaning.proofs.Steps.{none_evicted}
 use Rattle.olap_meaning.proofs.Versions.{versions_rise}
+use Rattle.olap_meaning.proofs.Sources.{unended}
 
 -- a load that was started
 pub some_load : (o : Option Load) → is_some o ≡ true → (load : Load) × (o ≡ Some load)
@@ -136,42 +134,10 @@ pub shutting_on : (history : List Entry) (entry : Entry) (j : ℕ) (load : Load)
 shutting_on history entry j load at none =
     shutting_grows history entry j load at ∙ ap (λ (o : Option Region). shutting history j ++ concerning load.header (option_to_list o)) none ∙ append-nil (shutting history j)
 
--- in a legal history only loads that were started are ended
-pub unended : (setting : Setting) (history : List Entry) → Legal setting history → list_any (ends (suc (length history))) history ≡ false
-unended setting history legal = false_from_ne_true _ none
-  where
-    within : (q : ℕ) (e : Entry) (j : ℕ) → entry_at history q ≡ Some e → ends j e ≡ true → j ≤ length history
-    within zero e j at f = absurd (cc)
-    within (suc b) e j at f =
-        let flew = flying_parts (take b history) j (ended_flew setting (take b history) e j (legal b e at) f) in
-        (entry_within history j (Start flew.0) (entry_from-take b history j (Start flew.0) (load_start (take b history) j flew.0 flew.1)).0).1
-
-    none : list_any (ends (suc (length history))) history ≡ true → ⊥
-    none h =
-        let found : (q : ℕ) × (e : Entry) × (entry_at history q ≡ Some e) × (0 < q) × (ends (suc (length history)) e ≡ true) = after_passes (ends (suc (length history))) 0 history h in
-        let l : suc (length history) ≤ length history = within found.0 found.1 (suc (length history)) found.2 found.4 in
-        omega (arith, l)
-
 -- a load that is started flies
 pub starts_flying : (setting : Setting) (history : List Entry) (load : Load) → Legal setting history → flying (history ++ Start load ∷ []) (suc (length history)) ≡ true
 starts_flying setting history load legal =
     flying_from (history ++ Start load ∷ []) (suc (length history)) load (load_last history (Start load)) (any_none (ends (suc (length history))) history (Start load) (unended setting history legal) refl)
-
--- the version is the number of the cube's appends
-pub version-length : (history : List Entry) (cube : ℕ) → version history cube ≡ length (filter_map (appended cube) history)
-version-length history cube = sym (is_count_by (λ (entries : List Entry). length (filter_map (appended cube) entries)) (λ entry. is_some (appended cube entry)) refl step history)
-  where
-    step : (entry : Entry) (entries : List Entry) → length (filter_map (appended cube) (entry ∷ entries)) ≡ cond (is_some (appended cube entry)) (1 + length (filter_map (appended cube) entries)) (length (filter_map (appended cube) entries))
-    step entry entries = by (appended cube entry) refl
-      where
-        by : (o : Option (List Row)) → appended cube entry ≡ o → length (filter_map (appended cube) (entry ∷ entries)) ≡ cond (is_some (appended cube entry)) (1 + length (filter_map (appended cube) entries)) (length (filter_map (appended cube) entries))
-        by None e = rw e refl
-        by (Some rows) e = rw e (omega arith)
-
-pub rows_on : (history : List Entry) (entry : Entry) (cube v : ℕ) → v ≤ version history cube → rows_of (history ++ entry ∷ []) cube v ≡ rows_of history cube v
-rows_on history entry cube v l =
-    ap (λ (batches : List (List Row)). flat_map (λ rows. rows) (take v batches)) (filter_map-append (appended cube) history (entry ∷ []))
-    ∙ ap (λ (batches : List (List Row)). flat_map (λ rows. rows) batches) (take-append-le v (filter_map (appended cube) history) (filter_map (appended cube) (entry ∷ [])) (omega (arith, l, version-length history cube)))
 
 -- a load is of a version that its cube had
 pub recorded : (setting : Setting) (history : List Entry) (j : ℕ) (load : Load) → Legal setting history → load_at history j ≡ Some load → load.version ≤ version history load.header.cube

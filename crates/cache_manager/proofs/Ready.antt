@@ -6,14 +6,15 @@ use Rattle.std.proofs.lemmas.Bool.{and_from, and_parts, both_ways, false_from_ne
 use Rattle.std.proofs.lemmas.List.{append-nil}
 use Rattle.std.proofs.lemmas.List.Elements.{All-cons, All-head, All-nil, All-tail, All-weaker}
 use Rattle.std.proofs.lemmas.List.Folds.{list_any-append}
-use Rattle.std.proofs.lemmas.Option.{slice_get-map}
+use Rattle.std.proofs.lemmas.Option.{slice_get-map, slice_get_within}
+use Rattle.cell_groups.proofs.Alike.{Alike, alike_from, alike_self, alike_told}
 use Rattle.olap_meaning.specs.declared.cells.Cell.{Cell}
 use Rattle.olap_meaning.specs.declared.cells.Header.{Header}
 use Rattle.olap_meaning.specs.declared.cells.Who.{Who}
 use Rattle.olap_meaning.specs.Covering.{header_covers, just_covers, names_column}
 use Rattle.olap_meaning.specs.History.{Entry, Start, Load, entry_at, evicts, exact_source, flushed_after, flushes, is_some_and, kept, live, load_at, load_covers, load_just_covers}
 use Rattle.olap_meaning.proofs.Loads.{live_load, live_on, load_start, some_and, start_load}
-use Rattle.olap_meaning.proofs.Positions.{after_passes, entry-append, entry_within, latest_bounds, latest_found}
+use Rattle.olap_meaning.proofs.Positions.{after_passes, entry_within, get-append, latest_bounds, latest_found}
 use Rattle.olap_meaning.specs.declared.tables.Catalog.{Catalog}
 use Rattle.history_core.specs.Answers.{HasSource}
 use Rattle.history_core.specs.Cache.{CacheOf}
@@ -22,9 +23,11 @@ use Rattle.segment_header.specs.Widening.{Allowing, Serves}
 use Rattle.olap_meaning.specs.Legal.{has_source, is_cell}
 use Rattle.olap_meaning.specs.Rolled.{IsRolled, IsRolledSource, Offer, has_rolled_source, offered, value_count}
 use Rattle.olap_meaning.proofs.RolledSources.{rolled_decided, rolled_found}
+use Rattle.olap_meaning.proofs.Lists.{any_at}
+use Rattle.olap_meaning.proofs.Growing.{load_stays}
 use Rattle.history_core.specs.Groups.{numbers_from}
 use Rattle.cache_manager.specs.Laws.{DeliveredLooksAreReady}
-use Rattle.cache_manager.proofs.Grouping.{alike_from, alike_self, alike_told, group_covered, kept_place, serving_header, Alike}
+use Rattle.cache_manager.proofs.Grouping.{group_covered, kept_place, serving_header}
 
 -- a load that serves a cell makes for an exact source
 serves_source : (entries : List Entry) (j : ℕ) (cell : Cell) (load : Load) → load_at entries j ≡ Some load → live entries j cell ≡ true → load_just_covers entries j cell ≡ true → is_some (exact_source entries cell) ≡ true
@@ -32,10 +35,6 @@ serves_source entries j cell load at lives covers =
     let within = entry_within entries j (Start load) (load_start entries j load at) in
     let found : (m : ℕ) × (exact_source entries cell ≡ Some m) × (j ≤ m) = latest_bounds (length entries) (λ k. live entries k cell && load_just_covers entries k cell) j (and_from _ _ lives covers) within.0 within.1 in
     ap is_some found.1
-
--- loads stay where they are
-load_stays : (entries later : List Entry) (j : ℕ) (load : Load) → load_at entries j ≡ Some load → load_at (entries ++ later) j ≡ Some load
-load_stays entries later j load at = start_load (entries ++ later) j load (entry-append entries later j (Start load) (load_start entries j load at))
 
 -- and stay live where nothing flushes the cell or evicts them
 live_stays : (entries later : List Entry) (j : ℕ) (cell : Cell) → list_any (flushes cell) later ≡ false → list_any (evicts j) later ≡ false → live entries j cell ≡ true → live (entries ++ later) j cell ≡ true
@@ -52,11 +51,6 @@ get_rest : {A : Type 0} (xs ys : List A) (i : ℕ) (x : A) → length xs ≤ i �
 get_rest [] ys i x l at = (i, at)
 get_rest (z ∷ zs) ys zero x l at = absurd (omega (arith, l))
 get_rest (z ∷ zs) ys (suc i) x l at = get_rest zs ys i x (omega (arith, l)) at
-
-any_at : {A : Type 0} (test : A → Bool) (xs : List A) (k : ℕ) (x : A) → slice_get xs k ≡ Some x → test x ≡ true → list_any test xs ≡ true
-any_at test [] k x at t = absurd (cc)
-any_at test (y ∷ ys) zero x at t = let same : y ≡ x = cc in or_left _ _ (ap test same ∙ t)
-any_at test (y ∷ ys) (suc k) x at t = or_right _ _ (any_at test ys k x at t)
 
 -- no flush after a load of the rest, where the rest flushes nothing of a cell
 unflushed_rest : (entries rest : List Entry) (j : ℕ) (cell : Cell) → length entries ≤ j → list_any (flushes cell) rest ≡ false → flushed_after (entries ++ rest) j cell ≡ false
@@ -82,11 +76,6 @@ starts_evict_none j (load ∷ loads) later none = starts_evict_none j loads late
 get_of_rest : {A : Type 0} (xs ys : List A) (k : ℕ) (y : A) → slice_get ys k ≡ Some y → slice_get (xs ++ ys) (length xs + k) ≡ Some y
 get_of_rest [] ys k y at = let e : 0 + k ≡ k = omega arith in ap (slice_get ys) e ∙ at
 get_of_rest (x ∷ xs) ys k y at = let e : length (x ∷ xs) + k ≡ suc (length xs + k) = omega arith in ap (slice_get (x ∷ (xs ++ ys))) e ∙ get_of_rest xs ys k y at
-
-get_front : {A : Type 0} (xs ys : List A) (k : ℕ) (x : A) → slice_get xs k ≡ Some x → slice_get (xs ++ ys) k ≡ Some x
-get_front [] ys k x at = absurd (cc)
-get_front (z ∷ zs) ys zero x at = at
-get_front (z ∷ zs) ys (suc k) x at = get_front zs ys k x at
 
 -- the first cell of the group of a cell
 abbrev FirstOf : List Cell → Cell → Type 0
@@ -122,16 +111,11 @@ first_of before (d ∷ ds) i cell at = by (list_any (alike d) before) refl i at 
           | inr found ↦ later e found
         ]
 
--- one of so many numbers
+-- one of this many numbers
 number_at : (P : ℕ → Type 0) (first count k : ℕ) → All P (numbers_from first count) → k < count → P (first + k)
 number_at P first zero k all l = absurd (omega (arith, l))
 number_at P first (suc count) zero all l = let e : first + 0 ≡ first = omega arith in subst P (sym e) (All-head P first (numbers_from (suc first) count) all)
 number_at P first (suc count) (suc k) all l = let e : first + suc k ≡ suc first + k = omega arith in subst P (sym e) (number_at P (suc first) count k (All-tail P first (numbers_from (suc first) count) all) (omega (arith, l)))
-
-get_within : {A : Type 0} (xs : List A) (k : ℕ) (x : A) → slice_get xs k ≡ Some x → k < length xs
-get_within [] k x at = absurd (cc)
-get_within (y ∷ ys) zero x at = omega arith
-get_within (y ∷ ys) (suc k) x at = let l = get_within ys k x at in omega (arith, l)
 
 -- whatever allows the values of headers, they serve
 pub serving_headers : (allowing : Allowing) (catalog : Catalog) (wanted : List Cell) (headers : List Header) → AreHeadersFor allowing catalog wanted headers → AreHeadersFor Serves catalog wanted headers
@@ -185,8 +169,8 @@ module _ (cache : CacheOf) (who : Who) (cells : List Cell) (headers : List Heade
               let start : slice_get (map Start loads) k ≡ Some (Start (load_with cache who first header)) = slice_get-map Start loads k ∙ ap (option_map Start) load in
               let number : length cache.entries + 1 + k ≡ suc (length cache.entries + k) = omega arith in
               let at_final : load_at final (suc (length cache.entries + k)) ≡ Some (load_with cache who first header) =
-              start_load final (suc (length cache.entries + k)) (load_with cache who first header) (get_of_rest cache.entries (map Start loads ++ later) k _ (get_front (map Start loads) later k _ start)) in
-              let delivered : kept final (suc (length cache.entries + k)) ≡ true = subst (λ (j : ℕ). kept final j ≡ true) number (number_at (λ j. IsTrue (kept final j)) (length cache.entries + 1) (load_count cache cells) k all (get_within (firsts [] wanted) k first place)) in
+              start_load final (suc (length cache.entries + k)) (load_with cache who first header) (get_of_rest cache.entries (map Start loads ++ later) k _ (get-append (map Start loads) later k _ start)) in
+              let delivered : kept final (suc (length cache.entries + k)) ≡ true = subst (λ (j : ℕ). kept final j ≡ true) number (number_at (λ j. IsTrue (kept final j)) (length cache.entries + 1) (load_count cache cells) k all (slice_get_within (firsts [] wanted) k first place)) in
               let just : load_just_covers final (suc (length cache.entries + k)) cell ≡ true = ap (is_some_and (λ (l : Load). just_covers l.header cell)) at_final ∙ covers in
               let wide : load_covers final (suc (length cache.entries + k)) cell ≡ true =
               ap (is_some_and (λ (l : Load). header_covers l.header cell)) at_final

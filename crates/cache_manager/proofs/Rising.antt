@@ -1,22 +1,9 @@
 -- Rising lists of the same numbers.
-use Rattle.std.proofs.Common.{◌≡◌, refl, sym, ◌∙◌, ap, ℕ, ◌<◌, List, [], ◌∷◌, true, false, ◌==◌, inl, inr, arith}
-use Rattle.std.specs.Prelude.{nat_lt}
-use Rattle.std.specs.List.{list_all}
-use Rattle.std.proofs.lemmas.Bool.{and_parts, eq-eqb, eqb-true, false_from_ne_true, ltb-true, or_cases, or_left, or_right}
+use Rattle.std.proofs.Common.{◌≡◌, refl, sym, ◌∙◌, ap, ℕ, ◌<◌, List, [], ◌∷◌, true, ◌==◌, inl, inr, arith}
+use Rattle.std.proofs.lemmas.Bool.{and_parts, eq-eqb, eqb-true, or_cases, or_left, or_right}
 use Rattle.olap_meaning.specs.Covering.{among}
 use Rattle.olap_meaning.specs.Legal.{rise}
-
--- a number above one is not that one
-pub above_one : (a b : ℕ) → a < b → (a == b) ≡ false
-above_one a b l = false_from_ne_true (a == b) (λ h. let e : a ≡ b = eqb-true a b h in absurd (omega (arith, e, l)))
-
--- what is among numbers that are above one is above it
-above_of : (x : ℕ) (xs : List ℕ) (v : ℕ) → list_all (nat_lt x) xs ≡ true → among xs v ≡ true → x < v
-above_of x [] v all h = absurd (cc)
-above_of x (y ∷ ys) v all h = elim (or_cases (y == v) (among ys v) h) [
-  | inl here ↦ let e : y ≡ v = eqb-true y v here in let l : x < y = ltb-true x y (and_parts _ _ all).0 in omega (arith, e, l)
-  | inr there ↦ above_of x ys v (and_parts _ _ all).1 there
-]
+use Rattle.olap_meaning.proofs.Orders.{above_of}
 
 among_rest : (y : ℕ) (ys : List ℕ) (v : ℕ) → y < v → among (y ∷ ys) v ≡ true → among ys v ≡ true
 among_rest y ys v l h = elim (or_cases (y == v) (among ys v) h) [ inl here ↦ let e : y ≡ v = eqb-true y v here in absurd (omega (arith, e, l)) | inr there ↦ there ]

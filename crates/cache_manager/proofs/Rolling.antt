@@ -1,11 +1,14 @@
 -- What joins a rollup, and which plan is one for more cells.
-use Rattle.std.proofs.Common.{◌≡◌, ◌≢◌, refl, sym, ◌∙◌, ap, subst, ℕ, zero, suc, ◌<◌, List, [], ◌∷◌, ◌++◌, length, map, filter, Bool, true, not, ◌&&◌, ◌||◌, ◌==◌, Option, Some, None, option_and_then, slice_get, slice_set, arith, All, Contains, ◌⊎◌, inl, inr}
+use Rattle.std.proofs.Common.{◌≡◌, ◌≢◌, refl, sym, ◌∙◌, ap, subst, ℕ, zero, suc, ◌<◌, List, [], ◌∷◌, ◌++◌, length, map, filter, true, not, ◌&&◌, Option, Some, None, option_and_then, slice_get, slice_set, arith, All, Contains, ◌⊎◌, inl, inr}
 use Rattle.std.specs.Prelude.{IsTrue}
 use Rattle.std.specs.List.{list_all, list_any}
 use Rattle.std.proofs.lemmas.Bool.{and_from, and_parts, cases_eq}
 use Rattle.std.proofs.lemmas.List.{length_push}
-use Rattle.std.proofs.lemmas.List.Elements.{All-cons, All-contains, All-head, All-nil, All-tail}
+use Rattle.std.proofs.lemmas.List.Elements.{All-cons, All-contains, All-head, All-nil, All-push, All-tail}
 use Rattle.std.proofs.lemmas.List.Folds.{list_all-append}
+use Rattle.std.proofs.lemmas.Option.{slice_get_within}
+use Rattle.segment_body.proofs.CellFacts.{named_among}
+use Rattle.cell_groups.proofs.Alike.{Alike, alike_told}
 use Rattle.olap_meaning.specs.declared.cells.Allowed.{Allowed}
 use Rattle.olap_meaning.specs.declared.cells.Cell.{Cell}
 use Rattle.olap_meaning.specs.declared.tables.Catalog.{Catalog}
@@ -18,6 +21,7 @@ use Rattle.olap_meaning.specs.Worth.{measure_of}
 use Rattle.olap_meaning.proofs.Loads.{some_and}
 use Rattle.olap_meaning.proofs.Members.{All-from_member, all_member, filter_member, map_member, member_map}
 use Rattle.olap_meaning.proofs.Positions.{get-append, get_last}
+use Rattle.olap_meaning.proofs.Lists.{holds_at}
 use Rattle.history_core.specs.Groups.{alike}
 use Rattle.cache_flush.specs.Loads.{KeptOf, is_candidate}
 use Rattle.cache_flush.specs.Shuts.{is_live}
@@ -27,18 +31,11 @@ use Rattle.rollup_plan.specs.declared.plan.Part.{Part}
 use Rattle.rollup_plan.specs.declared.plan.Plan.{Plan}
 use Rattle.cache_manager.specs.Rollups.{AreKept, GoOn, HasJoined, IsBegun, IsPlanFor, IsRollup, MayJoin, all_alike, candidates_for, cell_at, planned}
 use Rattle.cache_manager.specs.declared.rollups.Rollup.{Rollup}
-use Rattle.cache_manager.proofs.Finding.{all_more}
-use Rattle.cache_manager.proofs.Grouping.{Alike, alike_told}
 use Rattle.cache_manager.proofs.Sourcing.{candidate_at, contained_among}
-
--- which columns a cell names is told by its columns
-named_by : (pairs : List (ℕ × ℕ)) (column : ℕ) → list_any (λ pair. pair.0 == column) pairs ≡ among (map (λ pair. pair.0) pairs) column
-named_by [] column = refl
-named_by (pair ∷ pairs) column = ap (λ (b : Bool). (pair.0 == column) || b) (named_by pairs column)
 
 module _ (first cell : Cell) (like : Alike first cell) where
   same_names : (column : ℕ) → names_column cell column ≡ names_column first column
-  same_names column = named_by cell.at column ∙ ap (λ (cs : List ℕ). among cs column) (sym like.columns) ∙ sym (named_by first.at column)
+  same_names column = named_among cell.at column ∙ ap (λ (cs : List ℕ). among cs column) (sym like.columns) ∙ sym (named_among first.at column)
 
   same_measure : (catalog : Catalog) → measure_of catalog cell ≡ measure_of catalog first
   same_measure catalog =
@@ -100,16 +97,6 @@ set_all P [] i x all here = all
 set_all P (y ∷ ys) zero x all here = All-cons P x ys here (All-tail P y ys all)
 set_all P (y ∷ ys) (suc i) x all here = All-cons P y (slice_set ys i x) (All-head P y ys all) (set_all P ys i x (All-tail P y ys all) here)
 
-get_below : {A : Type 0} (xs : List A) (i : ℕ) (x : A) → slice_get xs i ≡ Some x → i < length xs
-get_below [] i x at = absurd (cc)
-get_below (y ∷ ys) zero x at = omega arith
-get_below (y ∷ ys) (suc i) x at = let l = get_below ys i x at in omega (arith, l)
-
-get_of : {A : Type 0} (P : A → Type 0) (xs : List A) (i : ℕ) (x : A) → All P xs → slice_get xs i ≡ Some x → P x
-get_of P [] i x all e = absurd (cc)
-get_of P (y ∷ ys) zero x all e = let same : y ≡ x = cc in subst P same (All-head P y ys all)
-get_of P (y ∷ ys) (suc i) x all e = get_of P ys i x (All-tail P y ys all) e
-
 alike_more : (cells : List Cell) (first cell : Cell) → slice_get cells 0 ≡ Some first → all_alike cells ≡ true → alike first cell ≡ true → all_alike (cells ++ cell ∷ []) ≡ true
 alike_more [] first cell at all like = absurd (cc)
 alike_more (c ∷ cs) first cell at all like =
@@ -128,13 +115,13 @@ module _ (before after : List Rollup) (number place : ℕ) (cell : Cell) (joined
       by (inr other) = ap (option_and_then (λ rollup. slice_get rollup.cells.items p)) (ap (λ (rs : List Rollup). slice_get rs n) joined.changed ∙ set_other before number n joined.joined other) ∙ at
       by (inl same) =
           let here : slice_get joined.was.cells.items p ≡ Some c = sym (ap (option_and_then (λ rollup. slice_get rollup.cells.items p)) (ap (slice_get before) same ∙ was)) ∙ at in
-          ap (option_and_then (λ rollup. slice_get rollup.cells.items p)) (ap (λ (rs : List Rollup). slice_get rs n) joined.changed ∙ ap (slice_get (slice_set before number joined.joined)) same ∙ set_at before number joined.joined (get_below before number joined.was was))
+          ap (option_and_then (λ rollup. slice_get rollup.cells.items p)) (ap (λ (rs : List Rollup). slice_get rs n) joined.changed ∙ ap (slice_get (slice_set before number joined.joined)) same ∙ set_at before number joined.joined (slice_get_within before number joined.was was))
           ∙ ap (λ (cells : List Cell). slice_get cells p) joined.cells ∙ get-append joined.was.cells.items (cell ∷ []) p c here
 
   -- and the cell that has joined stands at its place
   pub joined_at : cell_at after number place ≡ Some cell
   joined_at =
-      ap (option_and_then (λ rollup. slice_get rollup.cells.items place)) (ap (λ (rs : List Rollup). slice_get rs number) joined.changed ∙ set_at before number joined.joined (get_below before number joined.was joined.at))
+      ap (option_and_then (λ rollup. slice_get rollup.cells.items place)) (ap (λ (rs : List Rollup). slice_get rs number) joined.changed ∙ set_at before number joined.joined (slice_get_within before number joined.was joined.at))
       ∙ ap (λ (cells : List Cell). slice_get cells place) joined.cells ∙ ap (slice_get (joined.was.cells.items ++ cell ∷ [])) joined.place_is ∙ get_last joined.was.cells.items cell
 
   -- rollups stay what they are
@@ -151,7 +138,7 @@ module _ (before after : List Rollup) (number place : ℕ) (cell : Cell) (joined
       same = cc both
 
       own : IsRollup catalog entries loads joined.was
-      own = get_of (IsRollup catalog entries loads) before number joined.was all joined.at
+      own = holds_at (IsRollup catalog entries loads) before number joined.was all joined.at
 
       may_here : MayJoin loads joined.was cell
       may_here = subst (λ (r : Rollup). MayJoin loads r cell) same may
@@ -161,7 +148,7 @@ module _ (before after : List Rollup) (number place : ℕ) (cell : Cell) (joined
 
       planned_here : IsPlanFor catalog loads joined.was.plan cell
       planned_here =
-          serves_too catalog entries loads kept joined.was.plan may_here.first cell like (get_of (IsPlanFor catalog loads joined.was.plan) joined.was.cells.items 0 may_here.first own.planned_for may_here.is_first)
+          serves_too catalog entries loads kept joined.was.plan may_here.first cell like (holds_at (IsPlanFor catalog loads joined.was.plan) joined.was.cells.items 0 may_here.first own.planned_for may_here.is_first)
           may_here.served may_here.rolls
 
       here : IsRollup catalog entries loads joined.joined
@@ -170,10 +157,10 @@ module _ (before after : List Rollup) (number place : ℕ) (cell : Cell) (joined
         named = joined.loads ∙ own.named ∙ ap planned (sym joined.plan);
         same = ap all_alike joined.cells ∙ alike_more joined.was.cells.items may_here.first cell may_here.is_first own.same may_here.same;
         known = ap (list_all (is_cell catalog)) joined.cells ∙ list_all-append (is_cell catalog) joined.was.cells.items (cell ∷ []) ∙ and_from _ _ own.known (and_from (is_cell catalog cell) true known refl);
-        unserved = subst (All (λ c. exact_source entries c ≡ None)) (sym joined.cells) (all_more (λ c. exact_source entries c ≡ None) joined.was.cells.items cell own.unserved none);
+        unserved = subst (All (λ c. exact_source entries c ≡ None)) (sym joined.cells) (All-push (λ c. exact_source entries c ≡ None) joined.was.cells.items cell own.unserved none);
         planned_for =
             subst (λ (p : Plan). All (IsPlanFor catalog loads p) joined.joined.cells.items) (sym joined.plan)
-            (subst (All (IsPlanFor catalog loads joined.was.plan)) (sym joined.cells) (all_more (IsPlanFor catalog loads joined.was.plan) joined.was.cells.items cell own.planned_for planned_here));
+            (subst (All (IsPlanFor catalog loads joined.was.plan)) (sym joined.cells) (All-push (IsPlanFor catalog loads joined.was.plan) joined.was.cells.items cell own.planned_for planned_here));
       }
 
 -- a rollup that was begun is one

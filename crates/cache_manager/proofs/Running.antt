@@ -149,10 +149,6 @@ map_remove f [] (suc i) = refl
 map_remove f (x ∷ xs) zero = refl
 map_remove f (x ∷ xs) (suc i) = ap (λ ys. f x ∷ ys) (map_remove f xs i)
 
-pub length_map : {A B : Type 0} (f : A → B) (xs : List A) → length (map f xs) ≡ length xs
-length_map f [] = refl
-length_map f (x ∷ xs) = ap suc (length_map f xs)
-
 -- the entry that ends the load of a job that is out
 pub ending_is : (cache : CacheOf) (jobs : List JobOf) (n i : ℕ) (job : JobOf) (end : Who → ℕ → Entry) → All (IsJobOf cache) jobs → i < length jobs → job ≡ get_or jobs i job → ending end (stage_of cache jobs n) i ≡ end job.who job.load ∷ []
 ending_is cache [] n i job end all l at = absurd (omega (arith, l))
@@ -207,7 +203,7 @@ map_same : {A : Type 0} (xs : List A) → map (λ x. x) xs ≡ xs
 map_same [] = refl
 map_same (x ∷ xs) = ap (λ ys. x ∷ ys) (map_same xs)
 
--- a run stops behind a call, of which the reply is lost
+-- a run stops after a call, of which the reply is lost
 pub stopped : (allowing : Allowing) (s t : Setting) (calls made : List Call) (replies : List Reply) (call : Call) (reply : Reply) (stage : Stage) (before middle after : ℕ) → t ≡ s → map (λ (k : Call). k) made ≡ take (length made) calls → length made < length calls → call ≡ get_or calls (length made) call
     → MayReplyAll allowing (first_stage t) made replies → stage ≡ stage_after (first_stage t) made replies → MayFollow allowing stage call reply → middle ≤ before + rows_over rows_tried (first_stage t) made replies → after ≤ middle + rows_tried stage call reply
     → IsStopped allowing (first_stage s) calls before after

@@ -12,11 +12,11 @@ use Rattle.history_core.specs.Groups.{wanting}
 use Rattle.cache_flush.specs.Loads.{KeptOf}
 use Rattle.cache_manager.specs.Found.{AreServed, IsHit, IsPlaced, cells_of, source_found, wants}
 use Rattle.cell_groups.specs.Lent.{lent}
+use Rattle.cell_groups.proofs.GroupFacts.{length-lent}
 use Rattle.cache_manager.specs.Rollups.{AreKept, IsRollup}
 use Rattle.cache_manager.specs.declared.findings.Hit.{Hit}
 use Rattle.cache_manager.specs.declared.rollups.Rollup.{Rollup}
 use Rattle.cache_manager.proofs.Finding.{none_wants, placed_found, sources_found, wanting_found}
-use Rattle.cache_manager.proofs.Lending.{length-lent}
 
 cells_sourced : (rollups : List Rollup) (hits : List Hit) → map (λ source. source.cell) (map (source_found rollups) hits) ≡ cells_of hits
 cells_sourced rollups [] = refl

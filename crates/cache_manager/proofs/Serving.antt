@@ -1,5 +1,5 @@
 -- The kept load that serves a cell is its exact source.
-use Rattle.std.proofs.Common.{◌≡◌, refl, sym, ◌∙◌, ap, ℕ, zero, suc, ◌≤◌, List, [], ◌∷◌, length, map, Bool, true, false, cond, not, ◌&&◌, ◌==◌, inl, inr, Option, Some, None, option_map, arith, le_antisymm, All}
+use Rattle.std.proofs.Common.{◌≡◌, sym, ◌∙◌, ap, ℕ, ◌≤◌, List, [], ◌∷◌, length, map, Bool, true, false, not, ◌&&◌, ◌==◌, inl, inr, Option, Some, None, option_map, arith, All}
 use Rattle.std.specs.Prelude.{IfSome, option_copied}
 use Rattle.std.specs.Borrow.{Bor}
 use Rattle.std.specs.List.{list_all, list_any}
@@ -9,11 +9,11 @@ use Rattle.olap_meaning.specs.declared.cells.Cell.{Cell}
 use Rattle.olap_meaning.specs.declared.cells.Header.{Header}
 use Rattle.olap_meaning.specs.declared.tables.Catalog.{Catalog}
 use Rattle.olap_meaning.specs.Covering.{among, header_covers, just_covers, names_column, region_covers}
-use Rattle.olap_meaning.specs.History.{Entry, Load, exact_source, flushed_after, is_some_and, kept, latest, live, load_at, load_covers, load_just_covers}
+use Rattle.olap_meaning.specs.History.{Entry, Load, exact_source, flushed_after, is_some_and, kept, live, load_at, load_covers, load_just_covers}
 use Rattle.olap_meaning.specs.Worth.{answered_version, value, worth}
 use Rattle.olap_meaning.proofs.Loads.{live_parts, some_and}
-use Rattle.olap_meaning.proofs.Positions.{latest_bounds, latest_found}
 use Rattle.olap_meaning.proofs.Shutting.{regions_shut_off}
+use Rattle.olap_meaning.proofs.Sources.{latest_is, none_latest}
 use Rattle.fact_reader.specs.BodyRows.{body_value}
 use Rattle.fact_reader.proofs.LawFacts.{held_rows_are_worth_in_versions}
 use Rattle.cache_flush.specs.declared.kept.Kept.{Kept}
@@ -22,18 +22,6 @@ use Rattle.cache_flush.specs.Loads.{IsGreatest, KeptOf, kept_of}
 use Rattle.cache_flush.specs.Shuts.{is_live}
 use Rattle.cache_manager.specs.Kept.{IsKept}
 use Rattle.cache_manager.proofs.Pushes.{load_within}
-
--- the latest position that passes, by its two facts
-latest_is : (n : ℕ) (test : ℕ → Bool) (k : ℕ) → test k ≡ true → 1 ≤ k → k ≤ n → ((i : ℕ) → i ≤ n → test i ≡ true → i ≤ k) → latest n test ≡ Some k
-latest_is n test k t one l most =
-    let b : (m : ℕ) × (latest n test ≡ Some m) × (k ≤ m) = latest_bounds n test k t one l in
-    let found : (test b.0 ≡ true) × (1 ≤ b.0) × (b.0 ≤ n) = latest_found n test b.0 b.1 in
-    b.1 ∙ ap Some (le_antisymm (most b.0 found.2 found.0) b.2)
-
--- there is none where none passes
-pub none_latest : (n : ℕ) (test : ℕ → Bool) → ((k : ℕ) → k ≤ n → test k ≡ false) → latest n test ≡ None
-none_latest zero test none = refl
-none_latest (suc n) test none = ap (λ b. cond b (Some (suc n)) (latest n test)) (none (suc n) (omega arith)) ∙ none_latest n test (λ k l. none k (omega (arith, l)))
 
 -- a kept load by its number, with what holds of all
 pub load_among :

@@ -5,6 +5,7 @@ use Rattle.std.specs.Borrow.{Bor}
 use Rattle.std.specs.List.{cons_option, find}
 use Rattle.std.proofs.lemmas.Bool.{both_ways, eq-eqb, eqb-true, or_cases, or_left, or_right}
 use Rattle.std.proofs.lemmas.List.Elements.{All-head, All-tail}
+use Rattle.cell_groups.proofs.HeaderFacts.{passing_there, rise_passing, there_passes}
 use Rattle.olap_meaning.specs.declared.cells.Header.{Header}
 use Rattle.olap_meaning.specs.declared.tables.Catalog.{Catalog}
 use Rattle.olap_meaning.specs.Covering.{among, touching}
@@ -18,7 +19,6 @@ use Rattle.cache_flush.specs.Loads.{KeptOf, kept_of}
 use Rattle.cache_manager.specs.Kept.{IsKept}
 use Rattle.history_core.specs.Shown.{cache_lines, kept_line, line_of}
 use Rattle.cache_manager.proofs.Managing.{numbers_kept}
-use Rattle.cache_manager.proofs.Numbers.{passing_there, rise_passing, there_passes}
 use Rattle.cache_manager.proofs.Pushes.{load_within}
 use Rattle.cache_manager.proofs.Rising.{same_rising}
 use Rattle.cache_manager.proofs.Serving.{load_among}

@@ -15,9 +15,10 @@ use Rattle.olap_meaning.specs.Legal.{IsSource, has_source}
 use Rattle.olap_meaning.specs.Rolled.{IsRolled, IsRolledSource, Offer, can_roll, header_columns, has_rolled_source, offered, value_count}
 use Rattle.olap_meaning.specs.Worth.{measure_of}
 use Rattle.olap_meaning.proofs.Loads.{live_load, live_parts}
-use Rattle.olap_meaning.proofs.Members.{All-from_member, any_member, filter_map_member, filter_member, map_member, member_any, member_filter_map, member_map}
+use Rattle.olap_meaning.proofs.Members.{All-from_member, any_member, filter_map_member, filter_member, map_member, member_filter_map, member_map}
 use Rattle.olap_meaning.proofs.RolledSources.{rolled_found}
 use Rattle.olap_meaning.proofs.Rolling.{some_roll}
+use Rattle.olap_meaning.proofs.Orders.{among_held}
 use Rattle.cache_flush.specs.Loads.{KeptOf, is_candidate, numbers_of}
 use Rattle.cache_flush.specs.Shuts.{is_live}
 use Rattle.rollup_plan.specs.Plans.{IsPlanned, is_candidate_at, kept_at, offer_of, offers_at}
@@ -25,10 +26,6 @@ use Rattle.rollup_plan.specs.declared.plan.Plan.{Plan}
 use Rattle.cache_manager.specs.Kept.{IsKept}
 use Rattle.cache_manager.specs.Rollups.{AreKept, IsPlanFor, candidates_for, planned}
 use Rattle.cache_manager.proofs.Serving.{flushed_told, kept_header}
-
--- a number that is among some
-pub among_contained : (numbers : List ℕ) (j : ℕ) → among numbers j ≡ true → Contains numbers j
-among_contained numbers j h = let found = member_any (λ v. v == j) numbers h in subst (Contains numbers) (eqb-true found.0 j found.2) found.1
 
 pub contained_among : (numbers : List ℕ) (j : ℕ) → Contains numbers j → among numbers j ≡ true
 contained_among numbers j held = any_member (λ v. v == j) numbers j held (eq-eqb j j refl)
@@ -141,7 +138,7 @@ module _ (catalog : Catalog) (entries : List Entry) where
           let number : among (candidates_for loads cell) j ≡ true =
           subst (λ (i : ℕ). among (candidates_for loads cell) i ≡ true) found.3
           (contained_among (candidates_for loads cell) found.0.load (map_member (λ (k : KeptOf). k.load) (filter (λ k. is_candidate k cell) loads) found.0 (filter_member (λ k. is_candidate k cell) loads found.0 found.2 candidate))) in
-          filter_map_member (λ number. option_map offer_of (kept_at loads number)) candidates j offer (among_contained candidates j (members j ∙ number)) (ap (option_map offer_of) found.1 ∙ ap Some same)
+          filter_map_member (λ number. option_map offer_of (kept_at loads number)) candidates j offer (among_held candidates j (members j ∙ number)) (ap (option_map offer_of) found.1 ∙ ap Some same)
 
       -- where the candidates can not be rolled up and there is no exact source, the cell has no source
       pub none_found : (candidates : List ℕ) → ((j : ℕ) → among candidates j ≡ among (candidates_for loads cell) j) → exact_source entries cell ≡ None

@@ -9,13 +9,13 @@ use Rattle.olap_meaning.specs.History.{Entry}
 use Rattle.olap_meaning.specs.Legal.{LegalStep}
 use Rattle.olap_meaning.specs.declared.cells.Cell.{Cell}
 use Rattle.olap_meaning.specs.declared.cells.Who.{Who}
+use Rattle.olap_meaning.proofs.Lists.{take_step}
 use Rattle.cache_manager.specs.declared.starts.Planned.{Planned}
 use Rattle.history_core.specs.Cache.{CacheOf}
 use Rattle.cache_flush.specs.Flights.{FlightOf, numbers_of}
 use Rattle.cache_manager.specs.Plans.{AreLegalSteps, AreNew, ArePrepared, IsPrepared, flight_for}
 use Rattle.segment_header.specs.Widening.{Allowing}
 use Rattle.history_core.specs.Groups.{alike}
-use Rattle.cache_manager.proofs.Fronts.{front_more}
 
 -- the step at a place is legal after those before it
 pub step_at : (setting : Setting) (history steps : List Entry) (k : ℕ) (entry : Entry) → AreLegalSteps setting history steps → slice_get steps k ≡ Some entry → LegalStep setting (history ++ take k steps) entry
@@ -35,7 +35,7 @@ next_legal setting history step all front x legal so_far within at =
     let fronts : take (length front) (map step all) ≡ map step front = take-map step (length front) all ∙ ap (map step) (sym so_far ∙ map-id front) in
     subst (λ (xs : List Entry). LegalStep setting (history ++ xs) (step x)) fronts (step_at setting history (map step all) (length front) (step x) legal there)
 
--- the number at a place is new behind those before it
+-- the number at a place is new after those before it
 new_at : (before numbers : List ℕ) (k n : ℕ) → AreNew before numbers → slice_get numbers k ≡ Some n → among (before ++ take k numbers) n ≡ false
 new_at before [] k n new at = absurd (cc)
 new_at before (m ∷ ms) zero n new at =
@@ -62,7 +62,7 @@ pub headers_more :
     (headers : List Header) (plans : List Planned) (i : ℕ) (p : Planned) → i < length plans → p ≡ get_or plans i p
     → headers ++ map (λ q. q.flight.header) (take (i + 1) plans) ≡ (headers ++ map (λ q. q.flight.header) (take i plans)) ++ p.flight.header ∷ []
 headers_more headers plans i p l is =
-    ap (λ (ps : List Planned). headers ++ map (λ (q : Planned). q.flight.header) ps) (front_more plans i p l is)
+    ap (λ (ps : List Planned). headers ++ map (λ (q : Planned). q.flight.header) ps) (take_step plans i p l is)
     ∙ ap (λ (hs : List Header). headers ++ hs) (map_push (λ (q : Planned). q.flight.header) (take i plans) p)
     ∙ sym (append_assoc headers (map (λ (q : Planned). q.flight.header) (take i plans)) (p.flight.header ∷ []))
 

@@ -1,5 +1,5 @@
 -- The rows of a version in a legal history are the cube's, and not too many; the columns of a load are the cube's.
-use Rattle.std.proofs.Common.{◌≡◌, refl, sym, ◌∙◌, ap, subst, ℕ, zero, suc, ◌+◌, ◌<◌, ◌≤◌, List, [], ◌∷◌, ◌++◌, length, filter_map, take, take_all, Bool, true, false, ◌==◌, Some, None, slice_get, arith, All, Contains}
+use Rattle.std.proofs.Common.{◌≡◌, refl, sym, ◌∙◌, ap, subst, ℕ, zero, suc, ◌+◌, ◌≤◌, List, [], ◌∷◌, ◌++◌, length, filter_map, take, take_all, Bool, true, false, ◌==◌, Some, None, slice_get, arith, All, Contains}
 use Rattle.std.specs.Prelude.{flat_map, sum_by}
 use Rattle.std.specs.List.{list_all}
 use Rattle.std.proofs.lemmas.Bool.{and_from, and_parts, eqb-true}
@@ -19,11 +19,7 @@ use Rattle.olap_meaning.specs.Rolled.{header_columns}
 use Rattle.olap_meaning.proofs.Loads.{covered_cube, load_start, some_and}
 use Rattle.olap_meaning.proofs.Members.{all_member, member_any, member_map}
 use Rattle.olap_meaning.proofs.Positions.{take-push}
-
-some_at : {A : Type 0} (xs : List A) (i : ℕ) → i < length xs → (x : A) × (slice_get xs i ≡ Some x)
-some_at [] i below = absurd (omega (arith, below))
-some_at (x ∷ xs) zero below = (x, refl)
-some_at (x ∷ xs) (suc i) below = some_at xs i (omega (arith, below))
+use Rattle.olap_meaning.proofs.Lists.{item_there}
 
 all_flat : {A : Type 0} (p : A → Bool) (xs : List (List A)) → All (λ ys. list_all p ys ≡ true) xs → list_all p (flat_map (λ ys. ys) xs) ≡ true
 all_flat p [] all = refl
@@ -74,7 +70,7 @@ module _ (setting : Setting) (entries : List Entry) (legal : Legal setting entri
   batches_known : (cube n : ℕ) → n ≤ length entries → All (λ rows. list_all (is_row setting.catalog cube) rows ≡ true) (filter_map (appended cube) (take n entries))
   batches_known cube zero l = All-nil _
   batches_known cube (suc n) l =
-      let entry : (e : Entry) × (slice_get entries n ≡ Some e) = some_at entries n (omega (arith, l)) in
+      let entry : (e : Entry) × (slice_get entries n ≡ Some e) = item_there entries n (omega (arith, l)) in
       rw (take-push entries n entry.0 entry.1, filter_map-append (appended cube) (take n entries) (entry.0 ∷ []))
       (All-append (λ rows. list_all (is_row setting.catalog cube) rows ≡ true) (filter_map (appended cube) (take n entries)) (filter_map (appended cube) (entry.0 ∷ [])) (batches_known cube n (omega (arith, l)))
       (by entry.0 (legal n entry.0 entry.1)))
@@ -109,7 +105,7 @@ module _ (setting : Setting) (entries : List Entry) (legal : Legal setting entri
   rows_within : (n : ℕ) → n ≤ length entries → rows_held (take n entries) ≤ setting.row_limit
   rows_within zero l = omega arith
   rows_within (suc n) l =
-      let entry : (e : Entry) × (slice_get entries n ≡ Some e) = some_at entries n (omega (arith, l)) in
+      let entry : (e : Entry) × (slice_get entries n ≡ Some e) = item_there entries n (omega (arith, l)) in
       rw (take-push entries n entry.0 entry.1) (by entry.0 (legal n entry.0 entry.1) (rows_within n (omega (arith, l))))
     where
       none : (e : Entry) → rows_added e ≡ 0 → rows_held (take n entries) ≤ setting.row_limit → rows_held (take n entries ++ e ∷ []) ≤ setting.row_limit

@@ -1,8 +1,10 @@
 -- The Starts of the groups of cells that have no source are legal, one after another.
 use Rattle.std.proofs.Common.{◌≡◌, refl, sym, ◌∙◌, ap, ℕ, suc, ◌+◌, List, [], ◌∷◌, ◌++◌, length, map, filter, Bool, true, false, not, ◌&&◌, ◌||◌, Some, None, slice_get, arith, Contains}
+use Rattle.std.proofs.Math.Bool.{and-true}
 use Rattle.std.specs.List.{AllZip, list_all, list_any, zip}
 use Rattle.std.proofs.lemmas.Bool.{and_parts, both_ways, false_from_ne_true, not-true, or_left, or_right}
 use Rattle.std.proofs.lemmas.List.Folds.{list_any-append}
+use Rattle.cell_groups.proofs.KeyFacts.{known_rises}
 use Rattle.olap_meaning.specs.declared.cells.Cell.{Cell}
 use Rattle.olap_meaning.specs.declared.cells.Header.{Header}
 use Rattle.olap_meaning.specs.declared.cells.Who.{Who}
@@ -17,11 +19,7 @@ use Rattle.olap_meaning.proofs.Sources.{awaited_load_grows}
 use Rattle.segment_header.specs.Widening.{Allowing}
 use Rattle.history_core.specs.Groups.{IsHeaderFor, alike, firsts, load_with}
 use Rattle.cache_manager.specs.Plans.{AreLegalSteps}
-use Rattle.cache_manager.proofs.Grouping.{covered_alike, group_covered, group_place, known_rises}
-
-and_true : (b : Bool) → (b && true) ≡ b
-and_true true = refl
-and_true false = refl
+use Rattle.cache_manager.proofs.Grouping.{covered_alike, group_covered, group_place}
 
 -- a cell has no source, and no load is awaited for it
 abbrev pub IsFree : Setting → List Entry → Cell → Type 0
@@ -34,7 +32,7 @@ still_free :
 still_free setting entries load cell legal other free = (
   starts_give_no_source setting entries load cell legal free.0,
   awaited_load_grows setting entries (Start load) cell legal ∙ rw other refl
-      ∙ latest_agree (length entries) (λ j. awaited entries j cell && not (ends j (Start load))) (λ j. awaited entries j cell) (λ j l. and_true (awaited entries j cell)) ∙ free.1,
+      ∙ latest_agree (length entries) (λ j. awaited entries j cell && not (ends j (Start load))) (λ j. awaited entries j cell) (λ j l. and-true (awaited entries j cell)) ∙ free.1,
 )
 
 module _ (allowing : Allowing) (setting : Setting) (history : List Entry) (who : Who) (wanted : List Cell) where

@@ -73,7 +73,7 @@ AreLegalSteps setting history [] = ⊤
 AreLegalSteps setting history (entry ∷ entries) =
     LegalStep setting history entry × AreLegalSteps setting (history ++ entry ∷ []) entries
 
--- numbers are put behind some, one after another, of which each is new
+-- numbers are put after some, one after another, of which each is new
 abbrev pub AreNew : List ℕ → List ℕ → Type 0
 AreNew before [] = ⊤
 AreNew before (number ∷ numbers) =

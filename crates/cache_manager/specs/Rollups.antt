@@ -71,7 +71,7 @@ pub record MayJoin (loads : List KeptOf) (rollup : Rollup) (cell : Cell) : Type 
   pub served : IsTrue (plan_serves loads rollup.plan cell)
   pub rolls : ServesAlike loads rollup.plan cell
 
--- a cell was added to a rollup, behind those that were there, and nothing else has changed
+-- a cell was added to a rollup, after those that were there, and nothing else has changed
 pub record HasJoined (before after : List Rollup) (number place : ℕ) (cell : Cell) : Type 0 where
   pub was : Rollup
   pub at : slice_get before number ≡ Some was

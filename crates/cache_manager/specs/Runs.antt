@@ -183,7 +183,7 @@ rows_delivered stage (Install seat table v) (Installed position) =
     version_rows stage.cache.setting.catalog stage.cache.entries table v
 rows_delivered stage call reply = 0
 
--- the most that it has read: where memory was wanting for a load or a table, some of that
+-- the most that it has read: where there was no memory for a load or a table, some of that
 abbrev pub rows_tried : Stage → Call → Reply → ℕ
 rows_tried stage (Deliver job) Ended = rows_of_job stage job
 rows_tried stage (Deliver job) OutOfMemory = rows_of_job stage job

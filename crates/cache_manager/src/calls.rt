@@ -163,7 +163,7 @@ fn run_look(
     }
 }
 
-/// Runs a job that is out and delivers what it has come to; where memory is wanting, the job stays out.
+/// Runs a job that is out and delivers what it has come to; where there is no memory, the job stays out.
 fn run_delivery<L: Ledger>(
     alloc: Global,
     manager: &mut Manager,
@@ -382,7 +382,7 @@ fn run_call<L: Ledger>(
 /// and each reply has its cause where its call was made.
 ///
 /// The steps are those of the loads that are delivered and of the tables that are built, and no others: each load takes what
-/// it costs, and each table the rows of its version. One that memory was wanting for takes so many at most. Where the run itself stops for want of
+/// it costs, and each table the rows of its version. One that there was no memory for takes this many at most. Where the run itself stops for want of
 /// memory, that is so of the calls that were made.
 pub fn run_calls<L: Ledger>(
     alloc: Global,

@@ -211,7 +211,7 @@ impl Manager {
 
     /// Flushes the cells of a region (Cache Control): no load that was started before serves them from now on. A load of
     /// which only some cells are covered serves the others on; that is so also of the loads in flight, once they are
-    /// delivered. It answers the position of its entry. All its room is made first: where memory is wanting, nothing has
+    /// delivered. It answers the position of its entry. All its room is made first: where there is no memory, nothing has
     /// changed.
     pub fn flush(&mut self, who: Who, region: Region) -> Result<u64, OutOfMemory>
         requires call { IsTrue (is_next_call self.old.entries who) }

@@ -42,7 +42,7 @@ refused_batch catalog cube bytes name why fault other named h is = by (slice_get
     by (Some c) n = let P : List ℕ → Type 0 = λ m. Comes (read_by (Batch m) (batch_of catalog cube bytes)) [] (Err fault) in subst P n (refused_by_reader (Batch name) (batch_of catalog cube bytes) BatchFault.OutOfMemory why fault other h is)
 
 -- the first cubes have their base batches, and whatever those of the other cubes lead to, those of all lead to it,
--- behind the first ones
+-- after the first ones
 pub record AreAppended (files : Option Files) (before now : List Fetched) (catalog : Catalog) (n : ℕ) (entries : List Entry) : Type 0 where
   pub batches : List (List Row)
   pub count : length batches ≡ n

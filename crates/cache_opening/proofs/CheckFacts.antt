@@ -4,6 +4,7 @@ use Rattle.std.specs.Option.{option_map_or}
 use Rattle.olap_meaning.specs.declared.tables.Catalog.{Catalog}
 use Rattle.olap_meaning.specs.Catalog.{table_cube}
 use Rattle.olap_meaning.specs.History.{Entry, rows_of, version}
+use Rattle.olap_meaning.proofs.Lists.{mapped_from}
 use Rattle.fact_versions.specs.FactRows.{FactRows}
 use Rattle.fact_reader.specs.BodyRows.{rows_in}
 use Rattle.agg_tables.specs.declared.declared.Declared.{Declared}
@@ -11,7 +12,6 @@ use Rattle.agg_tables.specs.declared.fault.AggFault.{AggFault}
 use Rattle.agg_tables.specs.Declarations.{declared_table}
 use Rattle.agg_tables.specs.Files.{check_fault}
 use Rattle.agg_tables.specs.Tables.{TableOf, built, built_over, table_over}
-use Rattle.agg_tables.proofs.FindFacts.{mapped_there}
 use Rattle.history_core.specs.Cache.{CacheOf}
 use Rattle.cache_opening.specs.declared.fault.OpenFault.{OpenFault}
 use Rattle.cache_opening.specs.declared.fault.OpenFault.TheVariants.{Aggregate}
@@ -54,7 +54,7 @@ module _ (cache : CacheOf) (based : IsBased cache) (first : Catalog) (first_is :
     }
       where
         parts : (declared : Declared) × (declared_table catalog table ≡ Some declared) × (table_over catalog table (length snapshot) (rows_in snapshot) declared ≡ made)
-        parts = mapped_there (table_over catalog table (length snapshot) (rows_in snapshot)) (declared_table catalog table) made h
+        parts = mapped_from (table_over catalog table (length snapshot) (rows_in snapshot)) (declared_table catalog table) made h
 
         place : made.table ≡ table
         place = sym (ap (λ (t : TableOf). t.table) parts.2)

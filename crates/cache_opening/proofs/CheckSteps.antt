@@ -66,7 +66,7 @@ module _ (files : Option Files) (before : List Fetched) (base : Base) (table : �
     pub one_stops : (o : Option SchemaAggregate) → IsSomeAnd o (λ own. Some file ≡ own.file) → Leads files before after (check_from base table file) (Ok (table ∷ [])) → IsSomeAnd o (λ own. Leads files before after (checked_from base table own.file) (Err OutOfMemory))
     one_stops o is h = one_fails o OutOfMemory is (leads_short files before after (check_from base table file) (table ∷ []) h)
 
--- the first aggregate tables are checked, and whatever those of the other places lead to, those of all lead to it, behind
+-- the first aggregate tables are checked, and whatever those of the other places lead to, those of all lead to it, after
 -- the first ones; and for each file of the others that comes its rows may still be read
 pub record AreChecked (files : Option Files) (before now : List Fetched) (base : Base) (n : ℕ) (entries : List Entry) (start steps : ℕ) : Type 0 where
   pub tables : List ℕ
@@ -93,11 +93,11 @@ module _ (files : Option Files) (before now after : List Fetched) (base : Base) 
   abbrev others : List SchemaAggregate
   others = drop (n + 1) base.catalog.schema.aggregates
 
-  -- how many rows all have, where so many files come
+  -- how many rows all have, where this many files come
   abbrev all_rows : ℕ → ℕ
   all_rows came = rows_come base.catalog base.batches 0 base.catalog.schema.aggregates came
 
-  -- how many rows the next and the others have, where so many files come
+  -- how many rows the next and the others have, where this many files come
   abbrev rows_left : List SchemaAggregate → ℕ → ℕ
   rows_left owns came = rows_come base.catalog base.batches n owns came
 

@@ -1,4 +1,4 @@
--- What the entries of an opened cache say: those of its base batches, and behind them those of its aggregate tables.
+-- What the entries of an opened cache say: those of its base batches, and after them those of its aggregate tables.
 use Rattle.std.proofs.Common.{◌≡◌, refl, sym, ap, ◌∙◌, ℕ, zero, suc, ◌+◌, ◌<◌, List, [], ◌∷◌, ◌++◌, length, length-append, append-nil, append_assoc, add-zero, true, false, None, arith, filter, filter_map, flat_map, take, get_or, slice_get, nat_lt, nat_eq, option_and_then}
 use Rattle.std.specs.Prelude.{IsTrue}
 use Rattle.std.specs.List.{list_all}
@@ -7,8 +7,8 @@ use Rattle.std.proofs.lemmas.List.Folds.{list_all-append}
 use Rattle.olap_meaning.specs.declared.tables.Row.{Row}
 use Rattle.olap_meaning.specs.History.{Entry, Agg, appended, rows_of, started, version}
 use Rattle.olap_meaning.specs.Legal.{is_call_below, is_call_of, is_next_call}
+use Rattle.olap_meaning.proofs.Versions.{version-length}
 use Rattle.history_core.specs.Seats.{NoneFlies, entries_of, is_of_seat}
-use Rattle.cache_manager.proofs.Pushes.{version-length}
 use Rattle.cache_opening.specs.Opening.{agg_entries, base_entries, opened_entries}
 use Rattle.cache_opening.specs.Steps.{batches_in}
 use Rattle.cache_opening.proofs.BaseFacts.{calls_below, no_entry}

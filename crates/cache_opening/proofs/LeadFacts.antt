@@ -32,7 +32,7 @@ module _ {A B : Type 0} (next : A → Asking B) where
   continues stopped = stopped
 
 -- no answers are those of any files
-none_theirs : (files : Option Files) → IfSome files (λ all. All (IsOf all) [])
+pub none_theirs : (files : Option Files) → IfSome files (λ all. All (IsOf all) [])
 none_theirs None = tt
 none_theirs (Some all) = All-nil (IsOf all)
 

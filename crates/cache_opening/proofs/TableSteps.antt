@@ -38,7 +38,7 @@ leads_item first others files before middle after x (Ok more) h k =
 leads_item first others files before middle after x (Err fault) h k =
     leads_on first (λ y. others y >>= λ ys. made (y ∷ ys)) files before middle after x (Err fault) h (leads_first (others x) (λ ys. made (x ∷ ys)) files middle after fault k)
 
--- whatever the tables of the other dimensions lead to, those of all lead to it, behind the first ones
+-- whatever the tables of the other dimensions lead to, those of all lead to it, after the first ones
 pub record AreTables (files : Option Files) (before now : List Fetched) (dimensions : List SchemaDimension) (n : ℕ) (tables : List TableOf) : Type 0 where
   pub levels : map (λ t. t.levels) tables ≡ map (λ d. length (levels_of d)) (take n dimensions)
   pub read : (after : List Fetched) (outcome : Result (List (List Record)) OpenFault) → Leads files now after (tables_from (drop n dimensions)) outcome

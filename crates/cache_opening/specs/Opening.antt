@@ -58,7 +58,7 @@ catalog_from file = do
   tables ← tables_from schema.dimensions
   made (catalog_of schema tables)
 
--- the rows of this file must fit beside so many others
+-- the rows of this file must fit beside this many others
 abbrev pub fitting : List ℕ → ℕ → List Row → Asking (List Row)
 fitting file held rows =
     if nat_lt row_limit (held + length rows)
@@ -70,13 +70,13 @@ facts_from catalog cube c = do
   bytes ← bytes_of c.fact
   read_by (fault.Batch c.fact) (batch_of catalog cube bytes)
 
--- the rows of the base batch of the cube of this number, beside so many others
+-- the rows of the base batch of the cube of this number, beside this many others
 unfoldable pub batch_from : Catalog → ℕ → ℕ → SchemaCube → Asking (List Row)
 batch_from catalog cube held c = do
   batch ← facts_from catalog cube c
   fitting c.fact held batch.rows
 
--- the rows of the base batches of some cubes, numbered from one on, beside so many others
+-- the rows of the base batches of some cubes, numbered from one on, beside this many others
 unfoldable pub batches_from : Catalog → ℕ → ℕ → List SchemaCube → Asking (List (List Row))
 batches_from catalog cube held [] = made []
 batches_from catalog cube held (c ∷ cs) = do
@@ -173,7 +173,7 @@ base_entries cube [] = []
 base_entries cube (rows ∷ batches) =
     Append (record { seat = 0; call = suc cube }) cube 1 rows ∷ base_entries (suc cube) batches
 
--- the entries of aggregate tables behind so many calls: each is by seat 0, numbered on, and over version 1 of its
+-- the entries of aggregate tables after this many calls: each is by seat 0, numbered on, and over version 1 of its
 -- table's cube
 abbrev pub agg_entries : ℕ → List ℕ → List Entry
 agg_entries calls [] = []
@@ -205,7 +205,7 @@ files_came [] = 0
 files_came ((name, Ok bytes) ∷ answers) = suc (files_came answers)
 files_came ((name, Err refusal) ∷ answers) = files_came answers
 
--- how many rows some aggregate tables are checked over, from this place of the schema on, where so many of their files
+-- how many rows some aggregate tables are checked over, from this place of the schema on, where this many of their files
 -- came
 abbrev pub rows_come : Catalog → List (List Row) → ℕ → List SchemaAggregate → ℕ → ℕ
 rows_come catalog batches table [] came = 0
@@ -225,7 +225,7 @@ pub record IsOpened (files : Option Files) (before after : List Fetched) (file :
   pub entries : manager.entries ≡ opened_entries opening.batches opening.tables
   pub steps : steps_after ≤ steps_before + rows_checked opening.catalog opening.batches
 
--- the base of an opening was read, and behind it at most as many steps were added as there are rows that those of its
+-- the base of an opening was read, and after it at most as many steps were added as there are rows that those of its
 -- aggregate tables are checked over whose files came
 pub record HasBase (files : Option Files) (before after : List Fetched) (file : List ℕ)
     (steps_before steps_after : ℕ) : Type 0 where

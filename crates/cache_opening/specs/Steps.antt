@@ -68,7 +68,7 @@ batches_in entries = filter_map rows_appended entries
 abbrev pub base_in : CacheOf → Base
 base_in cache = record { catalog = cache.setting.catalog; batches = batches_in cache.entries }
 
--- each cube has its base batch, and behind these there are entries of aggregate tables alone
+-- each cube has its base batch, and after these there are entries of aggregate tables alone
 pub record IsBased (cache : CacheOf) : Type 0 where
   pub count : length (batches_in cache.entries) ≡ length cache.setting.catalog.cubes
   pub tables : List ℕ
@@ -80,19 +80,19 @@ pub record IsBaseTable (cache : CacheOf) (table : ℕ) (made : TableOf) : Type 0
   pub place : made.table ≡ table
   pub version : made.version ≡ 1
 
--- aggregate tables were asked for, and have their entries behind those that there were
+-- aggregate tables were asked for, and have their entries after those that there were
 pub record AreInstalled (files : Option Files) (before after : List Fetched)
     (asking : Asking (List ℕ)) (entries more : List Entry) : Type 0 where
   pub tables : List ℕ
   pub read : Leads files before after asking (Ok tables)
   pub entry : more ≡ entries ++ agg_entries (length entries) tables
 
--- so many rows, where a file came
+-- this many rows, where a file came
 abbrev pub rows_where : ℕ → ℕ → ℕ
 rows_where rows zero = 0
 rows_where rows (suc came) = rows
 
--- between two states of a depot at most so many steps were added: as many as there are rows, and none where no file
+-- between two states of a depot at most this many steps were added: as many as there are rows, and none where no file
 -- came
 pub record ReadsFew (before after : List Fetched) (rows start later : ℕ) : Type 0 where
   pub more : List Fetched
@@ -103,7 +103,7 @@ pub record ReadsFew (before after : List Fetched) (rows start later : ℕ) : Typ
 abbrev pub files_for : SchemaAggregate → ℕ
 files_for own = if is_some own.file then 1 else 0
 
--- between two states of a depot so many files came
+-- between two states of a depot this many files came
 pub record FilesCame (before after : List Fetched) (many : ℕ) : Type 0 where
   pub more : List Fetched
   pub behind : after ≡ before ++ more

@@ -1,5 +1,5 @@
 -- The numbers of a field's texts, as one more is added.
-use Rattle.std.proofs.Common.{◌≡◌, ◌∙◌, ◌+◌, ◌<◌, ◌≤◌, ◌++◌, ◌^◌, ℕ, Bool, true, false, List, [], ◌∷◌, Option, Some, None, refl, sym, ap, map, option_map, option_and_then, position, slice_get, get_or, cond, not, bytes_eq, length, filter, nat_lt, arith}
+use Rattle.std.proofs.Common.{◌≡◌, ◌∙◌, ◌+◌, ◌<◌, ◌≤◌, ◌++◌, ◌^◌, ℕ, Bool, true, false, List, [], ◌∷◌, Option, Some, None, refl, sym, ap, map, option_map, option_and_then, position, slice_get, get_or, cond, bytes_eq, length, nat_lt, arith}
 use Rattle.std.specs.List.{list_any, position_or_len}
 use Rattle.std.proofs.lemmas.Bool.{lt-ltb}
 use Rattle.std.proofs.lemmas.List.{append-nil, length-map, map-append, length-append}
@@ -7,31 +7,8 @@ use Rattle.std.proofs.lemmas.Option.{slice_get-map, slice_get-get_or}
 use Rattle.olap_meaning.specs.declared.schema.TheConstants.{RECORD_LIMIT}
 use Rattle.olap_meaning.specs.Catalog.{first_appearances}
 use Rattle.olap_meaning.proofs.Appearances.{appearances_push, any-same}
+use Rattle.olap_meaning.proofs.Lists.{appearances_le, place_stays}
 use Rattle.catalog_tables.specs.Tables.{seen_with, number_of, AreNumbered}
-
--- leaving some out makes no list longer
-filter_le : {A : Type 0} (p : A → Bool) (xs : List A) → length (filter p xs) ≤ length xs
-filter_le p [] = omega arith
-filter_le {A} p (x ∷ xs) = by (p x) (filter_le p xs)
-  where
-    by : (b : Bool) → length (filter p xs) ≤ length xs → length (cond b (x ∷ filter p xs) (filter p xs)) ≤ length (x ∷ xs)
-    by true rest = omega arith
-    by false rest = omega arith
-
--- there are at most as many different texts as texts
-pub appearances_le : (xs : List (List ℕ)) → length (first_appearances xs) ≤ length xs
-appearances_le [] = omega arith
-appearances_le (x ∷ xs) = let h = appearances_le xs in let k = filter_le (λ other. not (bytes_eq x other)) (first_appearances xs) in omega arith
-
--- where one was found it is found also with more behind
-place_stays : {A : Type 0} (p : A → Bool) (xs ys : List A) → position_or_len p xs < length xs → position_or_len p (xs ++ ys) ≡ position_or_len p xs
-place_stays p [] ys within = absurd (omega arith)
-place_stays {A} p (x ∷ xs) ys within = by (p x) refl within (place_stays p xs ys)
-  where
-    by : (b : Bool) → p x ≡ b → cond (not b) (1 + position_or_len p xs) 0 < length (x ∷ xs) → (position_or_len p xs < length xs → position_or_len p (xs ++ ys) ≡ position_or_len p xs)
-        → cond (not b) (1 + position_or_len p (xs ++ ys)) 0 ≡ cond (not b) (1 + position_or_len p xs) 0
-    by true e l rest = refl
-    by false e l rest = let h = rest (omega arith) in omega arith
 
 some_within : (n m i : ℕ) → cond (nat_lt n m) (Some n) None ≡ Some i → (n < m) × (n ≡ i)
 some_within n m i e = by (nat_lt n m) refl e

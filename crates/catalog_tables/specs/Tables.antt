@@ -23,7 +23,7 @@ seen_with seen name = if list_any (bytes_eq name) seen then seen else seen ++ na
 abbrev pub number_of : List (List ℕ) → List ℕ → Option ℕ
 number_of texts text = position (bytes_eq text) (first_appearances texts)
 
--- each record has so many fields
+-- each record has this many fields
 abbrev pub have_fields : ℕ → List Record → Bool
 have_fields levels records = list_all (λ record_there. length record_there.fields == levels) records
 
@@ -60,7 +60,7 @@ find_key records key = position (λ record_there. bytes_eq key record_there.key)
 abbrev pub texts_at : ℕ → List (List (List ℕ)) → List (List ℕ)
 texts_at field rows = filter_map (λ row. slice_get row field) rows
 
--- the columns of so many fields of some rows, from one on
+-- the columns of this many fields of some rows, from one on
 abbrev pub columns_from : List (List (List ℕ)) → ℕ → ℕ → List (List (List ℕ))
 columns_from rows field zero = []
 columns_from rows field (suc more) = texts_at field rows ∷ columns_from rows (suc field) more

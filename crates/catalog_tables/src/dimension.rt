@@ -74,7 +74,7 @@ impl DimensionTable {
     }
 }
 
-// The columns of so many fields.
+// The columns of this many fields.
 fn numbered_fields(
     alloc: Global,
     rows: &[List<Text>],

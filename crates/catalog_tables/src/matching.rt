@@ -10,7 +10,7 @@ use olap_meaning::Text;
 pub enum Likeness {
     /// The same.
     Exact,
-    /// The same but for the case of ASCII letters.
+    /// The same except for the case of ASCII letters.
     ButCase,
 }
 
@@ -26,7 +26,7 @@ impl Likeness {
     }
 }
 
-/// The place of the name that a name means: of its first exact match, or else of its first match but for case.
+/// The place of the name that a name means: of its first exact match, or else of its first match except for case.
 pub fn match_of(name: &str, names: &[Text]) -> Option<usize>
     ensures matched { result ≡ meaning.match_of name.now names.now }
     ensures within { IfSome result (λ i. i < length names.now) }

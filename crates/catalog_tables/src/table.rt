@@ -42,7 +42,7 @@ pub(crate) struct TableParts {
 }
 
 impl Table {
-    /// The table of no records, for so many levels. It takes no memory.
+    /// The table of no records, for this many levels. It takes no memory.
     pub fn new(alloc: Global, levels: u32) -> Table
         ensures { result ≡ record { levels = levels; records = [] } }
     {

@@ -1,10 +1,11 @@
 -- Cells that are alike: they have one cube, one measure and the same columns.
-use Rattle.std.proofs.Common.{◌≡◌, refl, sym, ◌∙◌, ap, List, [], ◌∷◌, Bool, true, false, ◌&&◌, ◌||◌, ◌==◌, bytes_eq}
+use Rattle.std.proofs.Common.{◌≡◌, refl, sym, ◌∙◌, ap, List, [], ◌∷◌, Bool, true, ◌&&◌, ◌||◌, ◌==◌, bytes_eq}
 use Rattle.std.specs.List.{list_any}
 use Rattle.std.proofs.lemmas.Bool.{and_from, and_parts, eq-eqb, eqb-true}
 use Rattle.std.proofs.lemmas.Slice.Eq.{bytes_eq-Decides}
 use Rattle.olap_meaning.specs.declared.cells.Cell.{Cell}
 use Rattle.olap_meaning.specs.Covering.{columns_of}
+use Rattle.olap_meaning.proofs.Lists.{same_bool}
 use Rattle.history_core.specs.Groups.{alike}
 
 pub record Alike (one other : Cell) : Type 0 where
@@ -23,11 +24,6 @@ alike_from one other is = and_from _ _ (and_from _ _ (eq-eqb _ _ is.cube) (eq-eq
 
 pub alike_self : (cell : Cell) → alike cell cell ≡ true
 alike_self cell = alike_from cell cell (record { cube = refl; measure = refl; columns = refl })
-
-pub same_bool : (a b : Bool) → (a ≡ true → b ≡ true) → (b ≡ true → a ≡ true) → a ≡ b
-same_bool true b into back = sym (into refl)
-same_bool false true into back = back refl
-same_bool false false into back = refl
 
 turned : (one other : Cell) → alike one other ≡ true → alike other one ≡ true
 turned one other h =

@@ -2,15 +2,14 @@
 use Rattle.std.proofs.Common.{◌≡◌, ◌≤◌, ◌<◌, ◌+◌, ◌∙◌, ℕ, zero, suc, List, [], ◌∷◌, ◌++◌, length, map, filter, drop, take, get_or, refl, sym, ap, arith, inl, inr, Bool, true, false, not, cond, ◌&&◌, ◌||◌, append_assoc, All, slice_set}
 use Rattle.std.specs.Borrow.{Bor}
 use Rattle.std.specs.List.{list_all, list_any, position_or_len, AllByRecursion}
-use Rattle.std.proofs.lemmas.Bool.{and_from, and_parts, cases_Bool, or_left, or_right}
-use Rattle.std.proofs.lemmas.List.{map_push}
+use Rattle.std.proofs.lemmas.Bool.{and_from, and_parts, cases_Bool, not-true, or_left, or_parts, or_right}
+use Rattle.std.proofs.lemmas.List.{append-nil, length-map, map_push}
 use Rattle.std.proofs.lemmas.List.Elements.{All-from_recursion, filter-append}
 use Rattle.std.proofs.lemmas.List.Folds.{list_any-append}
-use Rattle.std.proofs.lemmas.Option.{slice_get_read}
-use Rattle.olap_meaning.proofs.Positions.{take-push}
 use Rattle.olap_meaning.specs.declared.cells.Cell.{Cell}
 use Rattle.olap_meaning.specs.declared.tables.Catalog.{Catalog}
 use Rattle.olap_meaning.specs.Legal.{is_cell}
+use Rattle.olap_meaning.proofs.Lists.{all_push, take_step, take_whole}
 use Rattle.history_core.specs.Groups.{alike, firsts}
 use Rattle.indexmap.specs.IndexSet.{insert_key}
 use Rattle.cell_groups.specs.declared.groups.Group.{Group}
@@ -34,10 +33,6 @@ lent_at [] i x l is = absurd (omega (arith, l))
 lent_at (y ∷ ys) zero x l is = ap (λ (b : Bor Cell). b.now) is
 lent_at (y ∷ ys) (suc i) x l is = lent_at ys i x (omega (arith, l)) is
 
--- the first items of a list, with one more
-pub front_more : {A : Type 0} (xs : List A) (i : ℕ) (x : A) → i < length xs → x ≡ get_or xs i x → take (i + 1) xs ≡ take i xs ++ x ∷ []
-front_more xs i x l is = let next : i + 1 ≡ suc i = omega arith in ap (λ (n : ℕ). take n xs) next ∙ take-push xs i x (slice_get_read xs (length xs) i x refl l is)
-
 drop_at : {A : Type 0} (xs : List A) (i : ℕ) (x : A) → i < length xs → x ≡ get_or xs i x → drop i xs ≡ x ∷ drop (suc i) xs
 drop_at [] i x l is = absurd (omega arith)
 drop_at (y ∷ ys) zero x l is = ap (λ z. z ∷ ys) (sym is)
@@ -47,10 +42,6 @@ pub item_passes : {A : Type 0} (p : A → Bool) (xs : List A) (i : ℕ) (x : A) 
 item_passes p [] i x all l is = absurd (omega (arith, l))
 item_passes p (y ∷ ys) zero x all l is = ap p is ∙ (and_parts _ _ all).0
 item_passes p (y ∷ ys) (suc i) x all l is = item_passes p ys i x (and_parts _ _ all).1 (omega (arith, l)) is
-
-all_push : {A : Type 0} (p : A → Bool) (xs : List A) (x : A) → list_all p xs ≡ true → p x ≡ true → list_all p (xs ++ x ∷ []) ≡ true
-all_push p [] x all h = and_from _ _ h refl
-all_push p (y ∷ ys) x all h = and_from _ _ (and_parts _ _ all).0 (all_push p ys x (and_parts _ _ all).1 h)
 
 -- ---- one cell more, by what cells are alike
 
@@ -81,14 +72,6 @@ pub record IsGrouped (catalog : Catalog) (cells : List Cell) (groups : Groups) :
   pub apart : are_apart (heads groups) ≡ true
   pub met : list_all (λ cell. list_any (alike cell) (heads groups)) cells ≡ true
   pub known : list_all (is_cell catalog) (heads groups) ≡ true
-
-not_true : (b : Bool) → not b ≡ true → b ≡ false
-not_true true h = absurd (cc)
-not_true false h = refl
-
-or_none : (a b : Bool) → (a || b) ≡ false → (a ≡ false) × (b ≡ false)
-or_none true b h = absurd (cc)
-or_none false b h = (refl, h)
 
 -- the first cells, with one cell more
 heads_put : (cell : Cell) (groups : Groups) → heads (put_alike cell groups) ≡ insert_key alike (heads groups) cell
@@ -127,7 +110,7 @@ has_same cells cell group other has =
 each_other : (cells : List Cell) (cell : Cell) (groups : Groups) → list_any (alike cell) (heads groups) ≡ false → AllByRecursion (HasJust cells) groups → AllByRecursion (HasJust (cells ++ cell ∷ [])) groups
 each_other cells cell [] none each = tt
 each_other cells cell (group ∷ groups) none each =
-    let parts = or_none (alike cell group.0) (list_any (alike cell) (heads groups)) none in
+    let parts = or_parts (alike cell group.0) (list_any (alike cell) (heads groups)) none in
     (has_same cells cell group parts.0 each.0, each_other cells cell groups parts.1 each.1)
 
 each_put :
@@ -138,7 +121,7 @@ each_put cells cell (group ∷ groups) apart each new =
     let parts = and_parts (not (list_any (alike group.0) (heads groups))) (are_apart (heads groups)) apart in
     elim (cases_Bool (alike cell group.0)) [
       | inl same ↦
-          let none : list_any (alike cell) (heads groups) ≡ false = any_same cell group.0 (heads groups) same ∙ not_true _ parts.0 in
+          let none : list_any (alike cell) (heads groups) ≡ false = any_same cell group.0 (heads groups) same ∙ not-true _ parts.0 in
           rw same (has_more cells cell group same each.0, each_other cells cell groups none each.1)
       | inr other ↦
           let later = each_put cells cell groups parts.1 each.1 (λ none. new (rw other none)) in
@@ -165,8 +148,8 @@ apart_push : (cells : List Cell) (cell : Cell) → are_apart cells ≡ true → 
 apart_push [] cell apart none = refl
 apart_push (c ∷ cells) cell apart none =
     let parts = and_parts (not (list_any (alike c) cells)) (are_apart cells) apart in
-    let others = or_none (alike cell c) (list_any (alike cell) cells) none in
-    let here : list_any (alike c) cells ≡ false = not_true _ parts.0 in
+    let others = or_parts (alike cell c) (list_any (alike cell) cells) none in
+    let here : list_any (alike c) cells ≡ false = not-true _ parts.0 in
     let turned : alike c cell ≡ false = alike_turned c cell ∙ others.0 in
     let both : list_any (alike c) (cells ++ cell ∷ []) ≡ false = list_any-append (alike c) cells (cell ∷ []) ∙ rw (here, turned) refl in
     rw both (apart_push cells cell parts.1 others.1)
@@ -276,7 +259,7 @@ so_far_next catalog cells i cell keys after groups made few all l is added put s
     record {
       keyed = added ∙ ap (λ (ks : List (ℕ × ℕ × ℕ)). insert_key key_eq ks (key_of cell)) so_far.keyed ∙ keys_more catalog few cell known (heads groups) so_far.grouped.known ∙ ap (map key_of) (sym firsts_are);
       begun = rw (firsts_are, next) (firsts_next cells i cell (heads groups) l is ∙ so_far.begun);
-      grouped = rw (placed, front_more cells i cell l is) (grouped_put catalog (take i cells) cell groups known so_far.grouped);
+      grouped = rw (placed, take_step cells i cell l is) (grouped_put catalog (take i cells) cell groups known so_far.grouped);
     }
 
 -- ---- the code's groups
@@ -306,29 +289,17 @@ place_within p (x ∷ xs) = by (p x) refl (place_within p xs)
     by true e le = rw e (omega arith)
     by false e le = rw e (omega (arith, le))
 
-length_map : {A B : Type 0} (f : A → B) (xs : List A) → length (map f xs) ≡ length xs
-length_map f [] = refl
-length_map f (x ∷ xs) = ap suc (length_map f xs)
-
 pub place_below : (p : ℕ × ℕ × ℕ → Bool) (keys : List (ℕ × ℕ × ℕ)) (groups : List Group) → keys ≡ map key_of (heads (map seen groups)) → position_or_len p keys ≤ length groups
 place_below p keys groups keyed =
     let within = place_within p keys in
-    let same = ap length keyed ∙ length_map key_of (heads (map seen groups)) ∙ length_map (λ (group : Cell × List Cell). group.0) (map seen groups) ∙ length_map seen groups in
+    let same = ap length keyed ∙ length-map (heads (map seen groups)) key_of ∙ length-map (map seen groups) (λ (group : Cell × List Cell). group.0) ∙ length-map groups seen in
     omega (arith, within, same)
 
 -- ---- all cells
 
-take_all : {A : Type 0} (xs : List A) → take (length xs) xs ≡ xs
-take_all [] = refl
-take_all (x ∷ xs) = ap (λ ys. x ∷ ys) (take_all xs)
-
 drop_all : {A : Type 0} (xs : List A) → drop (length xs) xs ≡ []
 drop_all [] = refl
 drop_all (x ∷ xs) = drop_all xs
-
-nothing_after : {A : Type 0} (xs : List A) → xs ++ [] ≡ xs
-nothing_after [] = refl
-nothing_after (x ∷ xs) = ap (λ ys. x ∷ ys) (nothing_after xs)
 
 heads_seen : (groups : List Group) → map (λ group. group.first.now) groups ≡ heads (map seen groups)
 heads_seen [] = refl
@@ -337,7 +308,7 @@ heads_seen (group ∷ groups) = ap (λ (cs : List Cell). group.first.now ∷ cs)
 pub all_firsts : (catalog : Catalog) (cells : List Cell) (done : ℕ) (keys : List (ℕ × ℕ × ℕ)) (groups : List Group) → done ≡ length cells → SoFar catalog cells done keys (map seen groups) → map (λ group. group.first.now) groups ≡ firsts [] cells
 all_firsts catalog cells done keys groups all so_far =
     let rest : drop done cells ≡ [] = rw all (drop_all cells) in
-    heads_seen groups ∙ sym (nothing_after (heads (map seen groups))) ∙ rw rest at so_far.begun
+    heads_seen groups ∙ sym (append-nil (heads (map seen groups))) ∙ rw rest at so_far.begun
 
 each_seen : (cells : List Cell) (groups : List Group) → AllByRecursion (HasJust cells) (map seen groups) → AllByRecursion (λ group. lent group.cells.items ≡ filter (alike group.first.now) cells) groups
 each_seen cells [] each = tt
@@ -345,5 +316,5 @@ each_seen cells (group ∷ groups) each = (each.0, each_seen cells groups each.1
 
 pub all_cells : (catalog : Catalog) (cells : List Cell) (done : ℕ) (keys : List (ℕ × ℕ × ℕ)) (groups : List Group) → done ≡ length cells → SoFar catalog cells done keys (map seen groups) → All (λ group. lent group.cells.items ≡ filter (alike group.first.now) cells) groups
 all_cells catalog cells done keys groups all so_far =
-    let whole : take done cells ≡ cells = rw all (take_all cells) in
+    let whole : take done cells ≡ cells = rw all (take_whole cells) in
     All-from_recursion _ groups (each_seen cells groups (rw whole at so_far.grouped.each))

@@ -2,7 +2,7 @@
 use Rattle.std.proofs.Common.{◌≡◌, refl, sym, ◌∙◌, ap, subst, ℕ, zero, suc, ◌+◌, ◌<◌, ◌≤◌, List, [], ◌∷◌, ◌++◌, length, map, take, filter, Bool, true, false, ◌&&◌, ◌||◌, ◌==◌, inl, inr, Some, option_map, arith, Contains, get_or, All, Ok, Err, IfOk}
 use Rattle.std.specs.Prelude.{Result, nat_le, nat_lt}
 use Rattle.std.specs.List.{find, list_all, list_any, AllByRecursion}
-use Rattle.std.proofs.lemmas.Bool.{and_from, and_parts, cases_order, eq-eqb, eqb-true, false_from_ne_true, lt-ltb, ltb-true, or_cases, or_left, or_right}
+use Rattle.std.proofs.lemmas.Bool.{and_from, and_parts, cases_order, eq-eqb, eqb-true, lt-ltb, ltb-true, or_cases, or_left, or_right}
 use Rattle.std.proofs.lemmas.List.{map_push}
 use Rattle.std.proofs.lemmas.List.Elements.{All-from_recursion, All-push}
 use Rattle.olap_meaning.proofs.Members.{any_member}
@@ -16,18 +16,18 @@ use Rattle.olap_meaning.specs.Catalog.{values}
 use Rattle.olap_meaning.specs.Covering.{among, columns_of}
 use Rattle.olap_meaning.specs.History.{is_some_and}
 use Rattle.olap_meaning.specs.Legal.{is_cell, is_value, rise}
+use Rattle.olap_meaning.proofs.Lists.{below_differs, take_step, take_whole}
+use Rattle.olap_meaning.proofs.Orders.{among_held}
 use Rattle.list_orders.proofs.Rising.{rising_same}
 use Rattle.segment_header.specs.Widening.{Allowing, Serves, Widened, are_below, are_wanted}
 use Rattle.history_core.specs.Groups.{IsHeaderFor, alike, has_on, numbers_from, value_on, values_on}
 use Rattle.cell_groups.specs.Gathered.{column_at, value_at}
 use Rattle.cell_groups.proofs.Alike.{alike_told}
-use Rattle.cell_groups.proofs.GroupFacts.{front_more}
 use Rattle.cell_groups.proofs.KeyFacts.{known_rises, known_values}
-use Rattle.cell_groups.proofs.ValueFacts.{member_of}
 
 -- ---- the numbers from one on that pass a test: they rise, and are just those that pass
 
-all_above : (p : ℕ → Bool) (n first count : ℕ) → n < first → list_all (nat_lt n) (filter p (numbers_from first count)) ≡ true
+pub all_above : (p : ℕ → Bool) (n first count : ℕ) → n < first → list_all (nat_lt n) (filter p (numbers_from first count)) ≡ true
 all_above p n first zero l = refl
 all_above p n first (suc count) l = by (p first) refl (all_above p n (suc first) count (omega (arith, l)))
   where
@@ -35,7 +35,7 @@ all_above p n first (suc count) l = by (p first) refl (all_above p n (suc first)
     by true e rest = rw e (and_from _ _ (lt-ltb n first l) rest)
     by false e rest = rw e rest
 
-rise_passing : (p : ℕ → Bool) (first count : ℕ) → rise (filter p (numbers_from first count)) ≡ true
+pub rise_passing : (p : ℕ → Bool) (first count : ℕ) → rise (filter p (numbers_from first count)) ≡ true
 rise_passing p first zero = refl
 rise_passing p first (suc count) = by (p first) refl (rise_passing p (suc first) count)
   where
@@ -43,7 +43,7 @@ rise_passing p first (suc count) = by (p first) refl (rise_passing p (suc first)
     by true e rest = rw e (and_from _ _ (all_above p first (suc first) count (omega arith)) rest)
     by false e rest = rw e rest
 
-passing_there : (p : ℕ → Bool) (first count v : ℕ) → first ≤ v → v < first + count → p v ≡ true → among (filter p (numbers_from first count)) v ≡ true
+pub passing_there : (p : ℕ → Bool) (first count v : ℕ) → first ≤ v → v < first + count → p v ≡ true → among (filter p (numbers_from first count)) v ≡ true
 passing_there p first zero v low high passes = absurd (omega (arith, low, high))
 passing_there p first (suc count) v low high passes =
     elim (cases_order first v) [
@@ -58,7 +58,7 @@ passing_there p first (suc count) v low high passes =
     later true e rest = rw e (or_right (first == v) (among (filter p (numbers_from (suc first) count)) v) rest)
     later false e rest = rw e rest
 
-there_passes : (p : ℕ → Bool) (first count v : ℕ) → among (filter p (numbers_from first count)) v ≡ true → p v ≡ true
+pub there_passes : (p : ℕ → Bool) (first count v : ℕ) → among (filter p (numbers_from first count)) v ≡ true → p v ≡ true
 there_passes p first zero v h = absurd (cc)
 there_passes p first (suc count) v h = by (p first) refl h (there_passes p (suc first) count v)
   where
@@ -76,9 +76,6 @@ there_passes p first (suc count) v h = by (p first) refl h (there_passes p (suc 
 abbrev names : List (ℕ × ℕ) → List ℕ
 names at = map (λ pair. pair.0) at
 
-above_one : (a b : ℕ) → a < b → (a == b) ≡ false
-above_one a b l = false_from_ne_true (a == b) (λ h. let e : a ≡ b = eqb-true a b h in absurd (omega (arith, e, l)))
-
 name_above : (n : ℕ) (at : List (ℕ × ℕ)) (k : ℕ) → list_all (nat_lt n) (names at) ≡ true → k < length at → n < (get_or at k (0, 0)).0
 name_above n [] k all l = absurd (omega (arith, l))
 name_above n (p ∷ ps) zero all l = ltb-true n p.0 (and_parts _ _ all).0
@@ -88,7 +85,7 @@ name_above n (p ∷ ps) (suc k) all l = name_above n ps k (and_parts _ _ all).1 
 found_pair : (at : List (ℕ × ℕ)) (k : ℕ) → rise (names at) ≡ true → k < length at → find (λ p. p.0 == (get_or at k (0, 0)).0) at ≡ Some (get_or at k (0, 0))
 found_pair [] k up l = absurd (omega (arith, l))
 found_pair (p ∷ ps) zero up l = rw (eq-eqb p.0 p.0 refl) refl
-found_pair (p ∷ ps) (suc k) up l = rw (above_one p.0 (get_or ps k (0, 0)).0 (name_above p.0 ps k (and_parts _ _ up).0 (omega (arith, l)))) (found_pair ps k (and_parts _ _ up).1 (omega (arith, l)))
+found_pair (p ∷ ps) (suc k) up l = rw (below_differs p.0 (get_or ps k (0, 0)).0 (name_above p.0 ps k (and_parts _ _ up).0 (omega (arith, l)))) (found_pair ps k (and_parts _ _ up).1 (omega (arith, l)))
 
 length_names : (at : List (ℕ × ℕ)) → length (names at) ≡ length at
 length_names [] = refl
@@ -174,10 +171,10 @@ module _ (catalog : Catalog) (first : Cell) (place : ℕ) (l : place < length fi
         (λ v h.
         let there : among (map (value_at place) cells) v ≡ true = sym (just v) ∙ any_member (λ n. n == v) found v h (eq-eqb v v refl) in
         let below = among_known cells v known same there in
-        member_of (values_on catalog cells column) v (passing_there passes 0 (length (values catalog column)) v (omega arith) (omega (arith, below)) (have_values cells v known same ∙ there)))
+        among_held (values_on catalog cells column) v (passing_there passes 0 (length (values catalog column)) v (omega arith) (omega (arith, below)) (have_values cells v known same ∙ there)))
         (λ v h.
         let passed : passes v ≡ true = there_passes passes 0 (length (values catalog column)) v (any_member (λ n. n == v) (values_on catalog cells column) v h (eq-eqb v v refl)) in
-        member_of found v (just v ∙ sym (have_values cells v known same) ∙ passed))
+        among_held found v (just v ∙ sym (have_values cells v known same) ∙ passed))
       where
         passes : ℕ → Bool
         passes value = list_any (has_on column value) cells
@@ -247,7 +244,7 @@ columns_more allowing catalog first cells place column allowed columns longer l 
     record {
       names =
           ap (map (λ own. own.0)) more ∙ map_push (λ (own : ℕ × Allowed). own.0) columns (column, allowed) ∙ ap (λ (ns : List ℕ). ns ++ column ∷ []) so_far.names
-          ∙ sym (front_more (columns_of first) place column (let many = length_names first.at in omega (arith, l, many)) (is ∙ sym (name_read first.at place column l)));
+          ∙ sym (take_step (columns_of first) place column (let many = length_names first.at in omega (arith, l, many)) (is ∙ sym (name_read first.at place column l)));
       allowed =
           subst (λ (cs : List (ℕ × Allowed)). All May cs) (sym more)
           (All-push May columns (column, allowed) so_far.allowed (subst (λ (n : ℕ). allowing (values_on catalog cells n) (length (values catalog n)) allowed) (sym is) may));
@@ -262,10 +259,6 @@ columns_more allowing catalog first cells place column allowed columns longer l 
     Fits : ℕ × Allowed → Type 0
     Fits own = Serves (values_on catalog cells own.0) (length (values catalog own.0)) own.1
 
-take_all : {A : Type 0} (xs : List A) → take (length xs) xs ≡ xs
-take_all [] = refl
-take_all (x ∷ xs) = ap (λ ys. x ∷ ys) (take_all xs)
-
 -- all columns make the header
 pub header_made :
     (allowing : Allowing) (catalog : Catalog) (first : Cell) (cells : List Cell) (place : ℕ) (header : Header) → place ≡ length first.at → header.cube ≡ first.cube → header.measure ≡ first.measure
@@ -274,7 +267,7 @@ header_made allowing catalog first cells place header all cube measure so_far =
     record {
       cube = cube;
       measure = measure;
-      columns = so_far.names ∙ ap (λ (n : ℕ). take n (columns_of first)) (all ∙ sym (length_names first.at)) ∙ take_all (columns_of first);
+      columns = so_far.names ∙ ap (λ (n : ℕ). take n (columns_of first)) (all ∙ sym (length_names first.at)) ∙ take_whole (columns_of first);
       allowed = so_far.allowed;
       serves = so_far.serves;
     }

@@ -1,18 +1,21 @@
 -- Cells of a catalog have the same key exactly where they are alike: a mask tells the columns below 64.
-use Rattle.std.proofs.Common.{◌≡◌, ◌≤◌, ◌<◌, ◌^◌, ◌%◌, ◌∙◌, ℕ, List, [], ◌∷◌, length, map, fold, refl, sym, ap, arith, inl, inr, Bool, true, false, ◌&&◌, ◌==◌, nat_eq, max}
+use Rattle.std.proofs.Common.{◌≡◌, ◌≤◌, ◌<◌, ◌^◌, ◌%◌, ◌∙◌, ℕ, List, [], ◌∷◌, length, map, fold, refl, sym, ap, arith, inl, inr, Bool, true, false, ◌&&◌, ◌==◌, nat_eq}
 use Rattle.std.specs.Prelude.{nat_lt}
 use Rattle.std.specs.Int.{bit_at}
 use Rattle.std.specs.List.{list_all}
 use Rattle.std.proofs.lemmas.Bool.{and_from, and_parts, cases_Bool, eq-eqb, eqb-true, ltb-true, or_cases, or_left, or_right}
-use Rattle.std.proofs.lemmas.Nat.Bits.{bit_at_or, bit_at-pow_other, bit_at-pow_same, bit_at-zero}
+use Rattle.std.proofs.lemmas.Nat.Bits.{bit_at-pow_other, bit_at-pow_same, bit_at-zero}
 use Rattle.olap_meaning.specs.declared.cells.Cell.{Cell}
 use Rattle.olap_meaning.specs.declared.tables.Catalog.{Catalog}
 use Rattle.olap_meaning.specs.Covering.{among, columns_of}
 use Rattle.olap_meaning.specs.Legal.{is_cell, is_value, rise}
+use Rattle.olap_meaning.proofs.Lists.{same_bool}
 use Rattle.list_orders.proofs.Rising.{same_rising}
 use Rattle.history_core.specs.Groups.{alike}
-use Rattle.cell_groups.specs.Keys.{key_of, mask, with_column}
-use Rattle.cell_groups.proofs.Alike.{alike_from, alike_told, same_bool}
+use Rattle.segment_header.specs.Masks.{mask, with_column}
+use Rattle.segment_header.proofs.MaskFacts.{bits_kept, with_at}
+use Rattle.cell_groups.specs.Keys.{key_of}
+use Rattle.cell_groups.proofs.Alike.{alike_from, alike_told}
 
 -- keys are equal
 abbrev pub key_eq : ℕ × ℕ × ℕ → ℕ × ℕ × ℕ → Bool
@@ -23,16 +26,6 @@ abbrev are_below_64 : List ℕ → Bool
 are_below_64 columns = list_all (λ column. nat_lt column 64) columns
 
 -- ---- bits
-
-with_at : (m c i : ℕ) → bit_at (with_column m c) i ≡ max (bit_at m i) (bit_at (2 ^ (c % 64)) i)
-with_at m c i = bit_at_or m (2 ^ (c % 64)) i
-
-bits_kept : (xs : List ℕ) (m i : ℕ) → bit_at m i ≤ bit_at (fold with_column m xs) i
-bits_kept [] m i = omega arith
-bits_kept (x ∷ xs) m i =
-    let e = with_at m x i in
-    let rest = bits_kept xs (with_column m x) i in
-    omega (arith, e, rest)
 
 own_bit : (m c : ℕ) → c < 64 → 1 ≤ bit_at (with_column m c) c
 own_bit m c l =

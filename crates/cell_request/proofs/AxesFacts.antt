@@ -1,7 +1,7 @@
 -- What a query means, by its parts.
-use Rattle.std.proofs.Common.{◌≡◌, ◌∙◌, ◌<◌, ◌≤◌, ◌*◌, ◌++◌, ℕ, Bool, true, false, List, [], Option, None, Some, Ok, Err, Result, All, IfErr, IfOk, IfSome, OnOk, arith, refl, sym, ap, subst, length, map, max, min, nat_le, ok_or, option_map, if◌then◌else◌}
+use Rattle.std.proofs.Common.{◌≡◌, ◌∙◌, ◌<◌, ◌≤◌, ◌*◌, ◌++◌, ℕ, Bool, false, List, [], Option, None, Some, Ok, Err, Result, All, IfErr, IfOk, IfSome, OnOk, arith, refl, sym, ap, subst, length, map, max, min, ok_or, option_map, if◌then◌else◌}
+use Rattle.std.proofs.lemmas.Bool.{le-leb, lt-leb}
 use Rattle.std.specs.Option.{option_map_or}
-use Rattle.std.proofs.lemmas.Bool.Decides.{nat_tests}
 use Rattle.std.proofs.lemmas.List.Elements.{All-append, All-nil}
 use Rattle.olap_meaning.specs.Catalog.{find_cube}
 use Rattle.olap_meaning.specs.MemberOf.{IsLevelIn, IsMemberOf}
@@ -10,6 +10,7 @@ use Rattle.olap_meaning.specs.declared.TheConstants.{CELL_LIMIT}
 use Rattle.olap_meaning.specs.declared.cells.LevelRef.{LevelRef}
 use Rattle.olap_meaning.specs.declared.cells.Member.{Member}
 use Rattle.olap_meaning.specs.declared.tables.Catalog.{Catalog}
+use Rattle.olap_meaning.proofs.Lists.{option_map-map}
 use Rattle.query_meaning.specs.declared.axes.Axes.{Axes}
 use Rattle.query_meaning.specs.declared.axes.Axis.{Axis}
 use Rattle.query_meaning.specs.declared.query.Query.{Query}
@@ -20,7 +21,7 @@ use Rattle.cell_request.specs.declared.parts.Part.{Part}
 use Rattle.cell_request.specs.Faults.{IsFaultOf, IsReason}
 use Rattle.cell_request.specs.Parts.{part_meant, unless_refused, IsPartOf}
 use Rattle.cell_request.specs.Plans.{listed}
-use Rattle.cell_request.proofs.BraceFacts.{map_map, map_or_map}
+use Rattle.cell_request.proofs.BraceFacts.{map_or_map}
 use Rattle.cell_request.proofs.Counts.{capped_product}
 use Rattle.cell_request.proofs.Faults.{reason_refuses}
 use Rattle.cell_request.proofs.RootFacts.{roots_own}
@@ -59,12 +60,6 @@ cells_told catalog cube columns rows one other =
     ∙ ap (λ n. min (min (max 1 (length (listed catalog cube columns.plan))) most_told * n) most_told) (rows_told catalog cube rows other)
     ∙ capped_product most_told (max 1 (length (listed catalog cube columns.plan))) (max 1 (option_map_or (λ meant. length meant.tuples) (option_map (part_meant catalog cube) rows) 1))
 
-le_true : (n m : ℕ) → n ≤ m → nat_le n m ≡ true
-le_true n m h = grind (arith, nat_tests)
-
-le_false : (n m : ℕ) → m < n → nat_le n m ≡ false
-le_false n m h = grind (arith, nat_tests)
-
 below_cap : (most limit n : ℕ) → limit < most → min n most ≤ limit → n ≤ limit
 below_cap most limit n h k = omega arith
 
@@ -73,12 +68,12 @@ above_cap most limit n h = omega arith
 
 -- as many cells as the limit are not too many
 pub few : (n count : ℕ) → count ≡ min n most_told → count ≤ CELL_LIMIT → too_many n ≡ None
-few n count is within = ap (λ b. if b then None else Some (TooManyCells (min n most_told) CELL_LIMIT)) (le_true n CELL_LIMIT (below_cap most_told CELL_LIMIT n (omega arith) (subst (λ m. m ≤ CELL_LIMIT) is within)))
+few n count is within = ap (λ b. if b then None else Some (TooManyCells (min n most_told) CELL_LIMIT)) (le-leb n CELL_LIMIT (below_cap most_told CELL_LIMIT n (omega arith) (subst (λ m. m ≤ CELL_LIMIT) is within)))
 
 -- and more are
 pub many : (n count : ℕ) → count ≡ min n most_told → CELL_LIMIT < count → too_many n ≡ Some (TooManyCells count CELL_LIMIT)
 many n count is over =
-    ap (λ b. if b then None else Some (TooManyCells (min n most_told) CELL_LIMIT)) (le_false n CELL_LIMIT (above_cap most_told CELL_LIMIT n (subst (λ m. CELL_LIMIT < m) is over)))
+    ap (λ b. if b then None else Some (TooManyCells (min n most_told) CELL_LIMIT)) (lt-leb n CELL_LIMIT (above_cap most_told CELL_LIMIT n (subst (λ m. CELL_LIMIT < m) is over)))
     ∙ ap (λ m. Some (TooManyCells m CELL_LIMIT)) (sym is)
 
 -- ---- axes that are refused
@@ -151,6 +146,6 @@ shown catalog query cube columns rows slicer across down non_empty is_across is_
     sym
     (ap (λ a. record { cube = cube; columns = a; rows = option_map (λ meant. record { non_empty = option_map_or (λ axis. axis.non_empty) query.rows false; tuples = meant.tuples }) (option_map (part_meant catalog cube) rows); slicer = slicer }) (sym is_across)
     ∙ ap (λ d. record { cube = cube; columns = across; rows = d; slicer = slicer })
-    (map_map (λ meant. record { non_empty = option_map_or (λ axis. axis.non_empty) query.rows false; tuples = meant.tuples }) (part_meant catalog cube) rows
+    (option_map-map (λ meant. record { non_empty = option_map_or (λ axis. axis.non_empty) query.rows false; tuples = meant.tuples }) (part_meant catalog cube) rows
     ∙ ap (λ b. option_map (λ part. record { non_empty = b; tuples = listed catalog cube part.plan }) rows) (sym is_empty)
     ∙ sym is_down))

@@ -1,10 +1,8 @@
 -- The box of the member on which a hierarchy stands.
-use Rattle.std.proofs.Common.{◌≡◌, ◌∙◌, ◌<◌, ◌++◌, ◌&&◌, ℕ, Bool, true, false, List, [], ◌∷◌, Option, Some, None, refl, sym, ap, inl, inr, map, slice_get, take, length, nat_lt, nat_eq, arith}
+use Rattle.std.proofs.Common.{◌≡◌, ◌∙◌, ◌++◌, ℕ, true, false, List, [], ◌∷◌, Option, Some, None, refl, sym, ap, map, slice_get, take, length, nat_lt, nat_eq}
 use Rattle.std.specs.List.{list_all, zip}
 use Rattle.std.specs.Option.{option_map_or}
-use Rattle.std.proofs.lemmas.Bool.{and_parts, lt-ltb}
-use Rattle.std.proofs.lemmas.Bool.Decides.{nat_tests}
-use Rattle.std.proofs.lemmas.Option.{slice_get_cases, slice_get_within}
+use Rattle.std.proofs.lemmas.Bool.{and_from, and_parts, eq-eqb, eqb-true, lt-ltb, ltb-true}
 use Rattle.olap_meaning.specs.declared.cells.LevelRef.TheVariants.{Whole}
 use Rattle.olap_meaning.specs.declared.cells.Member.{Member}
 use Rattle.olap_meaning.specs.declared.cells.Member.TheVariants as member
@@ -12,7 +10,7 @@ use Rattle.olap_meaning.specs.declared.tables.Catalog.{Catalog}
 use Rattle.olap_meaning.specs.declared.tables.Column.{Column}
 use Rattle.olap_meaning.specs.declared.tables.Cube.{Cube}
 use Rattle.olap_meaning.specs.declared.tables.Hierarchy.{Hierarchy}
-use Rattle.olap_meaning.specs.Catalog.{box, default_member, field_texts, first_appearances, paths_below, records, values}
+use Rattle.olap_meaning.specs.Catalog.{box, default_member, paths_below, values}
 use Rattle.cell_request.specs.Standing.{is_of}
 use Rattle.olap_meaning.specs.Covering.{among}
 use Rattle.olap_meaning.specs.History.{is_some_and}
@@ -20,27 +18,15 @@ use Rattle.olap_meaning.proofs.Loads.{some_and}
 use Rattle.olap_meaning.specs.MemberOf.{IsMemberOf, is_path, level_columns}
 use Rattle.olap_meaning.specs.Catalog.{all_text}
 use Rattle.olap_catalog.specs.Parts.{has_levels, is_level}
-use Rattle.olap_catalog.proofs.ValueFacts.{all_at}
+use Rattle.olap_catalog.proofs.MemberFacts.{column_there}
 use Rattle.olap_meaning.specs.Legal.{is_column_of}
+use Rattle.olap_meaning.proofs.Lists.{passes_at}
 use Rattle.cell_request.specs.Boxes.{is_own, is_within, IsBoxOf, IsFront}
 
-eq_true : (a b : ℕ) → a ≡ b → nat_eq a b ≡ true
-eq_true a b e = grind (arith, nat_tests)
-
-eq_same : (a b : ℕ) → nat_eq a b ≡ true → a ≡ b
-eq_same a b e = grind (arith, nat_tests)
-
-lt_less : (a b : ℕ) → nat_lt a b ≡ true → a < b
-lt_less a b e = grind (arith, nat_tests)
-
--- two tests that both hold
-pub and_true : (a b : Bool) → a ≡ true → b ≡ true → (a && b) ≡ true
-and_true a b e f = ap (λ x. x && b) e ∙ f
-
 first_of : (h : ℕ) (all : Option (List ℕ)) (paths : List (List ℕ)) (m : Member) → slice_get (option_map_or (λ name. member.All h ∷ []) all [] ++ map (member.At h) paths) 0 ≡ Some m → is_of m h ≡ true
-first_of h (Some name) paths m at = let same : member.All h ≡ m = cc at in ap (λ k. is_of k h) (sym same) ∙ eq_true h h refl
+first_of h (Some name) paths m at = let same : member.All h ≡ m = cc at in ap (λ k. is_of k h) (sym same) ∙ eq-eqb h h refl
 first_of h None [] m at = absurd (cc at)
-first_of h None (p ∷ paths) m at = let same : member.At h p ≡ m = cc at in ap (λ k. is_of k h) (sym same) ∙ eq_true h h refl
+first_of h None (p ∷ paths) m at = let same : member.At h p ≡ m = cc at in ap (λ k. is_of k h) (sym same) ∙ eq-eqb h h refl
 
 -- the default member of a hierarchy is one of it
 pub default_is_of : (catalog : Catalog) (cube h : ℕ) (m : Member) → default_member catalog cube (Whole h) ≡ Some m → is_of m h ≡ true
@@ -62,29 +48,18 @@ pub box_is : (catalog : Catalog) (cube h : ℕ) (m : Member) (pairs : List (ℕ 
 box_is catalog cube h (member.Measure k) pairs own of is = absurd (cc of)
 box_is catalog cube h (member.All k) pairs own of is = box_empty catalog h pairs is
 box_is catalog cube h (member.At k path) pairs own of is =
-    let same : k ≡ h = eq_same k h of in
+    let same : k ≡ h = eqb-true k h of in
     (path, is ∙ boxed (slice_get catalog.hierarchies k) ∙ ap (λ n. zip (level_columns catalog n) path) same, sym (ap (λ n. is_path catalog (level_columns catalog n) path) same) ∙ own.1)
   where
     boxed : (o : Option Hierarchy) → option_map_or (λ (x : Hierarchy). zip x.levels path) o [] ≡ zip (option_map_or (λ (x : Hierarchy). x.levels) o []) path
     boxed None = refl
     boxed (Some x) = refl
 
--- a column with a value is the catalog's
-column_there : (catalog : Catalog) (column value : ℕ) → value < length (values catalog column) → column < length catalog.columns
-column_there catalog column value within =
-    elim ((slice_get_cases catalog.columns column).1) [
-      | inl here ↦ slice_get_within catalog.columns column here.0 here.2
-      | inr past ↦
-          let none : length (values catalog column) ≡ 0 =
-          ap (λ o. length (option_map_or (λ (c : Column). first_appearances (field_texts c.field (records catalog c.dimension))) o [])) past.1 in
-          absurd (omega (arith, none, within))
-    ]
-
 -- a column of a dimension of a cube
 column_used : (catalog : Catalog) (dimensions : List ℕ) (dimension column : ℕ) → among dimensions dimension ≡ true → is_level catalog.columns dimension column ≡ true → is_column_of catalog dimensions column ≡ true
 column_used catalog dimensions dimension column used level =
     let own : (x : Column) × (slice_get catalog.columns column ≡ Some x) × (nat_eq x.dimension dimension ≡ true) = some_and (λ (x : Column). nat_eq x.dimension dimension) (slice_get catalog.columns column) level in
-    ap (is_some_and (λ (x : Column). among dimensions x.dimension)) own.1 ∙ ap (among dimensions) (eq_same own.0.dimension dimension own.2) ∙ used
+    ap (is_some_and (λ (x : Column). among dimensions x.dimension)) own.1 ∙ ap (among dimensions) (eqb-true own.0.dimension dimension own.2) ∙ used
 
 own_pairs : (catalog : Catalog) (cube : ℕ) (own : Cube) (dimension : ℕ) (levels path : List ℕ) → slice_get catalog.cubes cube ≡ Some own → among own.dimensions dimension ≡ true → list_all (is_level catalog.columns dimension) levels ≡ true → is_path catalog levels path ≡ true
     → list_all (is_own catalog cube) (zip levels path) ≡ true
@@ -93,9 +68,9 @@ own_pairs catalog cube own dimension (c ∷ levels) [] at used leveled is = refl
 own_pairs catalog cube own dimension (c ∷ levels) (v ∷ path) at used leveled is =
     let level = and_parts (is_level catalog.columns dimension c) (list_all (is_level catalog.columns dimension) levels) leveled in
     let value = and_parts (nat_lt v (length (values catalog c))) (is_path catalog levels path) is in
-    let known = column_there catalog c v (lt_less v (length (values catalog c)) value.0) in
+    let known = column_there catalog c v (ltb-true v (length (values catalog c)) value.0) in
     let of_cube = ap (is_some_and (λ (x : Cube). is_column_of catalog x.dimensions c)) at ∙ column_used catalog own.dimensions dimension c used level.0 in
-    and_true _ _ (and_true _ _ (and_true _ _ (lt-ltb c (length catalog.columns) known) value.0) of_cube) (own_pairs catalog cube own dimension levels path at used level.1 value.1)
+    and_from _ _ (and_from _ _ (and_from _ _ (lt-ltb c (length catalog.columns) known) value.0) of_cube) (own_pairs catalog cube own dimension levels path at used level.1 value.1)
 
 -- the pairs of the box of a hierarchy of a cube are the cube's
 pub box_own : (catalog : Catalog) (cube h : ℕ) (pairs : List (ℕ × ℕ)) → list_all (has_levels catalog.columns) catalog.hierarchies ≡ true → option_map_or (is_within catalog cube) (slice_get catalog.hierarchies h) false ≡ true → IsBoxOf catalog h pairs
@@ -108,7 +83,7 @@ box_own catalog cube h pairs leveled within is = by (slice_get catalog.hierarchi
     in_cube hierarchy there (Some own) at used =
         let levels : level_columns catalog h ≡ hierarchy.levels = ap (λ o. option_map_or (λ (x : Hierarchy). x.levels) o []) there in
         ap (list_all (is_own catalog cube)) (is.1 ∙ ap (λ ls. zip ls is.0) levels)
-        ∙ own_pairs catalog cube own hierarchy.dimension hierarchy.levels is.0 at used (all_at (has_levels catalog.columns) catalog.hierarchies h hierarchy leveled there) (sym (ap (λ ls. is_path catalog ls is.0) levels) ∙ is.2)
+        ∙ own_pairs catalog cube own hierarchy.dimension hierarchy.levels is.0 at used (passes_at (has_levels catalog.columns) catalog.hierarchies h hierarchy leveled there) (sym (ap (λ ls. is_path catalog ls is.0) levels) ∙ is.2)
 
     by : (o : Option Hierarchy) → slice_get catalog.hierarchies h ≡ o → option_map_or (is_within catalog cube) o false ≡ true → list_all (is_own catalog cube) pairs ≡ true
     by None there is_in = absurd (cc is_in)

@@ -8,11 +8,11 @@ use Rattle.std.proofs.lemmas.List.{length-append}
 use Rattle.std.proofs.lemmas.List.Elements.{All-head, All-map, All-nil, All-same, All-tail, All-weaker}
 use Rattle.std.proofs.lemmas.List.Folds.{flat_map-map}
 use Rattle.std.proofs.lemmas.List.Sums.{sum_by-cons}
-use Rattle.olap_catalog.proofs.StepFacts.{find-map}
 use Rattle.olap_meaning.specs.MemberOf.{IsLevelIn}
 use Rattle.olap_meaning.specs.Results.{unless}
 use Rattle.olap_meaning.specs.declared.cells.LevelRef.{LevelRef}
 use Rattle.olap_meaning.specs.declared.tables.Catalog.{Catalog}
+use Rattle.olap_meaning.proofs.Lists.{find-map, option_map-map}
 use Rattle.query_meaning.specs.Resolution.{Item, MixedSet, Refusal, is_mixed, joined, mixed, most_told}
 use Rattle.cell_request.specs.declared.parts.ItemPart.{ItemPart}
 use Rattle.cell_request.specs.declared.plan.Plan.{Plan, Joined}
@@ -24,10 +24,6 @@ use Rattle.cell_request.proofs.PlanFacts.{joined_listed, joined_own}
 pub map_or_map : {A B C : Type 0} (f : B → C) (g : A → B) (o : Option A) (d : C) → option_map_or f (option_map g o) d ≡ option_map_or (λ x. f (g x)) o d
 map_or_map f g None d = refl
 map_or_map f g (Some x) d = refl
-
-pub map_map : {A B C : Type 0} (f : B → C) (g : A → B) (o : Option A) → option_map f (option_map g o) ≡ option_map (λ x. f (g x)) o
-map_map f g None = refl
-map_map f g (Some x) = refl
 
 -- the first item that is not open
 abbrev pub first_closed : List ItemPart → Option ItemPart
@@ -52,7 +48,7 @@ module _ (catalog : Catalog) (cube : ℕ) (items : List ItemPart) where
       ∙ ap (λ r. unless (mixed r meant) (Ok (record { roots = r; is_open = option_map_or (λ item. false) (option_map (item_of catalog cube) (first_closed items)) true; tuples = flat_map (λ item. item.meant.tuples) meant })))
       (map_or_map (λ item. item.meant.roots) (item_of catalog cube) (first_closed items) [] ∙ sym is)
       ∙ ap (λ m. unless m (Ok (record { roots = roots; is_open = option_map_or (λ item. false) (option_map (item_of catalog cube) (first_closed items)) true; tuples = flat_map (λ item. item.meant.tuples) meant })))
-      (ap (option_map (λ item. MixedSet item.at)) (find-map (is_mixed roots) (item_of catalog cube) items) ∙ map_map (λ item. MixedSet item.at) (item_of catalog cube) (find (is_other roots) items))
+      (ap (option_map (λ item. MixedSet item.at)) (find-map (is_mixed roots) (item_of catalog cube) items) ∙ option_map-map (λ item. MixedSet item.at) (item_of catalog cube) (find (is_other roots) items))
       ∙ ap (λ m. unless (others roots items) (Ok m)) (meant_so refl (map_or_map (λ item. false) (item_of catalog cube) (first_closed items) true) (flat_map-map (λ item. item.meant.tuples) (item_of catalog cube) items))
 
   -- braces with an item of other roots
@@ -60,7 +56,7 @@ module _ (catalog : Catalog) (cube : ℕ) (items : List ItemPart) where
   braces_mixed roots at is found =
       braces_mean roots is
       ∙ ap (λ o. unless o (Ok (record { roots = roots; is_open = option_map_or (λ item. false) (first_closed items) true; tuples = flat_map (λ item. listed catalog cube item.part.plan) items })))
-      (sym (map_map MixedSet (λ (item : ItemPart). item.at) (find (is_other roots) items)) ∙ ap (option_map MixedSet) (sym found))
+      (sym (option_map-map MixedSet (λ (item : ItemPart). item.at) (find (is_other roots) items)) ∙ ap (option_map MixedSet) (sym found))
 
   tuples_are : (plans : Vec Plan Global) → plans.items ≡ map (λ item. item.part.plan) items → listed catalog cube (Joined plans) ≡ flat_map (λ item. listed catalog cube item.part.plan) items
   tuples_are plans are = joined_listed catalog cube plans ∙ ap (flat_map (listed catalog cube)) are ∙ flat_map-map (listed catalog cube) (λ (item : ItemPart). item.part.plan) items
@@ -71,7 +67,7 @@ module _ (catalog : Catalog) (cube : ℕ) (items : List ItemPart) where
   braces_joined roots is_open count plans is opens are none =
       braces_mean roots is
       ∙ ap (λ o. unless o (Ok (record { roots = roots; is_open = option_map_or (λ item. false) (first_closed items) true; tuples = flat_map (λ item. listed catalog cube item.part.plan) items })))
-      (sym (map_map MixedSet (λ (item : ItemPart). item.at) (find (is_other roots) items)) ∙ ap (option_map MixedSet) (sym none))
+      (sym (option_map-map MixedSet (λ (item : ItemPart). item.at) (find (is_other roots) items)) ∙ ap (option_map MixedSet) (sym none))
       ∙ ap (λ m. Ok m) (meant_so refl (sym opens) (sym (tuples_are plans are)))
 
 -- whether braces are open

@@ -1,31 +1,18 @@
 -- The boxes of the default members of a cube's hierarchies, one after another.
-use Rattle.std.proofs.Common.{cond, ◌≡◌, ◌∙◌, ◌+◌, ◌<◌, ◌≤◌, ◌++◌, ℕ, zero, suc, Bool, true, false, List, [], ◌∷◌, Option, Some, None, refl, sym, ap, inl, inr, map, filter, slice_get, drop, length, append_assoc, arith, if◌then◌else◌}
+use Rattle.std.proofs.Common.{cond, ◌≡◌, ◌∙◌, ◌+◌, ◌<◌, ◌≤◌, ◌++◌, ℕ, suc, Bool, true, false, List, [], ◌∷◌, Option, Some, None, refl, sym, ap, map, filter, slice_get, drop, length, append_assoc, arith, if◌then◌else◌}
 use Rattle.std.specs.List.{All, enumerate_from}
 use Rattle.std.specs.Option.{option_map_or}
 use Rattle.std.proofs.lemmas.List.{append-nil, drop_all}
 use Rattle.std.proofs.lemmas.List.Elements.{All-append, All-nil, All-same}
-use Rattle.std.proofs.lemmas.Option.{slice_get_cases}
 use Rattle.olap_meaning.specs.declared.cells.LevelRef.TheVariants.{Whole}
 use Rattle.olap_meaning.specs.declared.cells.Member.{Member}
 use Rattle.olap_meaning.specs.declared.tables.Catalog.{Catalog}
 use Rattle.olap_meaning.specs.declared.tables.Hierarchy.{Hierarchy}
 use Rattle.olap_meaning.specs.Catalog.{box, default_member}
+use Rattle.olap_meaning.proofs.Lists.{drop_at, missing}
 use Rattle.cell_request.specs.declared.defaults.DefaultBox.{DefaultBox}
 use Rattle.cell_request.specs.Boxes.{is_within, HasOwnBox}
 use Rattle.cell_request.specs.Defaults.{default_box, default_boxes, default_boxes_at}
-
--- a list has an item at each place
-pub missing : {A : Type 0} (xs : List A) (i : ℕ) → i < length xs → slice_get xs i ≡ None → ⊥
-missing xs i within none =
-    elim ((slice_get_cases xs i).1) [
-      | inl here ↦ let e : Some here.0 ≡ None = sym here.2 ∙ none in cc e
-      | inr past ↦ omega (arith, past.0, within)
-    ]
-
-drop_at : {A : Type 0} (xs : List A) (i : ℕ) (x : A) → slice_get xs i ≡ Some x → drop i xs ≡ x ∷ drop (suc i) xs
-drop_at [] i x at = absurd (cc at)
-drop_at (y ∷ xs) zero x at = let same : y ≡ x = cc at in ap (λ k. k ∷ xs) same
-drop_at (y ∷ xs) (suc i) x at = drop_at xs i x at
 
 -- the boxes of the hierarchies from a place on, of which these are the first
 abbrev pub boxes_from : Catalog → ℕ → ℕ → List Hierarchy → List DefaultBox

@@ -5,7 +5,7 @@ use Rattle.olap_meaning.specs.Results.{unless}
 use Rattle.query_meaning.specs.Resolution.{Refusal}
 use Rattle.cell_request.specs.declared.fault.ResolveFault.{ResolveFault}
 use Rattle.cell_request.specs.declared.fault.ResolveFault.TheVariants as fault
-use Rattle.cell_request.proofs.Steps.{each, each_fails}
+use Rattle.olap_meaning.proofs.Each.{each, each_fails}
 use Rattle.cell_request.specs.Faults.{refusal_of, IsFaultOf, IsReason}
 
 told : {A B : Type 0} (o : Option Refusal) (one : Result A Refusal) (other : Result B Refusal) → ((refused : Refusal) → one ≡ Err refused → other ≡ Err refused) → IfSome o (λ refused. one ≡ Err refused) → IfSome o (λ refused. other ≡ Err refused)

@@ -1,9 +1,9 @@
 -- Each cell of axes is one of the catalog.
-use Rattle.std.proofs.Common.{◌≡◌, ◌∙◌, ◌<◌, ◌++◌, ◌&&◌, ℕ, zero, suc, Bool, true, false, List, [], ◌∷◌, Option, Some, None, refl, sym, ap, subst, map, flat_map, find, slice_get, length, nat_lt, arith, option_and_then, option_map, cond}
+use Rattle.std.proofs.Common.{◌≡◌, ◌∙◌, ◌<◌, ◌++◌, ◌&&◌, ℕ, Bool, true, false, List, [], ◌∷◌, Option, Some, None, refl, sym, ap, subst, map, flat_map, find, slice_get, length, nat_lt, arith, option_and_then, option_map, cond}
 use Rattle.std.specs.Bool.{IsTrue}
 use Rattle.std.specs.List.{All, list_all}
 use Rattle.std.specs.Option.{option_map_or}
-use Rattle.std.proofs.lemmas.Bool.{and_parts}
+use Rattle.std.proofs.lemmas.Bool.{and_from, and_parts}
 use Rattle.std.proofs.lemmas.List.Elements.{All-append, All-head, All-map, All-nil, All-same, All-tail, All-weaker}
 use Rattle.std.proofs.lemmas.Option.{slice_get-map}
 use Rattle.olap_catalog.specs.Parts.{has_levels}
@@ -21,6 +21,7 @@ use Rattle.olap_meaning.specs.Legal.{is_cell, is_column_of, is_value, rise}
 use Rattle.olap_meaning.specs.MemberOf.{IsMemberOf, measure_count}
 use Rattle.olap_meaning.specs.Schema.{cube_over}
 use Rattle.olap_meaning.specs.Whole.{IsNamedCube, IsWhole}
+use Rattle.olap_meaning.proofs.Lists.{holds_at, missing}
 use Rattle.query_meaning.specs.AxisCells.{cell_among, cells_of, measure_number}
 use Rattle.cell_request.specs.Standing.{is_of}
 use Rattle.query_meaning.specs.Grids.{row_tuples}
@@ -31,8 +32,7 @@ use Rattle.cell_request.specs.declared.defaults.DefaultBox.{DefaultBox}
 use Rattle.cell_request.specs.Boxes.{is_own, HasOwnBox, IsBoxOf}
 use Rattle.cell_request.specs.Defaults.{default_boxes}
 use Rattle.cell_request.specs.Standing.{box_among, measure_among, member_of_root, row_cells}
-use Rattle.cell_request.proofs.BoxFacts.{and_true, box_is}
-use Rattle.cell_request.proofs.DefaultFacts.{missing}
+use Rattle.cell_request.proofs.BoxFacts.{box_is}
 use Rattle.cell_request.proofs.WalkFacts.{all_own, StandsFor}
 use Rattle.cell_request.proofs.CellFacts.{cell_is, cell_with}
 
@@ -44,12 +44,6 @@ found_holds P test (y ∷ ys) x all at = by (found_holds P test ys x (All-tail P
     by : (find test ys ≡ Some x → P x × (test x ≡ true)) → (b : Bool) → test y ≡ b → cond b (Some y) (find test ys) ≡ Some x → P x × (test x ≡ true)
     by rest true is here = let same : y ≡ x = cc here in (subst P same (All-head P y ys all), ap test (sym same) ∙ is)
     by rest false is later = rest later
-
--- what holds of each item holds of the one at a place
-holds_at : {A : Type 0} (P : A → Type 0) (xs : List A) (i : ℕ) (x : A) → All P xs → slice_get xs i ≡ Some x → P x
-holds_at P [] i x all there = absurd (cc there)
-holds_at P (y ∷ ys) zero x all there = let same : y ≡ x = cc there in subst P same (All-head P y ys all)
-holds_at P (y ∷ ys) (suc i) x all there = holds_at P ys i x (All-tail P y ys all) there
 
 -- a cube of a whole schema has a measure
 pub has_measure : (catalog : Catalog) (cube : ℕ) → IsWhole catalog.schema → catalog.cubes ≡ map (cube_over catalog.schema.dimensions) catalog.schema.cubes → cube < length catalog.cubes → 0 < measure_count catalog cube
@@ -78,7 +72,7 @@ own_value catalog cube own (pair ∷ at) there all =
     let parts = and_parts (is_own catalog cube pair) (list_all (is_own catalog cube) at) all in
     let here = and_parts (nat_lt pair.0 (length catalog.columns) && is_value catalog pair.0 pair.1) (is_some_and (λ (x : Cube). is_column_of catalog x.dimensions pair.0) (slice_get catalog.cubes cube)) parts.0 in
     let later = own_value catalog cube own at there parts.1 in
-    (and_true _ _ here.0 later.0, and_true _ _ (sym (ap (is_some_and (λ (x : Cube). is_column_of catalog x.dimensions pair.0)) there) ∙ here.1) later.1)
+    (and_from _ _ here.0 later.0, and_from _ _ (sym (ap (is_some_and (λ (x : Cube). is_column_of catalog x.dimensions pair.0)) there) ∙ here.1) later.1)
 
 -- a cell of a cube's measure, at rising columns and values of the cube's, is one of the catalog
 cell_known : (catalog : Catalog) (cube measure : ℕ) (at : List (ℕ × ℕ)) → measure < measure_count catalog cube → list_all (is_own catalog cube) at ≡ true → rise (map (λ pair. pair.0) at) ≡ true → is_cell catalog (cell_with cube measure at) ≡ true
@@ -92,8 +86,8 @@ cell_known catalog cube measure at within own up = by (slice_get catalog.cubes c
     by None there = let count = ap (λ o. option_map_or (λ (x : Cube). length x.measures) o 0) there in absurd (omega (arith, count, within))
     by (Some c) there =
         let parts = own_value catalog cube c at there own in
-        and_true _ _
-        (and_true _ _ (and_true _ _ (ap (λ o. is_some_and (λ (m : Measure). true) (option_and_then (λ (x : Cube). slice_get x.measures measure) o)) there ∙ measured c there (slice_get c.measures measure) refl) parts.0) up)
+        and_from _ _
+        (and_from _ _ (and_from _ _ (ap (λ o. is_some_and (λ (m : Measure). true) (option_and_then (λ (x : Cube). slice_get x.measures measure) o)) there ∙ measured c there (slice_get c.measures measure) refl) parts.0) up)
         (ap (is_some_and (λ (x : Cube). list_all (λ (pair : ℕ × ℕ). is_column_of catalog x.dimensions pair.0) at)) there ∙ parts.1)
 
 -- what a catalog and a cube of it give

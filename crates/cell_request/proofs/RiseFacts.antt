@@ -1,25 +1,21 @@
 -- Numbers that rise.
 use Rattle.std.proofs.Common.{◌≡◌, ◌∙◌, ◌++◌, ℕ, true, List, [], ◌∷◌, sym, ap, drop, nat_lt, append_assoc}
 use Rattle.std.specs.List.{list_all}
-use Rattle.std.proofs.lemmas.Bool.{and_parts}
+use Rattle.std.proofs.lemmas.Bool.{and_from, and_parts}
 use Rattle.std.proofs.lemmas.List.{take-append-drop}
 use Rattle.std.proofs.lemmas.List.Folds.{list_all-append}
 use Rattle.olap_meaning.specs.Legal.{rise}
+use Rattle.olap_meaning.proofs.Orders.{rise_rest}
 use Rattle.cell_request.specs.Boxes.{IsFront}
-use Rattle.cell_request.proofs.BoxFacts.{and_true}
-
-rise_after : (ys zs : List ℕ) → rise (ys ++ zs) ≡ true → rise zs ≡ true
-rise_after [] zs up = up
-rise_after (y ∷ ys) zs up = rise_after ys zs (and_parts (list_all (nat_lt y) (ys ++ zs)) (rise (ys ++ zs)) up).1
 
 -- numbers that rise still do without some in the middle
 pub cut : (xs ys zs : List ℕ) → rise (xs ++ (ys ++ zs)) ≡ true → rise (xs ++ zs) ≡ true
-cut [] ys zs up = rise_after ys zs up
+cut [] ys zs up = rise_rest ys zs up
 cut (x ∷ xs) ys zs up =
     let parts = and_parts (list_all (nat_lt x) (xs ++ (ys ++ zs))) (rise (xs ++ (ys ++ zs))) up in
     let all = and_parts (list_all (nat_lt x) xs) (list_all (nat_lt x) (ys ++ zs)) (sym (list_all-append (nat_lt x) xs (ys ++ zs)) ∙ parts.0) in
     let later = and_parts (list_all (nat_lt x) ys) (list_all (nat_lt x) zs) (sym (list_all-append (nat_lt x) ys zs) ∙ all.1) in
-    and_true _ _ (list_all-append (nat_lt x) xs zs ∙ and_true _ _ all.0 later.1) (cut xs ys zs parts.1)
+    and_from _ _ (list_all-append (nat_lt x) xs zs ∙ and_from _ _ all.0 later.1) (cut xs ys zs parts.1)
 
 -- and with the first of some in place of these
 pub rise_front : (columns front levels rest : List ℕ) → IsFront front levels → rise (columns ++ (levels ++ rest)) ≡ true → rise ((columns ++ front) ++ rest) ≡ true

@@ -4,29 +4,21 @@ use Rattle.std.specs.List.{list_any}
 use Rattle.std.proofs.lemmas.List.{reverse-append, take_more}
 use Rattle.std.proofs.lemmas.List.Folds.{list_any-append}
 use Rattle.std.proofs.lemmas.List.Elements.{All-map, All-weaker}
+use Rattle.std.proofs.Math.Bool.{and-false}
 use Rattle.olap_meaning.specs.MemberOf.{IsLevelIn, IsMemberOf}
 use Rattle.olap_meaning.specs.declared.cells.LevelRef.{LevelRef}
 use Rattle.olap_meaning.specs.declared.cells.Member.{Member}
 use Rattle.olap_meaning.specs.declared.cells.Member.TheVariants as member
 use Rattle.olap_meaning.specs.declared.tables.Catalog.{Catalog}
+use Rattle.olap_meaning.proofs.Lists.{or_swap}
 use Rattle.query_meaning.specs.Resolution.{are_roots, is_root, repeat_after, root_of}
-
-and_false : (t : Bool) → (t && false) ≡ false
-and_false true = refl
-and_false false = refl
 
 -- lists of roots that are not as long are not the same
 pub uneven : (roots others : List LevelRef) → (length roots ≡ length others → ⊥) → false ≡ are_roots roots others
 uneven [] [] h = absurd (h refl)
 uneven [] (root ∷ others) h = refl
 uneven (root ∷ roots) [] h = refl
-uneven (root ∷ roots) (other ∷ others) h = sym (and_false (is_root root other)) ∙ ap (λ t. is_root root other && t) (uneven roots others (λ e. h (ap suc e)))
-
-or_swap : (a b : Bool) → (a || (b || false)) ≡ (b || a)
-or_swap true true = refl
-or_swap true false = refl
-or_swap false true = refl
-or_swap false false = refl
+uneven (root ∷ roots) (other ∷ others) h = sym (and-false (is_root root other)) ∙ ap (λ t. is_root root other && t) (uneven roots others (λ e. h (ap suc e)))
 
 any_reverse : (p : LevelRef → Bool) (roots : List LevelRef) → list_any p (reverse roots) ≡ list_any p roots
 any_reverse p [] = refl

@@ -5,6 +5,7 @@ use Rattle.std.specs.Option.{option_map_or}
 use Rattle.std.proofs.lemmas.List.{map-append}
 use Rattle.std.proofs.lemmas.List.Elements.{All-head, All-same, All-tail}
 use Rattle.std.proofs.lemmas.List.Folds.{list_all-append}
+use Rattle.std.proofs.lemmas.Bool.{and_from}
 use Rattle.olap_catalog.specs.Parts.{has_levels}
 use Rattle.olap_meaning.specs.declared.tables.Catalog.{Catalog}
 use Rattle.olap_meaning.specs.declared.tables.Hierarchy.{Hierarchy}
@@ -13,7 +14,7 @@ use Rattle.olap_meaning.specs.MemberOf.{level_columns}
 use Rattle.cell_request.specs.declared.defaults.DefaultBox.{DefaultBox}
 use Rattle.cell_request.specs.Boxes.{is_own, is_within, IsBoxOf, IsFront}
 use Rattle.cell_request.specs.Defaults.{default_box, default_boxes}
-use Rattle.cell_request.proofs.BoxFacts.{and_true, box_front, box_own}
+use Rattle.cell_request.proofs.BoxFacts.{box_front, box_own}
 use Rattle.cell_request.proofs.DefaultFacts.{boxes_first, boxes_from}
 use Rattle.cell_request.proofs.RiseFacts.{cut, rise_front}
 
@@ -56,7 +57,7 @@ module _ (catalog : Catalog) (cube : ℕ) (box_of : DefaultBox → List (ℕ × 
             ∙ more.rising;
         own =
             list_all-append (is_own catalog cube) pairs (flat_map box_of later)
-            ∙ and_true _ _ (box_own catalog cube i pairs leveled (ap (λ o. option_map_or (is_within catalog cube) o false) there ∙ within) is) more.own;
+            ∙ and_from _ _ (box_own catalog cube i pairs leveled (ap (λ o. option_map_or (is_within catalog cube) o false) there ∙ within) is) more.own;
       }
 
   -- the boxes of the hierarchies from a place on

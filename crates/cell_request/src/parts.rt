@@ -219,7 +219,7 @@ fn share_roots(
     refuse_twice(alloc, catalog, roots.as_slice())
 }
 
-// What lists so many tuples of a Crossjoin. Where there are none, nothing of its sets is listed.
+// What lists this many tuples of a Crossjoin. Where there are none, nothing of its sets is listed.
 fn crossed_plan(alloc: Global, count: u64, first: Plan, second: Plan) -> Result<Plan, OutOfMemory>
     ensures listed { IfOk result (λ plan. (catalog : Catalog) (cube : ℕ)
         → count ≡ min (length (pairs_of catalog cube first second)) most_told

@@ -5,7 +5,7 @@ use Rattle.olap_meaning.specs.declared.OutOfMemory.{OutOfMemory}
 use Rattle.text_forms.specs.Forms.{Steps}
 use Rattle.text_forms.specs.Names.{InName}
 use Rattle.text_forms.proofs.Alike.{same_ascii}
-use Rattle.text_forms.proofs.Names.{name_more, name_more_up, name_close, name_close_up, closing_ends, name_open, in_name_anywhere, closing_anywhere}
+use Rattle.text_forms.specs.NameFacts.{name_more, name_more_up, name_close, name_close_up, closing_ends, name_open, in_name_anywhere, closing_anywhere}
 use Rattle.command_arguments.specs.declared.append.AppendArgument.{AppendArgument}
 use Rattle.command_arguments.specs.declared.append.AppendReader.{AppendReader}
 use Rattle.command_arguments.specs.declared.append.AppendReader.TheVariants as append

@@ -3,7 +3,7 @@ use Rattle.std.proofs.Common.{◌≡◌, ◌≢◌, ℕ, List, [], ◌∷◌, �
 use Rattle.std.specs.Prelude.{encode_utf8}
 use Rattle.text_forms.specs.Forms.{Steps}
 use Rattle.text_forms.specs.Names.{InName}
-use Rattle.text_forms.proofs.Names.{name_more, name_more_up, name_close, name_close_up, name_open, in_name_anywhere, closing_anywhere}
+use Rattle.text_forms.specs.NameFacts.{name_more, name_more_up, name_close, name_close_up, name_open, in_name_anywhere, closing_anywhere}
 use Rattle.command_arguments.specs.declared.name.NameReader.{NameReader}
 use Rattle.command_arguments.specs.declared.name.NameReader.TheVariants as reader
 use Rattle.command_arguments.specs.Name.{Ended, rest_of}

@@ -11,7 +11,7 @@ use Rattle.command_arguments.specs.declared.append.AppendReader.TheVariants as a
 abbrev pub IsFileCharacter : ℕ → Type 0
 IsFileCharacter c = (is_ascii_alphanumeric c || c == 95 || c == 45 || c == 46) ≡ true
 
--- at most `left` characters, which behind those of `front` are `file`, and then what `Then` says
+-- at most `left` characters, which after those of `front` are `file`, and then what `Then` says
 abbrev pub MoreFile : List ℕ → ℕ → List ℕ → (List ℕ → Type 0) → List ℕ → Type 0
 MoreFile front left file Then [] = (file ≡ front) × Then []
 MoreFile front zero file Then (c ∷ cs) = (file ≡ front) × Then (c ∷ cs)
@@ -24,7 +24,7 @@ abbrev pub File : List ℕ → (List ℕ → Type 0) → List ℕ → Type 0
 File file Then [] = ⊥
 File file Then (c ∷ cs) = IsFileCharacter c × (c ≢ 46) × MoreFile (encode_utf8 c) 63 file Then cs
 
--- behind the name: it is the cube's, and a file name comes
+-- after the name: it is the cube's, and a file name comes
 abbrev pub Named : AppendArgument → ℕ → List ℕ → List ℕ → Type 0
 Named q at name cs = (q.cube ≡ name) × White (File q.file (White End)) cs
 

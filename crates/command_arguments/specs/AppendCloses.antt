@@ -3,12 +3,12 @@ use Rattle.std.specs.Prelude.{ℕ, List, [], ◌∷◌, encode_utf8}
 use Rattle.std.proofs.Common.{arith, inr, refl}
 use Rattle.std.proofs.lemmas.Str.Ascii.{IsAscii-nil, IsAscii-cons}
 use Rattle.text_forms.specs.Forms.{GoesOn}
-use Rattle.text_forms.proofs.Names.{in_name_closes, closing_closes}
+use Rattle.text_forms.specs.NameFacts.{in_name_closes, closing_closes}
 use Rattle.command_arguments.specs.declared.append.AppendReader.{AppendReader}
 use Rattle.command_arguments.specs.declared.append.AppendReader.TheVariants as append
 use Rattle.command_arguments.specs.Append.{Named, rest_of, fits}
 
--- behind a name a file name of one character may come
+-- after a name a file name of one character may come
 file_closes : (n : ℕ) (cube : List ℕ) → GoesOn (λ cs q. Named q n cube cs)
 file_closes n cube = record {
   closing = 48 ∷ [];
@@ -17,7 +17,7 @@ file_closes n cube = record {
   goes = (refl, inr (refl, (λ e. absurd (omega (arith, e))), (refl, refl)));
 }
 
--- before and in a name its end and such a file name may come, and behind a file name nothing needs to come
+-- before and in a name its end and such a file name may come, and after a file name nothing needs to come
 pub append_closes : (state : AppendReader) (at : ℕ) → fits state → GoesOn (rest_of state at)
 append_closes append.Before at h =
     let g =

@@ -9,11 +9,11 @@ use Rattle.command_arguments.specs.declared.position.PositionReader.TheVariants.
 use Rattle.command_arguments.specs.Blank as blank
 use Rattle.command_arguments.specs.Position as position
 
--- behind white nothing needs to come
+-- after white nothing needs to come
 pub blank_closes : (state : BlankReader) (at : ℕ) → Unit {0} → GoesOn (blank.rest_of state at)
 blank_closes state at h = record { closing = []; whole = tt; ascii = IsAscii-nil; goes = refl }
 
--- before a position the digit 0 may come, and behind its digits nothing needs to come
+-- before a position the digit 0 may come, and after its digits nothing needs to come
 pub position_closes : (state : PositionReader) (at : ℕ) → position.fits state
     → GoesOn (position.rest_of state at)
 position_closes Before at h = record {

@@ -5,7 +5,7 @@ use Rattle.text_forms.specs.Names.{Name, InName, Closing}
 use Rattle.command_arguments.specs.declared.name.NameReader.{NameReader}
 use Rattle.command_arguments.specs.declared.name.NameReader.TheVariants as reader
 
--- behind the name: it is this one, and nothing but white comes
+-- after the name: it is this one, and nothing but white comes
 abbrev pub Ended : List ℕ → ℕ → List ℕ → List ℕ → Type 0
 Ended own at name cs = (own ≡ name) × White End cs
 

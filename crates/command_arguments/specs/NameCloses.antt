@@ -3,12 +3,12 @@ use Rattle.std.specs.Prelude.{ℕ, List, [], ◌∷◌}
 use Rattle.std.proofs.Common.{arith, inr, refl}
 use Rattle.std.proofs.lemmas.Str.Ascii.{IsAscii-nil, IsAscii-cons}
 use Rattle.text_forms.specs.Forms.{GoesOn}
-use Rattle.text_forms.proofs.Names.{in_name_closes, closing_closes}
+use Rattle.text_forms.specs.NameFacts.{in_name_closes, closing_closes}
 use Rattle.command_arguments.specs.declared.name.NameReader.{NameReader}
 use Rattle.command_arguments.specs.declared.name.NameReader.TheVariants as reader
 use Rattle.command_arguments.specs.Name.{Ended, rest_of, fits}
 
--- behind a name nothing needs to come
+-- after a name nothing needs to come
 end_closes : (n : ℕ) (name : List ℕ) → GoesOn (λ cs own. Ended own n name cs)
 end_closes n name = record {
   closing = [];

@@ -8,7 +8,7 @@ use Rattle.command_arguments.specs.declared.position.PositionReader.TheVariants.
 abbrev pub IsDigit : ℕ → Type 0
 IsDigit c = (48 ≤ c) × (c ≤ 57)
 
--- at most `left` digits, which behind the digits of `front` write `number`, and then what `Then` says
+-- at most `left` digits, which after the digits of `front` write `number`, and then what `Then` says
 abbrev pub MoreDigits : ℕ → ℕ → ℕ → (List ℕ → Type 0) → List ℕ → Type 0
 MoreDigits front left number Then [] = (number ≡ front) × Then []
 MoreDigits front zero number Then (c ∷ cs) = (number ≡ front) × Then (c ∷ cs)

@@ -25,11 +25,11 @@ pub(crate) enum AppendReader {
     InName(Text),
     /// In the cube's name, after these characters and a `]`, which ends it unless another follows.
     Closing(Text),
-    /// Behind the cube's name.
+    /// After the cube's name.
     Between(Text),
-    /// In the file name, after these characters, where so many more may come.
+    /// In the file name, after these characters, where this many more may come.
     InFile { cube: Text, file: Text, left: u8 },
-    /// In the white behind the file name.
+    /// In the white after the file name.
     Behind { cube: Text, file: Text },
 }
 
@@ -53,7 +53,7 @@ fn begin_file(alloc: Global, cube: Text, c: char) -> Result<Option<AppendReader>
     }))
 }
 
-// Reads a character behind a `]` in the name, which ended it unless this is another.
+// Reads a character after a `]` in the name, which ended it unless this is another.
 fn end_name(alloc: Global, mut name: Text, c: char) -> Result<Option<AppendReader>, OutOfMemory>
     ensures kept { IfOk result (λ next. IfSome next fits) }
     ensures steps { IfOk result (λ next. (at : ℕ) → Steps rest_of (Closing name) at c next) }

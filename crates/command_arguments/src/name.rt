@@ -18,11 +18,11 @@ pub(crate) enum NameReader {
     InName(Text),
     /// In the name, after these characters and a `]`, which ends it unless another follows.
     Closing(Text),
-    /// In the white behind the name.
+    /// In the white after the name.
     Behind(Text),
 }
 
-// Reads a character behind a `]` in the name, which ended it unless this is another.
+// Reads a character after a `]` in the name, which ended it unless this is another.
 fn end_name(mut name: Text, c: char) -> Result<Option<NameReader>, OutOfMemory>
     ensures { IfOk result (λ next. (at : ℕ) → Steps rest_of (Closing name) at c next) }
 {

@@ -12,9 +12,9 @@ use text_forms::{Form, ReadFault, read};
 pub(crate) enum PositionReader {
     /// Before the first digit.
     Before,
-    /// Behind the digits of this number, where so many more may come.
+    /// After the digits of this number, where this many more may come.
     Digits { number: u64, left: u8 },
-    /// In the white behind the digits of this number.
+    /// In the white after the digits of this number.
     Behind { number: u64 },
 }
 

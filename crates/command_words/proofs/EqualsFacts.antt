@@ -1,4 +1,4 @@
--- Where a text has its first =, and whether anything stands behind it.
+-- Where a text has its first =, and whether anything stands after it.
 use Rattle.std.proofs.Common.{◌≡◌, ◌∙◌, ◌+◌, ◌-◌, ◌<◌, ◌||◌, ℕ, zero, suc, Bool, true, false, List, [], ◌∷◌, not, is_some, None, Some, refl, sym, ap, inl, inr, drop, length, nat_eq, nat_lt, get_or, position, true≢false, arith, cond, if◌then◌else◌}
 use Rattle.std.proofs.lemmas.Bool.Decides.{nat_tests}
 use Rattle.std.specs.List.{after_first, before_first, list_any, position_or_len}

@@ -3,9 +3,10 @@ use Rattle.std.proofs.Common.{◌≡◌, ◌∙◌, ◌==◌, ◌&&◌, ℕ, Boo
 use Rattle.std.specs.List.{list_all, list_any, before_first, after_first, position_or_len, starts_with}
 use Rattle.std.specs.Option.{option_and_then}
 use Rattle.std.specs.Str.{bytes_eq}
-use Rattle.std.proofs.lemmas.Bool.{cases_Bool}
+use Rattle.std.proofs.lemmas.Bool.{and_parts, cases_Bool}
 use Rattle.std.proofs.lemmas.Bool.Decides.{Decides-eqb}
 use Rattle.std.proofs.lemmas.Slice.Eq.{bytes_eq-Decides, starts_is}
+use Rattle.std.proofs.Math.Bool.{and-false}
 use Rattle.command_words.specs.OneOption.{is_file_word, joined_file, schema_file}
 use Rattle.olap_meaning.specs.Options.{Text, Given, behind_hyphens, from_word, is_equals, is_known, is_value, joined_value, option_parts, option_word, options_from, run_file, run_known, taken, takes, value_of}
 use Rattle.command_words.proofs.WordFacts.{drop-one, take-one}
@@ -29,17 +30,13 @@ picked : {X : Type 0} (b : Bool) (o : Option X) (y : X) → (if b then o else No
 picked true o y e = (refl, e)
 picked false o y e = absurd (cc e)
 
-both_true : (a b : Bool) → (a && b) ≡ true → (a ≡ true) × (b ≡ true)
-both_true true b h = (refl, h)
-both_true false b h = absurd (true≢false (sym h))
-
 behind : (w t : Text) → behind_hyphens w ≡ Some t → w ≡ 45 ∷ 45 ∷ t
 behind [] t e = absurd (cc e)
 behind (a ∷ []) t e = absurd (cc e)
 behind (a ∷ b ∷ []) t e = absurd (cc e)
 behind (a ∷ b ∷ c ∷ cs) t e =
     let found = picked (a == 45 && b == 45) (Some (c ∷ cs)) t e in
-    let hyphens = both_true (a == 45) (b == 45) found.0 in
+    let hyphens = and_parts (a == 45) (b == 45) found.0 in
     let first : a ≡ 45 = (Decides-eqb a 45).0 hyphens.0 in
     let second : b ≡ 45 = (Decides-eqb b 45).0 hyphens.1 in
     let rest : c ∷ cs ≡ t = cc (found.1) in
@@ -138,10 +135,6 @@ AtLeastTwo (Some []) = ⊥
 AtLeastTwo (Some (a ∷ [])) = ⊥
 AtLeastTwo (Some (a ∷ b ∷ os)) = Unit {0}
 
-ends_false : (a : Bool) → (a && false) ≡ false
-ends_false true = refl
-ends_false false = refl
-
 two_options : (a b : Text × Text) (os : Given) → takes run_known (a ∷ b ∷ os) ≡ false
 two_options a b os =
     elim (cases_Bool (bytes_eq a.0 schema_name)) [
@@ -151,7 +144,7 @@ two_options a b os =
         | inl second ↦
             let same : bytes_eq b.0 a.0 ≡ true =
             (bytes_eq-Decides b.0 a.0).1 (same_text b.0 schema_name second ∙ sym (same_text a.0 schema_name first)) in
-            rw same (ends_false (list_all (λ (option : Text × Text). is_known run_known option.0) (a ∷ b ∷ os)))
+            rw same (and-false (list_all (λ (option : Text × Text). is_known run_known option.0) (a ∷ b ∷ os)))
       ]
     ]
 

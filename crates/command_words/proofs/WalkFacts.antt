@@ -16,8 +16,9 @@ use Rattle.clap.specs.declared.builder.value_parser.ValueParser.TheVariants as v
 use Rattle.clap.specs.declared.parser.matches.ValueSource.TheVariants.{CommandLine}
 use Rattle.command_words.specs.Shapes.{given_row, given_rows}
 use Rattle.olap_meaning.specs.Options.{Text, Known, Given, is_known, is_given, is_whole}
+use Rattle.olap_meaning.proofs.Lists.{or_first, or_second, some_or_none}
 use Rattle.command_words.specs.OddWords.{is_odd}
-use Rattle.command_words.proofs.WordFacts.{begins_with_hyphen, some_or_none, first_false, second_false, not-odd-plain}
+use Rattle.command_words.proofs.WordFacts.{begins_with_hyphen, not-odd-plain}
 use Rattle.command_words.proofs.WordByWord.{line_from, line_of}
 
 -- an option, as `clap` has it once the command is built
@@ -197,7 +198,7 @@ known-found (d ∷ ds) name h =
 unknown-found : (known : Known) (name : Text) → is_known known name ≡ false → find (λ x. bytes_eq x.0 name) known ≡ None
 unknown-found [] name h = refl
 unknown-found (d ∷ ds) name h =
-    rw (first_false (bytes_eq d.0 name) _ h) (unknown-found ds name (second_false (bytes_eq d.0 name) _ h))
+    rw (or_first (bytes_eq d.0 name) _ h) (unknown-found ds name (or_second (bytes_eq d.0 name) _ h))
 
 -- ---- one word
 
@@ -394,7 +395,7 @@ module _ (name : Text) (known : Known) where
   stuck rows waits [] plain full = or_else-first _ _ full
   stuck rows waits (word ∷ words) plain full =
       agrees-fails (walk_idle rows waits) word words (elim (some_or_none (long_of word)) [
-        | inl e ↦ turn-stray name known rows waits word (not-odd-plain word (first_false (is_odd word) _ plain) e)
+        | inl e ↦ turn-stray name known rows waits word (not-odd-plain word (or_first (is_odd word) _ plain) e)
         | inr p ↦ stuck-word rows waits word p.0.0 p.0.1 p.1 full
       ])
 
@@ -500,9 +501,9 @@ module _ (name : Text) (known : Known) where
   pub agrees : (words : List Text) → list_any is_odd words ≡ false → AgreesIdle words × AgreesWaiting words
   agrees [] plain = (at_end, waiting_end)
   agrees (word ∷ words) plain =
-      let later = agrees words (second_false (is_odd word) _ plain) in
-      let first = first_false (is_odd word) _ plain in
-      (idle_word word words first later.0 later.1, waiting_word word words first (second_false (is_odd word) _ plain) later.0)
+      let later = agrees words (or_second (is_odd word) _ plain) in
+      let first = or_first (is_odd word) _ plain in
+      (idle_word word words first later.0 later.1, waiting_word word words first (or_second (is_odd word) _ plain) later.0)
 
   start : (words : List Text) → list_any is_odd words ≡ false → Agrees (line_of known words) (walk_idle [] None) words
   start words plain = (agrees words plain).0 [] None [] refl refl

@@ -8,8 +8,9 @@ use Rattle.std.proofs.lemmas.List.Folds.{list_all-append, list_any-append}
 use Rattle.std.proofs.lemmas.Slice.Eq.{bytes_eq-Decides}
 use Rattle.clap.specs.Lexer.{long_of}
 use Rattle.olap_meaning.specs.Options.{Text, Known, Given, command_line, from_word, is_given, is_known, is_once, is_value, is_whole, options_from, taken, takes}
+use Rattle.olap_meaning.proofs.Lists.{or_first, or_second}
 use Rattle.command_words.specs.OddWords.{is_odd}
-use Rattle.command_words.proofs.WordFacts.{begins_with_hyphen, first_false, second_false, odd-none, plain-value, plain-word}
+use Rattle.command_words.proofs.WordFacts.{begins_with_hyphen, odd-none, plain-value, plain-word}
 
 -- what a word makes of the rest: an option with its value, a name whose value is the next word, or no option
 abbrev pub line_word : Known → Given → Option (Text × Option Text) → (Given → Option Text → Option Given) → Option Given
@@ -103,14 +104,14 @@ module _ (known : Known) where
   reads [] given None plain k = refl
   reads [] given (Some n) plain k = refl
   reads (word ∷ words) given None plain k =
-      let later = second_false (is_odd word) (list_any is_odd words) plain in
+      let later = or_second (is_odd word) (list_any is_odd words) plain in
       by_word given (long_of word) (λ g p. line_from known g p words) (λ w. options_from w words)
       (λ g w j. reads words g w later j) (λ n j. unknown given n words j)
-      ∙ ap (λ o. after known given (from_word o (λ w. options_from w words))) (sym (plain-word word (first_false (is_odd word) (list_any is_odd words) plain)))
+      ∙ ap (λ o. after known given (from_word o (λ w. options_from w words))) (sym (plain-word word (or_first (is_odd word) (list_any is_odd words) plain)))
   reads (word ∷ words) given (Some n) plain k =
       by_value given n word (line_from known (given ++ (n, word) ∷ []) None words) (options_from None words) k
-      (plain-value word (first_false (is_odd word) (list_any is_odd words) plain))
-      (reads words (given ++ (n, word) ∷ []) None (second_false (is_odd word) (list_any is_odd words) plain) tt)
+      (plain-value word (or_first (is_odd word) (list_any is_odd words) plain))
+      (reads words (given ++ (n, word) ∷ []) None (or_second (is_odd word) (list_any is_odd words) plain) tt)
 
 pub eq-turn : (a b : Text) (r : Bool) → bytes_eq a b ≡ r → bytes_eq b a ≡ r
 eq-turn a b true e = (bytes_eq-Decides b a).1 (sym ((bytes_eq-Decides a b).0 e))
@@ -139,10 +140,10 @@ once-more : (given : Given) (o : Text × Text) → is_once given ≡ true → is
 once-more [] o h new = refl
 once-more (g ∷ gs) o h new =
     let parts = both_are (is_given gs g.0) (is_once gs) h in
-    let other = first_false (bytes_eq g.0 o.0) (is_given gs o.0) new in
+    let other = or_first (bytes_eq g.0 o.0) (is_given gs o.0) new in
     let apart : is_given (gs ++ o ∷ []) g.0 ≡ false =
     list_any-append (λ (option : Text × Text). bytes_eq option.0 g.0) gs (o ∷ []) ∙ or_false (is_given gs g.0) (bytes_eq o.0 g.0) parts.0 (eq-turn g.0 o.0 false other) in
-    rw apart (once-more gs o parts.1 (second_false (bytes_eq g.0 o.0) (is_given gs o.0) new))
+    rw apart (once-more gs o parts.1 (or_second (bytes_eq g.0 o.0) (is_given gs o.0) new))
 
 once-not : (given : Given) (o : Text × Text) (os : Given) → is_given given o.0 ≡ true → is_once (given ++ o ∷ os) ≡ false
 once-not [] o os h = absurd (true≢false (sym h))

@@ -1,26 +1,15 @@
 -- What `clap` sees in a word, and what the definitions see in it.
-use Rattle.std.proofs.Common.{◌≡◌, ◌∙◌, ◌⊎◌, ◌==◌, ◌&&◌, ◌||◌, ℕ, Bool, true, false, not, List, [], ◌∷◌, Option, None, Some, is_some, refl, sym, ap, inl, inr, if◌then◌else◌, true≢false, option_map, suc, ◌+◌, take, drop, arith}
+use Rattle.std.proofs.Common.{◌≡◌, ◌∙◌, ◌==◌, ◌&&◌, ℕ, Bool, true, false, not, List, [], ◌∷◌, Option, None, Some, is_some, refl, sym, ap, inl, inr, if◌then◌else◌, true≢false, option_map, suc, ◌+◌, take, drop, arith}
 use Rattle.std.specs.List.{list_any, before_first, after_first, position_or_len}
 use Rattle.std.proofs.lemmas.Bool.{cases_Bool}
 use Rattle.clap.specs.Lexer.{long_of, name_and_value}
 use Rattle.olap_meaning.specs.Options.{Text, Given, from_word, is_equals, is_value, joined_value, option_parts, option_word, options_from}
+use Rattle.olap_meaning.proofs.Lists.{or_first, or_second}
 use Rattle.command_words.specs.OddWords.{is_odd}
 
 abbrev pub begins_with_hyphen : Text → Bool
 begins_with_hyphen [] = false
 begins_with_hyphen (b ∷ bs) = b == 45
-
-pub some_or_none : {X : Type 0} (o : Option X) → (o ≡ None) ⊎ ((x : X) × (o ≡ Some x))
-some_or_none None = inl refl
-some_or_none (Some x) = inr (x, refl)
-
-pub first_false : (a b : Bool) → (a || b) ≡ false → a ≡ false
-first_false true b h = absurd (true≢false h)
-first_false false b h = refl
-
-pub second_false : (a b : Bool) → (a || b) ≡ false → b ≡ false
-second_false true b h = absurd (true≢false h)
-second_false false b h = h
 
 -- `clap` takes an empty value, and the definitions do not
 abbrev pub kept : Option (Text × Option Text) → Option (Text × Option Text)
@@ -46,8 +35,8 @@ drop-one n x xs =
 before-all : (xs : Text) → list_any is_equals xs ≡ false → before_first is_equals xs ≡ xs
 before-all [] h = refl
 before-all (x ∷ xs) h =
-    rw (first_false (is_equals x) (list_any is_equals xs) h)
-    (take-one (position_or_len is_equals xs) x xs ∙ ap (λ (t : Text). x ∷ t) (before-all xs (second_false (is_equals x) (list_any is_equals xs) h)))
+    rw (or_first (is_equals x) (list_any is_equals xs) h)
+    (take-one (position_or_len is_equals xs) x xs ∙ ap (λ (t : Text). x ∷ t) (before-all xs (or_second (is_equals x) (list_any is_equals xs) h)))
 
 parts_by : (text before after : Text) (h : Bool) → (h ≡ false → before ≡ text)
     → (if h then joined_value before after else Some (text, None)) ≡ kept (Some (before, if h then Some after else None))

@@ -11,7 +11,7 @@ fn equals_place(text: &[u8]) -> Option<usize>
     text.iter().position(|byte| *byte == b'=')
 }
 
-// Whether an option's word, behind its hyphens, ends with its first `=`.
+// Whether an option's word, after its hyphens, ends with its first `=`.
 #[tactic(auto, using(crate::proofs::EqualsFacts::equals_some, crate::proofs::EqualsFacts::equals_none))]
 fn has_no_value(text: &[u8]) -> bool
     ensures { result ≡ not (is_some (option_parts text.now)) }

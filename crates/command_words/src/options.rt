@@ -89,7 +89,7 @@ fn read_plain<'a>(
     }
 }
 
-/// The options of a command of this name, which knows these options, from the words behind it.
+/// The options of a command of this name, which knows these options, from the words after it.
 pub(crate) fn read_options<'a>(
     alloc: Global,
     name: &'a str,

@@ -16,9 +16,9 @@ pub struct RunOptions<'a> {
     pub schema: &'a str,
 }
 
-/// The options of `run`, from the words behind it: `--schema FILE`.
+/// The options of `run`, from the words after it: `--schema FILE`.
 ///
-/// FILE is a word of its own, which is not empty and does not begin with a hyphen, or stands behind `--schema=`, where
+/// FILE is a word of its own, which is not empty and does not begin with a hyphen, or stands after `--schema=`, where
 /// it is only not empty. All else is a usage fault, a call for help and a word too many among it. A word that can be no
 /// option and no value is refused before any memory is taken.
 pub fn read_run<'a>(alloc: Global, words: &'a [String]) -> Result<RunOptions<'a>, CommandFault>

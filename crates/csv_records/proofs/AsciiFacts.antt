@@ -1,6 +1,6 @@
 -- The records of ASCII are text.
 use Rattle.std.proofs.Common.{◌≡◌, ◌<◌, ◌&&◌, ◌++◌, ◌∷◌, ◌∙◌, ℕ, zero, suc, Bool, true, false, List, [], Some, None, refl, sym, inl, inr, lit<, Bor}
-use Rattle.std.proofs.lemmas.Bool.{cases_Bool}
+use Rattle.std.proofs.lemmas.Bool.{and_parts, cases_Bool}
 use Rattle.std.specs.List.{list_all}
 use Rattle.std.specs.Str.{is_utf8, IsAscii}
 use Rattle.std.proofs.lemmas.Str.{is_utf8-from_IsUtf8, IsUtf8-from_ascii}
@@ -76,15 +76,11 @@ ascii_strip (a ∷ b ∷ c ∷ rest) h = elim (cases_Bool (is_bom a b c)) [
   | inr none ↦ rw none h
 ]
 
-both_true : (p q : Bool) → (p && q) ≡ true → (p ≡ true) × (q ≡ true)
-both_true true q h = (refl, h)
-both_true false q h = absurd (cc)
-
 -- what one read of ASCII gives is text, and leaves ASCII
 pub ascii_kept : (a b : Reader (Bor (List ℕ))) (known found : Bool) (f : List (List ℕ)) → Streams a → (known ≡ true → HasAsciiLeft a) → (has_failed a ≡ true → found ≡ false)
     → (reader_trim a ≡ trim.None → Ready a → ReadRecord (λ s. Some s.now) a b found f) → (known && found) ≡ true → (list_all is_utf8 f ≡ true) × HasAsciiLeft b
 ascii_kept a b known found f streams ascii failed reads h =
-    let (is_known, is_found) = both_true known found h in
+    let (is_known, is_found) = and_parts known found h in
     elim streams [
       | inl dead ↦ absurd (let e : true ≡ false = sym is_found ∙ failed dead in cc e)
       | inr good ↦ elim (cases_Bool (has_failed a)) [

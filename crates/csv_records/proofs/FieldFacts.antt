@@ -2,6 +2,7 @@
 use Rattle.std.proofs.Common.{◌≡◌, ◌≢◌, ◌<◌, ◌+◌, ◌&&◌, ℕ, zero, suc, Bool, List, [], ◌∷◌, Some, None, drop, length, refl, ap, slice_get, add-one, arith, cond, lit<, ◌++◌, EachIndex, get_or}
 use Rattle.std.specs.List.{list_all, position_from}
 use Rattle.std.specs.Str.{IsAscii}
+use Rattle.olap_meaning.proofs.Lists.{drop_at as drop_suc}
 use Rattle.csv.specs.Records.{field_at}
 
 pub field_at-slice_get : (fs : List (List ℕ)) (i : ℕ) → field_at fs i ≡ slice_get fs i
@@ -9,12 +10,6 @@ unfolding field_at
 field_at-slice_get [] i = refl
 field_at-slice_get (f ∷ fs) zero = refl
 field_at-slice_get (f ∷ fs) (suc i) = field_at-slice_get fs i
-
--- the list from a place on begins with the item there
-drop_suc : {A : Type 0} (xs : List A) (i : ℕ) (x : A) → slice_get xs i ≡ Some x → drop i xs ≡ x ∷ drop (suc i) xs
-drop_suc [] i x h = absurd (cc)
-drop_suc (y ∷ ys) zero x h = let same : y ≡ x = cc in ap (λ z. z ∷ ys) same
-drop_suc (y ∷ ys) (suc i) x h = drop_suc ys i x h
 
 pub drop_at : {A : Type 0} (xs : List A) (i : ℕ) (x : A) → slice_get xs i ≡ Some x → drop i xs ≡ x ∷ drop (i + 1) xs
 drop_at xs i x h = rw add-one (drop_suc xs i x h)
@@ -29,7 +24,7 @@ item_within [] i h e = absurd (omega arith)
 item_within (x ∷ xs) zero h e = absurd (cc)
 item_within (x ∷ xs) (suc i) h e = item_within xs i (omega arith) e
 
--- the first place from a place on is that place, or the first behind it
+-- the first place from a place on is that place, or the first after it
 pub position_from_drop : {A : Type 0} (p : A → Bool) (xs : List A) (i : ℕ) (x : A) → slice_get xs i ≡ Some x
     → position_from p i (drop i xs) ≡ cond (p x) (Some i) (position_from p (i + 1) (drop (i + 1) xs))
 position_from_drop p xs i x h = ap (position_from p i) (drop_at xs i x h)

@@ -1,17 +1,18 @@
 -- What the bytes of a number say, and what parsing them gives.
-use Rattle.std.proofs.Common.{◌≡◌, ◌≢◌, ◌==◌, ◌<◌, ◌≤◌, ◌+◌, ◌^◌, ◌*◌, ◌-◌, ℕ, zero, suc, ℤ, pos, neg_ℤ, true, false, List, [], ◌∷◌, Some, None, Result, Ok, Err, option_map, nat_lt, length, length-take, take, take_all, get_or, refl, sym, ap, subst, arith, inl, inr}
+use Rattle.std.proofs.Common.{◌≡◌, ◌≢◌, ◌==◌, ◌<◌, ◌≤◌, ◌+◌, ◌^◌, ◌*◌, ◌-◌, ℕ, zero, suc, ℤ, pos, neg_ℤ, true, false, List, [], ◌∷◌, Some, None, Result, nat_lt, length, length-take, take, take_all, get_or, refl, sym, subst, arith, inl, inr}
 use Rattle.std.proofs.lemmas.Bool.{cases_Bool, eqb-true}
 use Rattle.std.proofs.lemmas.Bool.Decides.{nat_tests}
 use Rattle.std.proofs.lemmas.Str.{IsUtf8-from_is_utf8, is_utf8-from_IsUtf8, IsUtf8-from_ascii, digit_value_digit}
-use Rattle.std.proofs.lemmas.Str.Parse.{IsNumeralModel, numerals_by_value, tells_all_ascii_digits, tells_digits, digits_value_short, not_in_digits, digit_from_value, parse_signed_minus, parse_signed_plain}
+use Rattle.std.proofs.lemmas.Str.Parse.{IsNumeralModel, numerals_by_value, tells_digits, digits_value_short, not_in_digits, digit_from_value, parse_signed_minus, parse_signed_plain}
 use Rattle.std.proofs.lemmas.Fmt.{IsAscii-from_digits}
 use Rattle.std.proofs.lemmas.Int.Digits.{digits_value_more}
 use Rattle.std.specs.Char.{digit_value}
 use Rattle.std.specs.Int.{w64}
-use Rattle.std.specs.Result.{OkIff, result_ok}
+use Rattle.std.specs.Result.{result_ok}
 use Rattle.std.specs.Str.{is_utf8, IsUtf8, IsAscii, all_ascii_digits}
 use Rattle.std.specs.Str.Parse.{digits_value, AllDigits, ParsesSigned}
 use Rattle.olap_meaning.specs.Records.{digits_below, number}
+use Rattle.olap_meaning.proofs.Numerals.{all_digits_model, same_told, spelled}
 
 pub text_yes : (bytes : List ℕ) → IsUtf8 bytes → true ≡ is_utf8 bytes
 text_yes bytes h = sym (is_utf8-from_IsUtf8 bytes h)
@@ -22,12 +23,9 @@ text_no bytes h = elim (cases_Bool (is_utf8 bytes)) [
   | inr fails ↦ sym fails
 ]
 
-own : IsNumeralModel (λ ds. all_ascii_digits ds ≡ true) (digits_value 10)
-own = numerals_by_value _ tells_all_ascii_digits
-
 -- digits are text
 digits_ascii : (ds : List ℕ) → all_ascii_digits ds ≡ true → IsAscii ds
-digits_ascii ds h = IsAscii-from_digits ds (own.to ds h)
+digits_ascii ds h = IsAscii-from_digits ds (all_digits_model.to ds h)
 
 none_below : (limit : ℕ) (ds : List ℕ) → ¬ (IsAscii ds) → digits_below limit ds ≡ None
 none_below limit [] h = refl
@@ -50,35 +48,15 @@ number_of_no_text (c ∷ cs) h = elim (cases_Bool (c == 45)) [
   | inr fails ↦ rw (fails, none_below (2 ^ 63) (c ∷ cs) (λ a. h (IsUtf8-from_ascii (c ∷ cs) a))) refl
 ]
 
--- parsing digits gives what they spell below the limit
-spelled : {E : Type 0} (r : Result ℤ E) (limit : ℕ) (f : ℕ → ℤ) (ds : List ℕ) → OkIff r ((all_ascii_digits ds ≡ true) × (0 < length ds) × (digits_value 10 ds < limit)) (f (digits_value 10 ds))
-    → result_ok r ≡ option_map f (digits_below limit ds)
-spelled (Ok x) limit f [] h = absurd (omega (arith, h.0.1))
-spelled (Err e) limit f [] h = refl
-spelled (Ok x) limit f (d ∷ ds) h =
-    let small : nat_lt (digits_value 10 (d ∷ ds)) limit ≡ true = grind (arith, nat_tests, h.0.2) in
-    rw (h.0.0, small) (ap Some h.1)
-spelled (Err e) limit f (d ∷ ds) h = elim (cases_Bool (all_ascii_digits (d ∷ ds))) [
-  | inr fails ↦ rw fails refl
-  | inl holds ↦ elim (cases_Bool (nat_lt (digits_value 10 (d ∷ ds)) limit)) [
-    | inr fails ↦ rw (holds, fails) refl
-    | inl small ↦ absurd (h (holds, (omega arith), (grind (arith, nat_tests))))
-  ]
-]
-
-same_told : {E : Type 0} (r : Result ℤ E) (P Q : Type 0) (v : ℤ) → (P → Q) → (Q → P) → OkIff r P v → OkIff r Q v
-same_told (Ok x) P Q v to from h = (to h.0, h.1)
-same_told (Err e) P Q v to from h = λ q. h (from q)
-
 -- a text that does not begin with a plus sign parses as its number
 number_parsed : {E : Type 0} (r : Result ℤ E) (field : List ℕ) → get_or field 0 0 ≢ 43 → ParsesSigned w64 10 field r → result_ok r ≡ number field
-number_parsed r [] plus h = spelled r (2 ^ 63) pos [] (parse_signed_plain own w64 [] r h plus (λ e. cc))
+number_parsed r [] plus h = spelled r (2 ^ 63) pos [] (parse_signed_plain all_digits_model w64 [] r h plus (λ e. cc))
 number_parsed r (c ∷ cs) plus h = elim (cases_Bool (c == 45)) [
   | inl holds ↦
       let minus : c ≡ 45 = eqb-true c 45 holds in
-      let told = parse_signed_minus own w64 (c ∷ cs) r h minus in
+      let told = parse_signed_minus all_digits_model w64 (c ∷ cs) r h minus in
       rw holds (spelled r (2 ^ 63 + 1) (λ n. neg_ℤ (pos n)) cs (same_told r _ _ _ (λ q. (q.0, q.1, (omega (arith, q.2)))) (λ q. (q.0, q.1, (omega (arith, q.2)))) told))
-  | inr fails ↦ rw fails (spelled r (2 ^ 63) pos (c ∷ cs) (parse_signed_plain own w64 (c ∷ cs) r h plus (λ e. let same : (45 == 45) ≡ false = rw e at fails in cc)))
+  | inr fails ↦ rw fails (spelled r (2 ^ 63) pos (c ∷ cs) (parse_signed_plain all_digits_model w64 (c ∷ cs) r h plus (λ e. let same : (45 == 45) ≡ false = rw e at fails in cc)))
 ]
 
 -- the same of a text that stands for the field's bytes
@@ -99,7 +77,7 @@ number_of_digits [] some h small = absurd (omega arith)
 number_of_digits (c ∷ cs) some h small = elim (cases_Bool (c == 45)) [
   | inl holds ↦ absurd (not_in_digits digits (c ∷ cs) 45 h (λ r. omega (arith, r)) 0 (omega arith) (eqb-true c 45 holds))
   | inr fails ↦
-      let all : all_ascii_digits (c ∷ cs) ≡ true = own.from (c ∷ cs) h in
+      let all : all_ascii_digits (c ∷ cs) ≡ true = all_digits_model.from (c ∷ cs) h in
       let below : nat_lt (digits_value 10 (c ∷ cs)) (2 ^ 63) ≡ true = grind (arith, nat_tests) in
       rw (fails, all, below) refl
 ]

@@ -1,4 +1,4 @@
--- A file without quotes can be cut behind each line feed.
+-- A file without quotes can be cut after each line feed.
 use Rattle.std.proofs.Common.{◌≡◌, ◌≢◌, ◌<◌, ◌≤◌, ◌-◌, ◌||◌, ◌==◌, ◌∙◌, ◌∷◌, ◌++◌, ℕ, zero, suc, Bool, true, false, List, [], length, take, drop, Some, if◌then◌else◌, refl, sym, ap, inl, inr, lit<, arith, slice_get, get_or, EachIndex, append_assoc, Bor}
 use native.Mathlib.Numerals.{unary_clauses}
 use Rattle.std.proofs.lemmas.Bool.{cases_Bool}
@@ -19,7 +19,7 @@ use Rattle.csv_records.specs.Parts.{IsPlain}
 abbrev pub Plain : List ℕ → Type 0
 Plain xs = (i : ℕ) → IsPlain (get_or xs i 0)
 
--- where the machine can stand behind bytes without a quote. Between records nothing is at hand
+-- where the machine can stand after bytes without a quote. Between records nothing is at hand
 abbrev Fits : State → List (List ℕ) → List ℕ → Type 0
 Fits st.StartRecord f p = (f ≡ []) × (p ≡ [])
 Fits st.AfterCr f p = (f ≡ []) × (p ≡ [])
@@ -129,7 +129,7 @@ parted (x ∷ xs) (suc i) h = let rest = parted xs i h in (ap (λ (l : List ℕ)
 abbrev left : List ℕ → List (List (List ℕ))
 left xs = left_from st.StartRecord (Some xs)
 
--- behind a line feed begins a file of its own
+-- after a line feed begins a file of its own
 pub part_cut : (xs : List ℕ) (end : ℕ) → Plain xs → 0 < end → slice_get xs (end - 1) ≡ Some 10 → file_records xs ≡ file_records (take end xs) ++ file_records (drop end xs)
 part_cut xs zero h some e = absurd (omega arith)
 part_cut xs (suc i) h some e =

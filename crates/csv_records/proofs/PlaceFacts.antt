@@ -1,37 +1,17 @@
 -- Where columns stand in a header, and what stands there in a record.
-use Rattle.std.proofs.Common.{◌≡◌, ◌<◌, ◌+◌, ◌∙◌, ℕ, zero, suc, Bool, true, false, List, [], ◌∷◌, ◌++◌, Some, map, length, slice_get, get_or, refl, sym, ap, arith, bytes_eq, drop, take, is_some, cond, ◌==◌, inl, inr}
-use Rattle.std.proofs.lemmas.List.{drop_more, take_more}
+use Rattle.std.proofs.Common.{◌≡◌, ◌<◌, ◌+◌, ℕ, zero, suc, Bool, true, false, List, [], ◌∷◌, ◌++◌, Some, map, length, slice_get, get_or, refl, ap, arith, bytes_eq, drop, is_some, cond, ◌==◌, inl, inr}
 use Rattle.std.proofs.lemmas.Bool.{cases_Bool, eqb-true}
 use Rattle.std.specs.List.{list_all, position_from}
 use Rattle.std.specs.Option.{option_or}
 use Rattle.std.specs.Str.{is_utf8}
 use Rattle.olap_meaning.specs.Records.{column_place, field_in, is_csv, missing_column}
-
--- the list from a place on begins with the item there
-pub item_from : {A : Type 0} (items : List A) (i : ℕ) (item : A) → i < length items → item ≡ get_or items i item → drop i items ≡ item ∷ drop (i + 1) items
-item_from items i item h is = drop_more items i item h ∙ ap (λ first. first ∷ drop (i + 1) items) (sym is)
-
--- the list up to a place ends with the item before it
-pub item_upto : {A : Type 0} (items : List A) (i : ℕ) (item : A) → i < length items → item ≡ get_or items i item → take (i + 1) items ≡ take i items ++ item ∷ []
-item_upto items i item h is = take_more items i item h ∙ ap (λ last. take i items ++ last ∷ []) (sym is)
+use Rattle.olap_meaning.proofs.Lists.{drop_step}
 
 -- what two functions give for each item, they give for one
 pub same_at : {A B : Type 0} (f g : A → B) (items : List A) → map f items ≡ map g items → (i : ℕ) (item : A) → i < length items → item ≡ get_or items i item → f item ≡ g item
 same_at f g [] same i item h is = absurd (omega arith)
 same_at f g (x ∷ xs) same zero item h is = let here : f x ≡ g x = cc in rw is here
 same_at f g (x ∷ xs) same (suc i) item h is = let rest : map f xs ≡ map g xs = cc in same_at f g xs rest i item (omega arith) is
-
--- each item of a list passes a test that all pass
-pub all_at : {A : Type 0} (p : A → Bool) (xs : List A) (i : ℕ) (x : A) → list_all p xs ≡ true → slice_get xs i ≡ Some x → p x ≡ true
-all_at p [] i x all there = absurd (cc)
-all_at p (y ∷ ys) zero x all there = elim (cases_Bool (p y)) [
-  | inl passes ↦ let same : y ≡ x = cc in rw (← same) passes
-  | inr fails ↦ absurd (let none : false ≡ true = rw fails at all in cc)
-]
-all_at p (y ∷ ys) (suc i) x all there = elim (cases_Bool (p y)) [
-  | inl passes ↦ all_at p ys i x (rw passes at all) there
-  | inr fails ↦ absurd (let none : false ≡ true = rw fails at all in cc)
-]
 
 -- a place that is found lies in the list
 found_within : {A : Type 0} (p : A → Bool) (i : ℕ) (xs : List A) (k : ℕ) → position_from p i xs ≡ Some k → k < i + length xs
@@ -74,4 +54,4 @@ missing_append (x ∷ xs) ys header = elim (cases_Bool (is_some (column_place x 
 -- what is missing from the column at a place on
 pub missing_from : {A : Type 0} (f : A → List ℕ) (items : List A) (header : List (List ℕ)) (i : ℕ) (item : A) → i < length items → item ≡ get_or items i item
     → missing_column (map f (drop i items)) header ≡ cond (is_some (column_place (f item) header)) (missing_column (map f (drop (i + 1) items)) header) (Some (f item))
-missing_from f items header i item h is = ap (λ rest. missing_column (map f rest) header) (item_from items i item h is)
+missing_from f items header i item h is = ap (λ rest. missing_column (map f rest) header) (drop_step items i item h is)

@@ -28,7 +28,7 @@ fn is_plain(bytes: &[u8]) -> bool
     greatest < 128
 }
 
-// Where the first part ends, behind a line feed. None where all the bytes are one part.
+// Where the first part ends, after a line feed. None where all the bytes are one part.
 fn part_end(bytes: &[u8]) -> Option<usize>
     ensures some { IfSome result (λ end. 0 < end) }
     ensures line { IfSome result (λ end. slice_get bytes.now (end - 1) ≡ Some 10) }

@@ -1,6 +1,6 @@
 -- A schema that is read is within the limits.
 use Rattle.std.proofs.Common.{◌≡◌, ℕ, ◌+◌, ◌≤◌, List, [], ◌∷◌, ◌++◌, length, flat_map, true, unwrap_or, Ok, ap, subst, ◌∙◌, arith, length-append, ◌||◌, bytes_eq, codes}
-use Rattle.std.proofs.lemmas.List.Elements.{All-append, All-cons, All-nil}
+use Rattle.std.proofs.lemmas.List.Elements.{All-nil, All-push}
 use Rattle.std.specs.List.{All}
 use Rattle.olap_meaning.specs.FullNames.{joined_name}
 use Rattle.olap_meaning.specs.Schema.{IsWithinCube, IsWithinLimits, levels_of}
@@ -26,13 +26,9 @@ use Rattle.cube_schema.proofs.ListFacts.{items_at-parts, items_from-keep, items_
 use Rattle.cube_schema.proofs.StepFacts.{both-ok, same-ok, within-ok, filled-ok}
 use Rattle.cube_schema.proofs.TakenFacts.{flat_more}
 
--- what holds of each item holds with one more
-all_more : {A : Type 0} (P : A → Type 0) (xs : List A) (x : A) → All P xs → P x → All P (xs ++ x ∷ [])
-all_more P xs x all one = All-append P xs (x ∷ []) all (All-cons P x [] one (All-nil P))
-
 -- ---- dimensions
 
--- some hierarchies, which each have a level, and with so many other levels at most as many as a schema may have
+-- some hierarchies, which each have a level, and with this many other levels at most as many as a schema may have
 pub record AreCounted (others : ℕ) (hierarchies : List SchemaHierarchy) : Type 0 where
   pub room : others + length (levels_in hierarchies) ≤ LEVEL_LIMIT
   pub each : length hierarchies ≤ length (levels_in hierarchies)
@@ -146,7 +142,7 @@ cubes-count : (dimensions : List SchemaDimension) (items : List Data) (found : L
 cubes-count dimensions items found e = items_from-keep (cube_of dimensions) (All IsWithinCube) more [] items found (All-nil IsWithinCube) e
   where
     more : (earlier : List SchemaCube) (v : Data) (x : SchemaCube) → cube_of dimensions earlier v ≡ Ok x → All IsWithinCube earlier → All IsWithinCube (earlier ++ x ∷ [])
-    more earlier v x is h = all_more IsWithinCube earlier x h (cube-count dimensions earlier v x is)
+    more earlier v x is h = All-push IsWithinCube earlier x h (cube-count dimensions earlier v x is)
 
 -- ---- schemas
 

@@ -54,11 +54,11 @@ abbrev pub is_same_level : AggregateLevel → AggregateLevel → Bool
 is_same_level level other =
     bytes_eq level.hierarchy other.hierarchy && bytes_eq level.level other.level
 
--- one more level behind some, if it is none of them
+-- one more level after some, if it is none of them
 abbrev pub with_level : List AggregateLevel → AggregateLevel → List AggregateLevel
 with_level kept level = if list_any (is_same_level level) kept then kept else kept ++ level ∷ []
 
--- some levels behind others, each once: as it stands first
+-- some levels after others, each once: as it stands first
 abbrev pub first_levels : List AggregateLevel → List AggregateLevel → List AggregateLevel
 first_levels kept [] = kept
 first_levels kept (level ∷ levels) = first_levels (with_level kept level) levels

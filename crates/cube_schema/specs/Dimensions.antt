@@ -42,7 +42,7 @@ is_taken name names = bytes_eq name (codes "Measures") || list_any (bytes_eq nam
 abbrev pub levels_in : List SchemaHierarchy → List SchemaLevel
 levels_in hierarchies = flat_map (λ hierarchy. hierarchy.levels) hierarchies
 
--- a list of levels has at least one, and with so many others of the schema at most as many as a schema may have
+-- a list of levels has at least one, and with this many others of the schema at most as many as a schema may have
 abbrev pub some_beside : SchemaNode → ℕ → SchemaPlace → List Data → Result (Unit {0}) SchemaFault
 some_beside first others place items = do
   _ ← within place (others + length items) LEVEL_LIMIT

@@ -131,7 +131,7 @@ list_at node key d = do
   value ← value_at node key d
   list_of (Key node key) value
 
--- a fault where a list of so many items is too long
+-- a fault where a list of this many items is too long
 abbrev pub within : SchemaPlace → ℕ → ℕ → Result (Unit {0}) SchemaFault
 within place count limit = refused_if (nat_lt limit count) (TooMany place count limit)
 

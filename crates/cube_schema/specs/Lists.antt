@@ -9,7 +9,7 @@ use Rattle.cube_schema.specs.declared.place.SchemaPlace.{SchemaPlace}
 use Rattle.cube_schema.specs.declared.place.SchemaPlace.TheVariants.{Key}
 use Rattle.cube_schema.specs.Fields.{list_at, within, filled}
 
--- some items, read one after another behind earlier ones: each knows those before it, and the first fault is the
+-- some items, read one after another after earlier ones: each knows those before it, and the first fault is the
 -- answer
 unfoldable pub items_from : {A : Type 0} → (List A → Data → Result A SchemaFault) → List A
     → List Data → Result (List A) SchemaFault
@@ -22,7 +22,7 @@ items_from item earlier (value ∷ more) = do
 abbrev pub any_number : SchemaPlace → List Data → Result (Unit {0}) SchemaFault
 any_number place items = Ok tt
 
--- a list may have so many items at most
+-- a list may have this many items at most
 abbrev pub at_most : ℕ → SchemaPlace → List Data → Result (Unit {0}) SchemaFault
 at_most limit place items = within place (length items) limit
 
@@ -30,7 +30,7 @@ at_most limit place items = within place (length items) limit
 abbrev pub some : SchemaNode → SchemaPlace → List Data → Result (Unit {0}) SchemaFault
 some first place items = filled first items
 
--- a list has at least one item, and so many at most
+-- a list has at least one item, and this many at most
 abbrev pub some_at_most : SchemaNode → ℕ → SchemaPlace → List Data → Result (Unit {0}) SchemaFault
 some_at_most first limit place items = do
   _ ← within place (length items) limit

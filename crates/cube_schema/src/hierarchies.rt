@@ -138,7 +138,7 @@ fn levels_of(
     Ok(levels)
 }
 
-// The levels of a hierarchy, where so many were read before it in the whole schema.
+// The levels of a hierarchy, where this many were read before it in the whole schema.
 #[tactic(auto, unfolding(crate::specs::Lists::items_at))]
 fn read_levels(
     alloc: Global,

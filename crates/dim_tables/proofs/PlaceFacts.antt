@@ -1,20 +1,18 @@
 -- Where columns stand, and what stands there.
 use Rattle.std.proofs.Common.{◌≡◌, ◌<◌, ◌+◌, ◌∙◌, ℕ, zero, suc, true, false, List, [], ◌∷◌, ◌++◌, Option, Some, None, map, length, slice_get, get_or, refl, sym, ap, arith, drop, inl, inr, nat_lt, option_map, ◌⊎◌}
 use Rattle.std.proofs.lemmas.List.{map-append}
-use Rattle.std.proofs.lemmas.Bool.{cases_Bool}
+use Rattle.std.proofs.lemmas.Bool.{cases_Bool, lt-ltb}
 use Rattle.std.specs.List.{flat_map}
 use Rattle.std.specs.Option.{option_or}
-use Rattle.csv_records.proofs.PlaceFacts.{item_from, missing_append, place_within}
+use Rattle.csv_records.proofs.PlaceFacts.{missing_append, place_within}
 use Rattle.olap_meaning.specs.Records.{column_place, missing_column}
 use Rattle.olap_meaning.specs.declared.schema.SchemaHierarchy.{SchemaHierarchy}
 use Rattle.olap_meaning.specs.declared.schema.SchemaLevel.{SchemaLevel}
+use Rattle.olap_meaning.proofs.Lists.{drop_step}
 use Rattle.dim_tables.specs.declared.fault.TableFault.{TableFault}
 use Rattle.dim_tables.specs.declared.fault.TableFault.TheVariants.{NoColumn, OutOfMemory as NoMemory}
 use Rattle.dim_tables.specs.Bound.{are_within, fields_at}
 use Rattle.dim_tables.specs.TableFiles.{fields_in}
-
-nat_lt-true : (m n : ℕ) → m < n → nat_lt m n ≡ true
-nat_lt-true m n h = grind arith
 
 -- places of columns of the header are those of fields of a record
 pub all_within : (header row : List (List ℕ)) (places : List ℕ) (columns : List (List ℕ)) → map (λ place. Some place) places ≡ map (λ column. column_place column header) columns
@@ -25,7 +23,7 @@ all_within header row (place ∷ places) (column ∷ columns) same width =
     let here : Some place ≡ column_place column header = cc in
     let rest : map (λ place. Some place) places ≡ map (λ column. column_place column header) columns = cc in
     let within = place_within column header place (sym here) in
-    rw (nat_lt-true place (length row) (omega arith)) (all_within header row places columns rest width)
+    rw (lt-ltb place (length row) (omega arith)) (all_within header row places columns rest width)
 
 -- the fields at the places of columns are the fields in the columns
 pub fields_there : (header row : List (List ℕ)) (places : List ℕ) (columns : List (List ℕ)) → map (λ place. Some place) places ≡ map (λ column. column_place column header) columns
@@ -53,7 +51,7 @@ within_at (p ∷ ps) row (suc i) place within h is = elim (cases_Bool (nat_lt p 
 -- the fields at the places from one on
 pub fields_from : (places : List ℕ) (row : List (List ℕ)) (i place : ℕ) (field : List ℕ) → i < length places → place ≡ get_or places i place → slice_get row place ≡ Some field
     → fields_at (drop i places) row ≡ field ∷ fields_at (drop (i + 1) places) row
-fields_from places row i place field h is there = rw (item_from places i place h is, there) refl
+fields_from places row i place field h is there = rw (drop_step places i place h is, there) refl
 
 -- as many places as items
 pub as_many : {A : Type 0} (places : List ℕ) (items : List A) (g : A → Option ℕ) → map (λ place. Some place) places ≡ map g items → length places ≡ length items
@@ -73,7 +71,7 @@ placed_columns header (level ∷ levels) = ap (λ rest. column_place level.colum
 -- the levels from a hierarchy on are its own and those of the others
 flat_from : (hierarchies : List SchemaHierarchy) (i : ℕ) (h : SchemaHierarchy) → i < length hierarchies → h ≡ get_or hierarchies i h
     → flat_map (λ hierarchy. hierarchy.levels) (drop i hierarchies) ≡ h.levels ++ flat_map (λ hierarchy. hierarchy.levels) (drop (i + 1) hierarchies)
-flat_from hierarchies i h below is = ap (flat_map (λ hierarchy. hierarchy.levels)) (item_from hierarchies i h below is)
+flat_from hierarchies i h below is = ap (flat_map (λ hierarchy. hierarchy.levels)) (drop_step hierarchies i h below is)
 
 pub flat_placed : {B : Type 0} (g : SchemaLevel → B) (hierarchies : List SchemaHierarchy) (i : ℕ) (h : SchemaHierarchy) → i < length hierarchies → h ≡ get_or hierarchies i h
     → map g (flat_map (λ hierarchy. hierarchy.levels) (drop i hierarchies)) ≡ map g h.levels ++ map g (flat_map (λ hierarchy. hierarchy.levels) (drop (i + 1) hierarchies))

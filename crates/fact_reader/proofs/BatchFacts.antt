@@ -4,11 +4,12 @@ use Rattle.std.specs.Prelude.{IsTrue, option_map, option_to_list, slice_get}
 use Rattle.std.specs.List.{cons_option}
 use Rattle.std.proofs.lemmas.List.Sums.{sum_by-append}
 use Rattle.std.proofs.lemmas.List.Elements.{filter_map-append}
-use Rattle.segment_body.proofs.Places.{each_at}
 use Rattle.olap_meaning.specs.declared.cells.Header.{Header}
 use Rattle.olap_meaning.specs.declared.tables.Catalog.{Catalog}
 use Rattle.olap_meaning.specs.declared.tables.Row.{Row}
 use Rattle.olap_meaning.specs.Catalog.{first_appearances}
+use Rattle.olap_meaning.proofs.Positions.{take-push}
+use Rattle.olap_meaning.proofs.Lists.{passes_at}
 use Rattle.fact_versions.specs.FactRows.{FactRows}
 use Rattle.fact_versions.specs.Facts.{rows_of_batches}
 use Rattle.segment_body.specs.BodyOf.{different_values}
@@ -23,11 +24,6 @@ length-rows_in (batch ∷ batches) =
     let first = sum_by-append (λ (b : FactRows). length b.rows) (batch ∷ []) batches in
     omega (arith, first, rest, length-append batch.rows (rows_in batches))
 
-pub taken_next : {A : Type 0} (xs : List A) (i : ℕ) (x : A) → slice_get xs i ≡ Some x → take (suc i) xs ≡ take i xs ++ x ∷ []
-taken_next [] i x at = absurd (cc)
-taken_next (y ∷ ys) zero x at = let same : y ≡ x = cc in rw same refl
-taken_next (y ∷ ys) (suc i) x at = ap (λ (zs : List _). y ∷ zs) (taken_next ys i x at)
-
 rows_in-append : (xs ys : List FactRows) → rows_in (xs ++ ys) ≡ rows_in xs ++ rows_in ys
 rows_in-append [] ys = refl
 rows_in-append (x ∷ xs) ys = ap (λ (rows : List Row). x.rows ++ rows) (rows_in-append xs ys) ∙ sym (append_assoc x.rows (rows_in xs) (rows_in ys))
@@ -35,7 +31,7 @@ rows_in-append (x ∷ xs) ys = ap (λ (rows : List Row). x.rows ++ rows) (rows_i
 -- the rows of one batch more
 pub rows_in_next : (batches : List FactRows) (i : ℕ) (batch : FactRows) → slice_get batches i ≡ Some batch → rows_in (take (i + 1) batches) ≡ rows_in (take i batches) ++ batch.rows
 rows_in_next batches i batch at =
-    rw (add-one i, taken_next batches i batch at)
+    rw (add-one i, take-push batches i batch at)
     (rows_in-append (take i batches) (batch ∷ []) ∙ ap (λ (rows : List Row). rows_in (take i batches) ++ rows) (append-nil batch.rows))
 
 pub rows_in_more : (batches : List FactRows) (i : ℕ) (batch : FactRows) → slice_get batches i ≡ Some batch → length (rows_in (take (i + 1) batches)) ≡ length (rows_in (take i batches)) + length batch.rows
@@ -52,14 +48,14 @@ rows_in_within (x ∷ xs) (suc i) batch at =
     omega (arith, rows_in_within xs i batch at, length-append x.rows (rows_in xs), length-append x.rows (rows_in (take i xs)))
 
 pub batch_fits : (catalog : Catalog) (cube : ℕ) (batches : List FactRows) (i : ℕ) (batch : FactRows) → IsTrue (are_batches catalog cube batches) → slice_get batches i ≡ Some batch → IsTrue (is_batch catalog cube batch)
-batch_fits catalog cube batches i batch fit at = each_at (is_batch catalog cube) batches i batch fit at
+batch_fits catalog cube batches i batch fit at = passes_at (is_batch catalog cube) batches i batch fit at
 
 pub taken_fit : {A : Type 0} (xs : List A) (n : ℕ) → length (take n xs) ≤ n
 taken_fit xs zero = omega arith
 taken_fit [] (suc n) = omega arith
 taken_fit (x ∷ xs) (suc n) = omega (arith, taken_fit xs n)
 
--- an element behind the first ones
+-- an element after the first ones
 pub later_at : {A : Type 0} (xs : List A) (n i : ℕ) → slice_get xs (n + i) ≡ slice_get (drop n xs) i
 later_at xs zero i = ap (slice_get xs) (omega arith)
 later_at [] (suc n) i = refl
@@ -85,7 +81,7 @@ module _ (catalog : Catalog) (header : Header) where
   pub body_rows_next : (batch : FactRows) (i : ℕ) → slice_get batch.rows i ≡ Some (row_at batch i)
       → body_rows catalog header (take (i + 1) batch.rows) ≡ body_rows catalog header (take i batch.rows) ++ option_to_list (body_row catalog header (row_at batch i))
   body_rows_next batch i at =
-      rw (add-one i, taken_next batch.rows i (row_at batch i) at)
+      rw (add-one i, take-push batch.rows i (row_at batch i) at)
       (body_rows-append (take i batch.rows) (row_at batch i ∷ []) ∙ ap (λ (rows : List (List ℕ × Option ℤ)). body_rows catalog header (take i batch.rows) ++ rows) (one (body_row catalog header (row_at batch i)) refl))
     where
       one : (o : Option (List ℕ × Option ℤ)) → body_row catalog header (row_at batch i) ≡ o → body_rows catalog header (row_at batch i ∷ []) ≡ option_to_list (body_row catalog header (row_at batch i))

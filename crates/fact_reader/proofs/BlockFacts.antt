@@ -13,6 +13,7 @@ use Rattle.olap_meaning.specs.declared.cells.Header.{Header}
 use Rattle.olap_meaning.specs.declared.tables.Catalog.{Catalog}
 use Rattle.olap_meaning.specs.declared.tables.Row.{Row}
 use Rattle.olap_meaning.specs.Catalog.{first_appearances}
+use Rattle.olap_meaning.proofs.Positions.{take-push}
 use Rattle.fact_versions.specs.FactRows.{FactRows}
 use Rattle.segment_body.specs.BodyOf.{BodyOf, different_values, has_row}
 use Rattle.segment_body.proofs.RowFacts.{different_new, different_same}
@@ -20,7 +21,7 @@ use Rattle.fact_reader.specs.declared.blocks.PlacedRow.{PlacedRow}
 use Rattle.fact_reader.specs.Blocks.{IsBehind, IsPlacedRow, kept_row, kept_rows, numbered_row, own_row, valued_row, valued_rows, with_block}
 use Rattle.fact_reader.specs.BodyRows.{AreAlike, body_row, body_rows, row_number, row_values, values_in, with_rows}
 use Rattle.fact_reader.specs.Reading.{ReaderOf, reader_of, row_at}
-use Rattle.fact_reader.proofs.BatchFacts.{body_rows-append, body_rows-fit, different_texts, taken_next, values_taken}
+use Rattle.fact_reader.proofs.BatchFacts.{body_rows-append, body_rows-fit, different_texts, values_taken}
 
 -- a header is of a cube and has some columns
 pub record HasColumns (cube : ℕ) (columns : List (ℕ × Allowed)) (header : Header) : Type 0 where
@@ -55,7 +56,7 @@ numbered_own catalog header batch (row ∷ rows) = ap (λ (rest : List (List ℕ
 pub record IsBetween (catalog : Catalog) (first : Header) (batch : FactRows) (from to : ℕ) (rows : List (ℕ × List ℕ)) : Type 0 where
   pub between : kept_rows catalog first (take from batch.rows) ++ map (own_row batch) rows ≡ kept_rows catalog first (take to batch.rows)
 
--- its rows stand behind those before it
+-- its rows stand after those before it
 rows_added : (catalog : Catalog) (first header : Header) (batch : FactRows) (from to : ℕ) (rows : List (ℕ × List ℕ)) → HasColumns first.cube first.columns header → IsBetween catalog first batch from to rows
     → body_rows catalog header (take from batch.rows) ++ map (numbered_row catalog header batch) rows ≡ body_rows catalog header (take to batch.rows)
 rows_added catalog first header batch from to rows like is =
@@ -115,7 +116,7 @@ pub read_next : (catalog : Catalog) (header : Header) (batch : FactRows) (i : �
     → before ++ map (own_row batch) rows ≡ kept_rows catalog header (take i batch.rows)
     → before ++ map (own_row batch) (rows ++ option_to_list (option_map (λ values. (i, values)) (row_values catalog header (row_at batch i)))) ≡ kept_rows catalog header (take (i + 1) batch.rows)
 read_next catalog header batch i before rows at so_far =
-    rw (add-one i, taken_next batch.rows i (row_at batch i) at)
+    rw (add-one i, take-push batch.rows i (row_at batch i) at)
     (by (row_values catalog header (row_at batch i)) refl
     ∙ ap (λ (xs : List (Row × List ℕ)). xs ++ kept_rows catalog header (row_at batch i ∷ [])) so_far
     ∙ sym (filter_map-append (kept_row catalog header) (take i batch.rows) (row_at batch i ∷ [])))
@@ -286,7 +287,7 @@ pub placed_next : (catalog : Catalog) (batch : FactRows) (values : List (List �
 placed_next catalog batch values block k own old body new row at so_far added is =
     let number : List (List ℕ × Option ℤ) → BodyOf = λ all. record old { rows = all } in
     let before : List (List ℕ × Option ℤ) = map (numbered_row catalog old.header batch) (valued_rows values (take k block)) in
-    let taken : take (k + 1) block ≡ take k block ++ own ∷ [] = rw (add-one k) (taken_next block k own at) in
+    let taken : take (k + 1) block ≡ take k block ++ own ∷ [] = rw (add-one k) (take-push block k own at) in
     let more = ap (λ (own : List PlacedRow). map (numbered_row catalog old.header batch) (valued_rows values own)) taken
     ∙ ap (map (numbered_row catalog old.header batch)) (map-append (valued_row values) (take k block) (own ∷ []))
     ∙ map-append (numbered_row catalog old.header batch) (valued_rows values (take k block)) (valued_row values own ∷ []) in

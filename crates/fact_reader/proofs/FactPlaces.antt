@@ -18,12 +18,11 @@ use Rattle.olap_meaning.specs.Catalog.{fact_columns}
 use Rattle.olap_meaning.specs.History.{is_some_and}
 use Rattle.olap_meaning.specs.Legal.{is_column_of}
 use Rattle.olap_meaning.proofs.Appearances.{any-same}
+use Rattle.olap_meaning.proofs.Lists.{any_at, position_there, text_self}
+use Rattle.olap_meaning.proofs.Loads.{some_and}
 use Rattle.catalog_tables.proofs.SeenFacts.{list_any-map}
-use Rattle.segment_body.proofs.Places.{some_at}
-use Rattle.segment_body.proofs.RowFacts.{same_self}
 use Rattle.fact_reader.specs.Reading.{fact_place, place_of}
 use Rattle.fact_reader.specs.BodyRows.{header_measure, is_loadable}
-use Rattle.fact_reader.proofs.RowFacts.{some_and, position_of}
 
 -- the columns of some measures
 abbrev pub columns : List Measure → List (List ℕ)
@@ -42,7 +41,7 @@ columns_suc (m ∷ ms) (suc i) measure within is = ap (λ (rest : List (List ℕ
 pub columns_next : (measures : List Measure) (i : ℕ) (measure : Measure) → i < length measures → measure ≡ get_or measures i measure → columns (take (i + 1) measures) ≡ columns (take i measures) ++ measure.column ∷ []
 columns_next measures i measure within is = ap (λ (n : ℕ). columns (take n measures)) (add-one i) ∙ columns_suc measures i measure within is
 
--- the first measure with a column has the place behind the different columns before it
+-- the first measure with a column has the place after the different columns before it
 pub place_here : (measures : List Measure) (i : ℕ) (measure : Measure) (column : List ℕ) (place : ℕ) → i < length measures → measure ≡ get_or measures i measure → bytes_eq column measure.column ≡ true
     → place ≡ length (first_appearances (columns (take i measures))) → list_any (bytes_eq column) (columns (take i measures)) ≡ false
     → Some place ≡ position (bytes_eq column) (first_appearances (columns measures))
@@ -82,8 +81,8 @@ measure_there catalog header loadable =
     let own = some_and (λ (measure : Measure). true) (header_measure catalog header) parts.0 in
     let has : slice_get c.measures header.measure ≡ Some own.0 = ap (λ (o : Option Cube). option_and_then (λ k. slice_get k.measures header.measure) o) (sym cube.1) ∙ own.1 in
     let at : slice_get (columns c.measures) header.measure ≡ Some own.0.column = rw (slice_get-map (λ (m : Measure). m.column) c.measures header.measure, has) refl in
-    let any : list_any (bytes_eq own.0.column) (columns c.measures) ≡ true = some_at (bytes_eq own.0.column) (columns c.measures) header.measure own.0.column at (same_self own.0.column) in
-    let place = position_of (bytes_eq own.0.column) (fact_columns c) (any-same (bytes_eq own.0.column) (columns c.measures) ∙ any) in
+    let any : list_any (bytes_eq own.0.column) (columns c.measures) ≡ true = any_at (bytes_eq own.0.column) (columns c.measures) header.measure own.0.column at (text_self own.0.column) in
+    let place = position_there (bytes_eq own.0.column) (fact_columns c) (any-same (bytes_eq own.0.column) (columns c.measures) ∙ any) in
     record { c = c; measure = own.0; place = place.0; known = cube.1; has = has; found = place.1 }
 
 -- the measure and the cube that look-ups give are those

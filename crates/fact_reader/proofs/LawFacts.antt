@@ -3,8 +3,7 @@ use Rattle.std.proofs.Common.{◌≡◌, ◌∙◌, ◌<◌, ℕ, ℤ, zero, suc
 use Rattle.std.specs.Prelude.{◌&&◌, ◌||◌, ◌==◌, IsTrue, option_map, option_and_then, slice_get}
 use Rattle.std.specs.List.{list_any, list_all, zip}
 use Rattle.std.specs.Option.{option_map_or}
-use Rattle.std.proofs.lemmas.Bool.{and_parts, and_from, cases_Bool}
-use Rattle.std.proofs.lemmas.Bool.Decides.{nat_tests}
+use Rattle.std.proofs.lemmas.Bool.{and_from, and_parts, cases_Bool, eqb-true}
 use Rattle.olap_meaning.specs.declared.Aggregator.{Aggregator}
 use Rattle.olap_meaning.specs.declared.CellValue.TheVariants.{Empty}
 use Rattle.olap_meaning.specs.declared.cells.Allowed.{Allowed}
@@ -28,9 +27,6 @@ use Rattle.segment_body.specs.Narrowed.{allowed_values, if_allowed}
 use Rattle.segment_body.proofs.ValueFacts.{first_allowed}
 use Rattle.fact_reader.specs.BodyRows.{HoldsRows, row_values, row_number, header_measure, body_rows, body_of, body_value}
 
-eq_of : (a b : ℕ) → (a == b) ≡ true → a ≡ b
-eq_of a b h = grind (arith, nat_tests)
-
 -- a column allows the value that it has
 abbrev pub is_kept : (ℕ → Option ℕ) → ℕ × Allowed → Bool
 is_kept f column = is_some_and (allows column.1) (f column.0)
@@ -50,7 +46,7 @@ module _ (f : ℕ → Option ℕ) where
       let rest = stands_where test cs parts.1 x parts.4 in
       elim (cases_Bool (c.0 == x)) [
         | inl same ↦
-            let here : f x ≡ Some parts.0 = rw (← eq_of c.0 x same) parts.2 in
+            let here : f x ≡ Some parts.0 = rw (← eqb-true c.0 x same) parts.2 in
             rw (parts.5, same, rest, here) (or_twice (among (map (λ column. column.0) cs) x) (test parts.0))
         | inr other ↦ rw (parts.5, other) rest
       ]
@@ -97,13 +93,13 @@ module _ (f : ℕ → Option ℕ) where
       let covers = and_parts (list_any (λ column. (column.0 == p.0) && allows column.1 p.1) columns) (list_all (λ pair. list_any (λ column. (column.0 == pair.0) && allows column.1 pair.1) columns) ps) covered in
       let has = and_parts (is_some_and (λ value. value == p.1) (f p.0)) (list_all (λ pair. is_some_and (λ value. value == pair.1) (f pair.0)) ps) inside in
       elim (cases_Bool (p.0 == x)) [
-        | inl same ↦ (p, eq_of p.0 x same, covers.0, some_is (f p.0) p.1 has.0)
+        | inl same ↦ (p, eqb-true p.0 x same, covers.0, some_is (f p.0) p.1 has.0)
         | inr other ↦ found columns ps x (rw other at named) covers.1 has.1
       ]
     where
       some_is : (o : Option ℕ) (n : ℕ) → is_some_and (λ value. value == n) o ≡ true → o ≡ Some n
       some_is None n h = absurd (cc)
-      some_is (Some v) n h = ap (λ (m : ℕ). Some m) (eq_of v n h)
+      some_is (Some v) n h = ap (λ (m : ℕ). Some m) (eqb-true v n h)
 
   -- a column that the cell names allows the value that it has
   kept_at : (columns : List (ℕ × Allowed)) (at : List (ℕ × ℕ)) (i : ℕ) (d : ℕ × Allowed) → i < length columns → rise (map (λ column. column.0) columns) ≡ true
@@ -151,7 +147,7 @@ covers_of header cell holds covers =
     let own = and_parts ((header.cube == cell.cube) && (header.measure == cell.measure)) allowed parts.0 in
     let same = and_parts (header.cube == cell.cube) (header.measure == cell.measure) own.0 in
     let rises = and_parts (rise (map (λ column. column.0) header.columns)) (list_all (λ column. is_set column.1) header.columns) holds in
-    record { cube = eq_of _ _ same.0; measure = eq_of _ _ same.1; rising = rises.0; named = parts.1; covered = own.1 }
+    record { cube = eqb-true _ _ same.0; measure = eqb-true _ _ same.1; rising = rises.0; named = parts.1; covered = own.1 }
 
 module _ (catalog : Catalog) (header : Header) (cell : Cell) (is : Covers header cell) where
   -- a row that the body has is in the cell where the loaded row is

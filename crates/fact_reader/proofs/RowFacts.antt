@@ -1,9 +1,8 @@
 -- What the rows of a cube's batches have on a header's columns.
-use Rattle.std.proofs.Common.{◌≡◌, ◌∙◌, ◌<◌, ℕ, zero, suc, Bool, true, List, [], ◌∷◌, Option, None, Some, length, map, get_or, refl, sym, ap, arith}
-use Rattle.std.specs.Prelude.{◌&&◌, ◌==◌, IsTrue, option_and_then, position, slice_get, nat_lt}
-use Rattle.std.specs.List.{list_any, list_all, zip}
-use Rattle.std.proofs.lemmas.Bool.{and_parts}
-use Rattle.std.proofs.lemmas.Bool.Decides.{nat_tests}
+use Rattle.std.proofs.Common.{◌≡◌, ◌∙◌, ◌<◌, ℕ, zero, suc, true, List, [], ◌∷◌, Option, Some, length, map, get_or, refl, sym, ap, arith}
+use Rattle.std.specs.Prelude.{◌&&◌, ◌==◌, IsTrue, option_and_then, position, slice_get}
+use Rattle.std.specs.List.{list_all, zip}
+use Rattle.std.proofs.lemmas.Bool.{and_parts, eqb-true, ltb-true}
 use Rattle.std.proofs.lemmas.List.Quantifiers.{position-Some}
 use Rattle.std.proofs.lemmas.Option.{slice_get-get_or}
 use Rattle.olap_meaning.specs.declared.cells.Allowed.{Allowed}
@@ -17,31 +16,14 @@ use Rattle.olap_meaning.specs.Covering.{among}
 use Rattle.olap_meaning.specs.History.{is_some_and}
 use Rattle.olap_meaning.specs.Legal.{is_column_of, is_leaf, is_row}
 use Rattle.olap_meaning.specs.Worth.{leaf_in, row_value}
+use Rattle.olap_meaning.proofs.Lists.{passes_at, position_there}
+use Rattle.olap_meaning.proofs.Loads.{some_and}
 use Rattle.fact_versions.specs.FactRows.{FactRows}
 use Rattle.segment_header.proofs.RiseFacts.{all_at}
-use Rattle.segment_body.proofs.Places.{each_at, missed}
 use Rattle.catalog_tables.specs.Tables.{number_of}
 use Rattle.olap_catalog.specs.Columns.{column_leaves, column_texts}
 use Rattle.fact_reader.specs.Reading.{IsReader, place_of, row_at}
 use Rattle.fact_reader.specs.BodyRows.{header_measure, is_batch, is_loadable}
-
-eq_of : (a b : ℕ) → (a == b) ≡ true → a ≡ b
-eq_of a b h = grind (arith, nat_tests)
-
-lt_of : (a b : ℕ) → nat_lt a b ≡ true → a < b
-lt_of a b h = grind (arith, nat_tests)
-
--- what passes a test within an option is there
-pub some_and : {A : Type 0} (test : A → Bool) (o : Option A) → is_some_and test o ≡ true → (x : A) × (o ≡ Some x) × (test x ≡ true)
-some_and test None h = absurd (cc)
-some_and test (Some x) h = (x, refl, h)
-
-pub position_of : {A : Type 0} (p : A → Bool) (xs : List A) → list_any p xs ≡ true → (i : ℕ) × (position p xs ≡ Some i)
-position_of p xs any = by (position p xs) refl
-  where
-    by : (o : Option ℕ) → position p xs ≡ o → (i : ℕ) × (position p xs ≡ Some i)
-    by None e = let none = missed p xs e in absurd (cc)
-    by (Some i) e = (i, e)
 
 zip_at : {A B : Type 0} (xs : List A) (ys : List B) (i : ℕ) (x : A) (y : B) → slice_get xs i ≡ Some x → slice_get ys i ≡ Some y → slice_get (zip xs ys) i ≡ Some (x, y)
 zip_at [] ys i x y e f = absurd (cc)
@@ -64,7 +46,7 @@ column_there catalog header i column loadable within is =
     let cube = some_and (λ cube. list_all (λ own. is_column_of catalog cube.dimensions own.0) header.columns) (slice_get catalog.cubes header.cube) parts.1 in
     let here : is_column_of catalog cube.0.dimensions column.0 ≡ true = rw is (all_at (λ own. is_column_of catalog cube.0.dimensions own.0) header.columns i column cube.2 within) in
     let own = some_and (λ c. among cube.0.dimensions c.dimension) (slice_get catalog.columns column.0) here in
-    let place = position_of (λ d. d == own.0.dimension) cube.0.dimensions own.2 in
+    let place = position_there (λ d. d == own.0.dimension) cube.0.dimensions own.2 in
     record { c = cube.0; own = own.0; place = place.0; known = cube.1; stands = own.1; found = place.1 }
 
 -- what a batch of a cube is
@@ -78,7 +60,7 @@ fits_cube catalog cube batch c known fit =
     let parts = and_parts (is_some_and (λ c. (batch.dimensions == length c.dimensions) && (batch.columns == length (fact_columns c))) (slice_get catalog.cubes cube)) (list_all (is_row catalog cube) batch.rows) fit in
     let counts : ((batch.dimensions == length c.dimensions) && (batch.columns == length (fact_columns c))) ≡ true = rw known at parts.0 in
     let each = and_parts (batch.dimensions == length c.dimensions) (batch.columns == length (fact_columns c)) counts in
-    record { dimensions = eq_of _ _ each.0; columns = eq_of _ _ each.1; rows = parts.1 }
+    record { dimensions = eqb-true _ _ each.0; columns = eqb-true _ _ each.1; rows = parts.1 }
 
 -- what a row of a cube is
 record IsRowOf (catalog : Catalog) (c : Cube) (row : Row) : Type 0 where
@@ -91,7 +73,7 @@ row_of catalog cube c row known is =
     let here : (((length row.leaves == length c.dimensions) && list_all (λ pair. is_leaf catalog pair.0 pair.1) (zip c.dimensions row.leaves)) && (length row.values == length (fact_columns c))) ≡ true = rw known at is in
     let parts = and_parts ((length row.leaves == length c.dimensions) && list_all (λ pair. is_leaf catalog pair.0 pair.1) (zip c.dimensions row.leaves)) (length row.values == length (fact_columns c)) here in
     let more = and_parts (length row.leaves == length c.dimensions) (list_all (λ pair. is_leaf catalog pair.0 pair.1) (zip c.dimensions row.leaves)) parts.0 in
-    record { leaves = eq_of _ _ more.0; leafs = more.1; values = eq_of _ _ parts.1 }
+    record { leaves = eqb-true _ _ more.0; leafs = more.1; values = eqb-true _ _ parts.1 }
 
 -- the leaf of a batch's row at the place of a column
 pub record IsPlaced (catalog : Catalog) (cube : ℕ) (batch : FactRows) (i column place : ℕ) : Type 0 where
@@ -112,17 +94,17 @@ placed catalog cube batch i column place there at fit row =
     let fits = fits_cube catalog cube batch c there.known fit in
     let is = row_of catalog cube c (row_at batch i) there.known (all_at (is_row catalog cube) batch.rows i (record { leaves = []; values = [] }) fits.rows row) in
     let first = position-Some (λ d. d == own.dimension) c.dimensions place 0 found in
-    let dimension : slice_get c.dimensions place ≡ Some own.dimension = slice_get-get_or c.dimensions place 0 first.0 ∙ ap (λ (d : ℕ). Some d) (eq_of _ _ first.1) in
+    let dimension : slice_get c.dimensions place ≡ Some own.dimension = slice_get-get_or c.dimensions place 0 first.0 ∙ ap (λ (d : ℕ). Some d) (eqb-true _ _ first.1) in
     let leaf : ℕ = get_or (row_at batch i).leaves place 0 in
     let here : slice_get (row_at batch i).leaves place ≡ Some leaf = slice_get-get_or (row_at batch i).leaves place 0 (omega (arith, is.leaves, first.0)) in
-    let passes : is_leaf catalog own.dimension leaf ≡ true = each_at (λ pair. is_leaf catalog pair.0 pair.1) (zip c.dimensions (row_at batch i).leaves) place (own.dimension, leaf) is.leafs (zip_at c.dimensions (row_at batch i).leaves place own.dimension leaf dimension here) in
+    let passes : is_leaf catalog own.dimension leaf ≡ true = passes_at (λ pair. is_leaf catalog pair.0 pair.1) (zip c.dimensions (row_at batch i).leaves) place (own.dimension, leaf) is.leafs (zip_at c.dimensions (row_at batch i).leaves place own.dimension leaf dimension here) in
     record {
       own = own;
       stands = there.stands;
       within = omega (arith, fits.dimensions, first.0);
       leaf = leaf;
       here = here;
-      known = lt_of _ _ passes;
+      known = ltb-true _ _ passes;
       value =
           ap (λ (o : Option Column). option_and_then (λ own. option_and_then (leaf_value catalog column) (leaf_in catalog cube (row_at batch i) own.dimension)) o) there.stands
           ∙ ap (λ (o : Option Cube). option_and_then (leaf_value catalog column) (option_and_then (λ c. option_and_then (slice_get (row_at batch i).leaves) (position (λ d. d == own.dimension) c.dimensions)) o)) there.known

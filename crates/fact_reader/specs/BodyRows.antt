@@ -39,11 +39,11 @@ abbrev pub body_row : Catalog → Header → Row → Option (List ℕ × Option 
 body_row catalog header row =
     option_map (λ values. (values, row_number catalog header row)) (row_values catalog header row)
 
--- the rows that a load of a header holds
+-- the rows of some that a header allows, as its bodies have them, in their order
 abbrev pub body_rows : Catalog → Header → List Row → List (List ℕ × Option ℤ)
 body_rows catalog header rows = filter_map (body_row catalog header) rows
 
--- the body of a load of a header over rows
+-- the body that takes these rows in their order; a load's body may have them in another (`HoldsRows`)
 abbrev pub body_of : Catalog → Header → List Row → Option BodyOf
 body_of catalog header rows =
     option_map
@@ -98,7 +98,7 @@ abbrev pub body_value : BodyOf → Cell → CellValue
 body_value body cell =
     aggregate body.aggregator (map (λ row. row.1) (filter (body_row_in body.header cell) body.rows))
 
--- a body with those of some fact rows behind its own that its header allows
+-- a body with those of some fact rows after its own that its header allows
 abbrev pub with_rows : Catalog → List Row → BodyOf → BodyOf
 with_rows catalog rows body =
     record body { rows = body.rows ++ body_rows catalog body.header rows }

@@ -16,7 +16,7 @@ use segment_header::copy_header;
 use std::alloc::Global;
 use std::sync::ledger::Ledger;
 
-// So many rows are added to one body before the next takes them: what a body holds stays in the processor's cache meanwhile.
+// This many rows are added to one body before the next takes them: what a body holds stays in the processor's cache meanwhile.
 const BLOCK_ROWS: u64 = 4096;
 
 // The headers of some bodies, copied, since the bodies change while they are read for.

@@ -11,9 +11,9 @@ use segment_body::Body;
 use std::alloc::Global;
 use std::sync::ledger::Ledger;
 
-// Adds the rows of a version behind those of its first batches to a body, piece by piece, as far as the header allows them.
+// Adds the rows of a version after those of its first batches to a body, piece by piece, as far as the header allows them.
 // Each row is handed out once, for a step. The buffer is for the values of a row: what it holds before and after says
-// nothing. Where memory is wanting, some of the rows may have been added.
+// nothing. Where there is no memory, some of the rows may have been added.
 fn add_pieces<L: Ledger>(
     reader: &RowReader<'_>,
     snapshot: &Snapshot,
@@ -44,8 +44,8 @@ fn add_pieces<L: Ledger>(
     Ok(())
 }
 
-/// Adds the rows of a version behind those of its first batches to a body, as far as a header allows them. Each row is handed
-/// out once, for a step. Where memory is wanting, some of the rows may have been added.
+/// Adds the rows of a version after those of its first batches to a body, as far as a header allows them. Each row is handed
+/// out once, for a step. Where there is no memory, some of the rows may have been added.
 pub fn add_later<L: Ledger>(
     alloc: Global,
     catalog: &Catalog,

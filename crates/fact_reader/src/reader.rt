@@ -146,7 +146,7 @@ impl<'a> RowReader<'a> {
     }
 
     /// Adds the rows of a piece to a body, as far as the header allows them. The buffer is for the values of a row: what
-    /// it holds before and after says nothing. Where memory is wanting, some of the rows may have been added.
+    /// it holds before and after says nothing. Where there is no memory, some of the rows may have been added.
     pub(crate) fn add_rows(
         &self,
         piece: &Piece<'_>,

@@ -1,16 +1,17 @@
 -- Where columns stand, and what stands there.
-use Rattle.std.proofs.Common.{◌≡◌, ◌<◌, ◌≤◌, ◌+◌, ◌∙◌, ℕ, zero, suc, true, false, List, [], ◌∷◌, ◌++◌, Option, Some, None, map, length, slice_get, get_or, refl, sym, ap, arith, bytes_eq, drop, take, inl, inr, option_map, ◌⊎◌}
+use Rattle.std.proofs.Common.{◌≡◌, ◌<◌, ◌+◌, ◌∙◌, ℕ, true, false, List, [], ◌∷◌, ◌++◌, Option, Some, None, map, length, slice_get, get_or, refl, sym, ap, bytes_eq, drop, take, inl, inr, option_map, ◌⊎◌}
 use Rattle.std.proofs.lemmas.List.{map-append}
 use Rattle.std.specs.List.{list_any, zip}
 use Rattle.std.specs.Option.{option_or}
 use Rattle.olap_meaning.specs.Catalog.{first_appearances}
-use Rattle.csv_records.proofs.PlaceFacts.{item_from, item_upto, missing_append}
+use Rattle.csv_records.proofs.PlaceFacts.{missing_append}
 use Rattle.olap_meaning.specs.Records.{column_place, is_csv, missing_column}
 use Rattle.catalog_tables.proofs.FieldFacts.{seen_is}
 use Rattle.olap_meaning.specs.declared.schema.SchemaUse.{SchemaUse}
 use Rattle.olap_meaning.specs.declared.tables.Catalog.{Catalog}
 use Rattle.olap_meaning.specs.declared.tables.Cube.{Cube}
 use Rattle.olap_meaning.specs.declared.tables.Measure.{Measure}
+use Rattle.olap_meaning.proofs.Lists.{drop_step, take_step}
 use Rattle.fact_rows.specs.BatchFiles.{header_fault, uses_of}
 use Rattle.fact_rows.specs.Bound.{AreNumbersPlaced}
 use Rattle.fact_rows.specs.declared.columns.NumberColumn.{NumberColumn}
@@ -25,21 +26,14 @@ missed_or_not answer missing name found (inr none) = inl none
 -- the foreign keys from a place on begin with the one there
 pub zip_from : {A B C : Type 0} (f : A → B) (items : List A) (others : List C) (i : ℕ) (item : A) (other : C) → i < length items → item ≡ get_or items i item → i < length others → other ≡ get_or others i other
     → zip (map f (drop i items)) (drop i others) ≡ (f item, other) ∷ zip (map f (drop (i + 1) items)) (drop (i + 1) others)
-zip_from f items others i item other h is k at = rw (item_from items i item h is, item_from others i other k at) refl
-
--- past its last item there is nothing of a list
-pub nothing_from : {A : Type 0} (xs : List A) (i : ℕ) → length xs ≤ i → drop i xs ≡ []
-nothing_from [] zero h = refl
-nothing_from [] (suc i) h = refl
-nothing_from (x ∷ xs) zero h = absurd (omega arith)
-nothing_from (x ∷ xs) (suc i) h = nothing_from xs i (omega arith)
+zip_from f items others i item other h is k at = rw (drop_step items i item h is, drop_step others i other k at) refl
 
 -- the texts seen so far, where the next is among them
 pub seen_again : {A : Type 0} (f : A → List ℕ) (items : List A) (i : ℕ) (item : A) (names : List (List ℕ)) → i < length items → item ≡ get_or items i item → names ≡ first_appearances (map f (take i items))
     → list_any (bytes_eq (f item)) names ≡ true → names ≡ first_appearances (map f (take (i + 1) items))
 seen_again f items i item names h is seen among =
     let more = seen_is (map f (take i items)) (f item) in
-    let last : first_appearances (map f (take (i + 1) items)) ≡ first_appearances (map f (take i items) ++ f item ∷ []) = rw (item_upto items i item h is, map-append) refl in
+    let last : first_appearances (map f (take (i + 1) items)) ≡ first_appearances (map f (take i items) ++ f item ∷ []) = rw (take_step items i item h is, map-append) refl in
     let kept = rw (← seen, among) at more in
     kept ∙ sym last
 
@@ -48,7 +42,7 @@ pub seen_first : {A : Type 0} (f : A → List ℕ) (items : List A) (i : ℕ) (i
     → list_any (bytes_eq (f item)) names ≡ false → names ++ f item ∷ [] ≡ first_appearances (map f (take (i + 1) items))
 seen_first f items i item names h is seen among =
     let more = seen_is (map f (take i items)) (f item) in
-    let last : first_appearances (map f (take (i + 1) items)) ≡ first_appearances (map f (take i items) ++ f item ∷ []) = rw (item_upto items i item h is, map-append) refl in
+    let last : first_appearances (map f (take (i + 1) items)) ≡ first_appearances (map f (take i items) ++ f item ∷ []) = rw (take_step items i item h is, map-append) refl in
     let added = rw (← seen, among) at more in
     added ∙ sym last
 

@@ -1,5 +1,5 @@
 -- In a whole catalog each use of a cube has its dimension.
-use Rattle.std.proofs.Common.{◌≡◌, ◌∙◌, refl, sym, ap, subst, ℕ, zero, suc, List, [], ◌∷◌, length, map, All, Option, Some, None, true, slice_get, filter_map}
+use Rattle.std.proofs.Common.{◌≡◌, ◌∙◌, refl, sym, ap, ℕ, suc, List, [], ◌∷◌, length, map, All, Option, Some, None, true, slice_get, filter_map}
 use Rattle.std.specs.Prelude.{is_some, option_map}
 use Rattle.std.specs.List.{cons_option}
 use Rattle.std.proofs.lemmas.List.Elements.{All-head, All-tail}
@@ -10,13 +10,8 @@ use Rattle.olap_meaning.specs.declared.tables.Catalog.{Catalog}
 use Rattle.olap_meaning.specs.declared.tables.Cube.{Cube}
 use Rattle.olap_meaning.specs.Schema.{cube_over, dimension_place}
 use Rattle.olap_meaning.specs.Whole.{AreUsesNamed, IsWhole}
+use Rattle.olap_meaning.proofs.Lists.{holds_at}
 use Rattle.fact_rows.specs.BatchFiles.{HasDimensions}
-
--- what holds of each of some items holds of the one at a place
-all_at : {A : Type 0} (P : A → Type 0) (xs : List A) (i : ℕ) (x : A) → All P xs → slice_get xs i ≡ Some x → P x
-all_at P [] i x all there = absurd (let n : ⊥ = cc in n)
-all_at P (y ∷ ys) zero x all there = let same : y ≡ x = cc in subst P same (All-head P y ys all)
-all_at P (y ∷ ys) (suc i) x all there = all_at P ys i x (All-tail P y ys all) there
 
 -- as many dimensions as uses, where each use names one
 as_many : (f : SchemaUse → Option ℕ) (uses : List SchemaUse) → All (λ used. is_some (f used) ≡ true) uses → length (filter_map f uses) ≡ length uses
@@ -38,4 +33,4 @@ paired_in catalog cube whole cubes = by (slice_get catalog.schema.cubes cube) re
 
     by : (o : Option SchemaCube) → slice_get catalog.schema.cubes cube ≡ o → HasDimensions catalog cube
     by None there = rw (at, there) refl
-    by (Some c) there = rw (at, there) (sym (as_many (λ used. dimension_place catalog.schema.dimensions used.source) c.dimensions (all_at (AreUsesNamed catalog.schema) catalog.schema.cubes cube c whole.uses there)))
+    by (Some c) there = rw (at, there) (sym (as_many (λ used. dimension_place catalog.schema.dimensions used.source) c.dimensions (holds_at (AreUsesNamed catalog.schema) catalog.schema.cubes cube c whole.uses there)))

@@ -49,7 +49,7 @@ fn read_no_row(alloc: Global, catalog: &Catalog, cube: CubeId) -> Result<Batch, 
     Ok(bound.empty_batch(alloc)?)
 }
 
-// The records that are left, of which there are at most so many. One record is held at a time.
+// The records that are left, of which there are at most this many. One record is held at a time.
 fn read_rows(
     alloc: Global,
     bound: &BoundCube<'_>,
@@ -114,7 +114,7 @@ fn add_row(
     Ok(())
 }
 
-// The greatest number of records that so many line ends allow.
+// The greatest number of records that this many line ends allow.
 fn most_rows(bytes: &[u8]) -> usize
     ensures { result ≡ count_by (λ b. (b == 10) || (b == 13)) bytes.now + 1 }
 {

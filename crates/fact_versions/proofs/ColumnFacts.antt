@@ -1,22 +1,13 @@
 -- The items of a row in columns that all have as many.
 use Rattle.std.proofs.Common.{◌≡◌, ◌<◌, ◌+◌, ℕ, zero, suc, List, [], ◌∷◌, ◌++◌, Some, All, map, length, take, drop, set, get_or, slice_get, option_and_then, refl, sym, ap, arith}
 use Rattle.std.proofs.lemmas.List.Elements.{All-cons, All-nil, All-tail}
+use Rattle.olap_meaning.proofs.Lists.{item_there, take_whole}
+use Rattle.olap_meaning.proofs.Growing.{get-append-le}
 use Rattle.fact_versions.specs.Columns.{items_at, with_row}
 
 -- the first column of those that all have as many items
 head_length : {A : Type 0} (n : ℕ) (c : List A) (cs : List (List A)) → All (λ column. length column ≡ n) (c ∷ cs) → length c ≡ n
 head_length n c cs even = even 0 c (omega arith)
-
--- there is an item at a place within
-within : {A : Type 0} (xs : List A) (i : ℕ) → i < length xs → (x : A) × (slice_get xs i ≡ Some x)
-within [] i h = absurd (omega arith)
-within (x ∷ xs) zero h = (x, refl)
-within (x ∷ xs) (suc i) h = within xs i (omega arith)
-
-pub slice_get-append_left : {A : Type 0} (xs ys : List A) (i : ℕ) → i < length xs → slice_get (xs ++ ys) i ≡ slice_get xs i
-slice_get-append_left [] ys i h = absurd (omega arith)
-slice_get-append_left (x ∷ xs) ys zero h = refl
-slice_get-append_left (x ∷ xs) ys (suc i) h = slice_get-append_left xs ys i (omega arith)
 
 pub slice_get-append_last : {A : Type 0} (xs : List A) (x : A) (n : ℕ) → n ≡ length xs → slice_get (xs ++ x ∷ []) n ≡ Some x
 slice_get-append_last [] x n is = rw is refl
@@ -26,17 +17,13 @@ take-append_length : {A : Type 0} (xs ys : List A) → take (length xs) (xs ++ y
 take-append_length [] ys = refl
 take-append_length (x ∷ xs) ys = ap (λ (zs : List _). x ∷ zs) (take-append_length xs ys)
 
-take-length : {A : Type 0} (xs : List A) → take (length xs) xs ≡ xs
-take-length [] = refl
-take-length (x ∷ xs) = ap (λ (zs : List _). x ∷ zs) (take-length xs)
-
 -- a row above the last item is as it was
 pub items_at-with_row : {A : Type 0} (i n : ℕ) (cs : List (List A)) (xs : List A) → All (λ column. length column ≡ n) cs → i < n → items_at i (with_row cs xs) ≡ items_at i cs
 items_at-with_row i n cs [] even below = refl
 items_at-with_row i n [] (x ∷ xs) even below = refl
 items_at-with_row i n (c ∷ cs) (x ∷ xs) even below =
     let head = head_length n c cs even in
-    rw (slice_get-append_left c (x ∷ []) i (omega arith), items_at-with_row i n cs xs (All-tail (λ column. length column ≡ n) c cs even) below) refl
+    rw (get-append-le c (x ∷ []) i (omega arith), items_at-with_row i n cs xs (All-tail (λ column. length column ≡ n) c cs even) below) refl
 
 -- the row that was added
 pub items_at-with_row_last : {A : Type 0} (n : ℕ) (cs : List (List A)) (xs : List A) → All (λ column. length column ≡ n) cs → length xs ≡ length cs → items_at n (with_row cs xs) ≡ xs
@@ -52,7 +39,7 @@ pub length-items_at : {A : Type 0} (i n : ℕ) (cs : List (List A)) → All (λ 
 length-items_at i n [] even below = refl
 length-items_at i n (c ∷ cs) even below =
     let head = head_length n c cs even in
-    let item = within c i (omega arith) in
+    let item = item_there c i (omega arith) in
     rw (item.1, length-items_at i n cs (All-tail (λ column. length column ≡ n) c cs even) below) refl
 
 -- an item of a row is that of its column
@@ -60,11 +47,11 @@ pub slice_get-items_at : {A : Type 0} (i n d : ℕ) (cs : List (List A)) → All
 slice_get-items_at i n d [] even below = refl
 slice_get-items_at i n zero (c ∷ cs) even below =
     let head = head_length n c cs even in
-    let item = within c i (omega arith) in
+    let item = item_there c i (omega arith) in
     rw item.1 refl
 slice_get-items_at i n (suc d) (c ∷ cs) even below =
     let head = head_length n c cs even in
-    let item = within c i (omega arith) in
+    let item = item_there c i (omega arith) in
     rw item.1 (slice_get-items_at i n d cs (All-tail (λ column. length column ≡ n) c cs even) below)
 
 pub length-with_row : {A : Type 0} (cs : List (List A)) (xs : List A) → length (with_row cs xs) ≡ length cs
@@ -89,7 +76,7 @@ cut-even : {A : Type 0} (n : ℕ) (cs : List (List A)) → All (λ column. lengt
 cut-even n [] even = refl
 cut-even n (c ∷ cs) even =
     let head = head_length n c cs even in
-    let same : take n c ≡ c = rw (← head) (take-length c) in
+    let same : take n c ≡ c = rw (← head) (take_whole c) in
     rw (same, cut-even n cs (All-tail (λ column. length column ≡ n) c cs even)) refl
 
 -- cut back, the columns are as they were

@@ -3,8 +3,9 @@ use Rattle.std.proofs.Common.{◌≡◌, ◌∙◌, ◌<◌, ◌≤◌, ◌+◌,
 use Rattle.std.specs.List.{list_all}
 use Rattle.std.proofs.lemmas.List.Folds.{list_all-append}
 use Rattle.olap_meaning.specs.declared.tables.Row.{Row}
+use Rattle.olap_meaning.proofs.Growing.{get-append-le}
 use Rattle.fact_versions.specs.Columns.{items_at, with_row, rows_of_columns}
-use Rattle.fact_versions.proofs.ColumnFacts.{items_at-with_row, items_at-with_row_last, length-items_at, slice_get-items_at, slice_get-append_left, slice_get-append_last}
+use Rattle.fact_versions.proofs.ColumnFacts.{items_at-with_row, items_at-with_row_last, length-items_at, slice_get-items_at, slice_get-append_last}
 
 pub length-rows_of_columns : (n : ℕ) (ls : List (List ℕ)) (vs : List (List (Option ℤ))) → length (rows_of_columns n ls vs) ≡ n
 length-rows_of_columns zero ls vs = refl
@@ -44,7 +45,7 @@ slice_get-rows (suc m) i ls vs below =
     let long = length-rows_of_columns m ls vs in
     let each : (i < m) ⊎ (i ≡ m) = grind arith in
     elim each [
-      | inl before ↦ slice_get-append_left rows (record { leaves = items_at m ls; values = items_at m vs } ∷ []) i (omega arith) ∙ slice_get-rows m i ls vs before
+      | inl before ↦ get-append-le rows (record { leaves = items_at m ls; values = items_at m vs } ∷ []) i (omega arith) ∙ slice_get-rows m i ls vs before
       | inr last ↦ rw last (slice_get-append_last rows (record { leaves = items_at m ls; values = items_at m vs }) m (sym long))
     ]
 

@@ -47,7 +47,7 @@ impl Batch {
         })
     }
 
-    /// Makes exact room for so many rows more, so that a reader that knows how many rows may come takes no more.
+    /// Makes exact room for this many rows more, so that a reader that knows how many rows may come takes no more.
     pub fn reserve(&mut self, rows: usize) -> Result<(), OutOfMemory>
         ensures { self.new ≡ self.old }
     {

@@ -30,7 +30,7 @@ impl<T: Copy> Column<T> {
         }
     }
 
-    /// Makes exact room for so many items more.
+    /// Makes exact room for this many items more.
     fn reserve(&mut self, items: usize) -> Result<(), OutOfMemory>
         ensures { self.new ≡ self.old }
     {
@@ -82,7 +82,7 @@ impl<T> Model for Columns<T> {
 }
 
 impl<T: Copy> Columns<T> {
-    /// So many columns of no item.
+    /// This many columns of no item.
     pub(crate) fn new(alloc: Global, count: u32) -> Result<Columns<T>, OutOfMemory>
         ensures { IfOk result (λ columns. columns ≡ replicate count []) }
     {
@@ -109,14 +109,14 @@ impl<T: Copy> Columns<T> {
         items
     }
 
-    /// Makes exact room for so many rows more.
+    /// Makes exact room for this many rows more.
     pub(crate) fn reserve(&mut self, rows: usize) -> Result<(), OutOfMemory>
         ensures { self.new ≡ self.old }
     {
         reserve_each(&mut self.columns, rows)
     }
 
-    /// Adds a row after so many: an item at the end of each column.
+    /// Adds a row after this many: an item at the end of each column.
     pub(crate) fn push(&mut self, rows: usize, items: &[T]) -> Result<(), OutOfMemory>
         requires even { All (λ column. length column ≡ rows) self.old }
         requires one_each { length items.now ≡ length self.old }
@@ -144,7 +144,7 @@ impl<T: Copy> Columns<T> {
     }
 }
 
-/// Makes exact room for so many items more in each column.
+/// Makes exact room for this many items more in each column.
 fn reserve_each<T: Copy>(columns: &mut [Column<T>], items: usize) -> Result<(), OutOfMemory>
     ensures { columns.new ≡ columns.old }
 {
@@ -154,7 +154,7 @@ fn reserve_each<T: Copy>(columns: &mut [Column<T>], items: usize) -> Result<(), 
     Ok(())
 }
 
-/// Adds an item at the end of each column of so many, or at none.
+/// Adds an item at the end of each column of this many, or at none.
 fn push_row<T: Copy>(columns: &mut [Column<T>], rows: usize, items: &[T]) -> Result<(), OutOfMemory>
     requires even { All (λ column. length column ≡ rows) columns.old }
     requires one_each { length items.now ≡ length columns.old }

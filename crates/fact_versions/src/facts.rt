@@ -32,7 +32,7 @@ impl Model for Facts {
 }
 
 impl Facts {
-    /// So many cubes at version 0, and how many rows there may be over all of them.
+    /// This many cubes at version 0, and how many rows there may be over all of them.
     pub fn new(alloc: Global, cubes: u32, row_limit: u32) -> Result<Facts, OutOfMemory>
         requires { row_limit ≤ ROW_LIMIT }
         ensures { IfOk result
@@ -95,7 +95,7 @@ impl Facts {
     }
 }
 
-/// So many lists of no batch.
+/// This many lists of no batch.
 fn without_batches(alloc: Global, cubes: u32) -> Result<Vec<Batches>, OutOfMemory>
     ensures { IfOk result (λ lists. lists.items ≡ replicate cubes []) }
 {

@@ -31,7 +31,7 @@ unknown_key_text row column = codes "UNKNOWN KEY " ++ decimal row ++ codes " " +
 abbrev pub not_number_text : ℕ → List ℕ → List ℕ
 not_number_text row column = codes "NOT NUMBER " ++ decimal row ++ codes " " ++ name_text column
 
--- there are so many rows, where the limit are the most
+-- there are this many rows, where the limit are the most
 abbrev pub too_many_rows_text : ℕ → ℕ → List ℕ
 too_many_rows_text total limit =
     codes "TOO MANY ROWS " ++ (decimal total ++ (codes " " ++ decimal limit))
@@ -138,7 +138,7 @@ refused_batch_text (batch.NotNumber row column) =
     codes "NUMBER " ++ decimal row ++ codes " " ++ name_text column
 refused_batch_text batch.OutOfMemory = codes "MEMORY"
 
--- what a reply tells of a batch that does not fit behind those before it
+-- what a reply tells of a batch that does not fit after those before it
 abbrev pub refused_append_text : AppendFault → List ℕ
 refused_append_text (append.TooManyRows total limit) =
     codes "ROWS " ++ (decimal total ++ (codes " " ++ decimal limit))

@@ -33,7 +33,7 @@ fn placed(alloc: Global, label: &str, row: u64, column: &str) -> Result<Text, Ou
     Ok(Text::from_string(format!(in alloc; "{label} {row} {column}")?))
 }
 
-/// What a reply tells of a batch that does not fit behind those before it.
+/// What a reply tells of a batch that does not fit after those before it.
 pub fn refused_append_text(alloc: Global, fault: &AppendFault) -> Result<Text, OutOfMemory>
     ensures { IfOk result (λ t. t ≡ refused_append_text fault.now) }
 {
@@ -44,7 +44,7 @@ pub fn refused_append_text(alloc: Global, fault: &AppendFault) -> Result<Text, O
     }
 }
 
-// That there would be so many rows, where the limit are the most.
+// That there would be this many rows, where the limit are the most.
 fn rows_text(alloc: Global, total: u64, limit: u32) -> Result<Text, OutOfMemory>
     ensures { IfOk result (λ t. t
         ≡ codes "ROWS " ++ (decimal total ++ (codes " " ++ decimal limit))) }

@@ -38,7 +38,7 @@ pub fn not_number_text(alloc: Global, row: u64, column: &str) -> Result<Text, Ou
     Ok(Text::from_string(format!(in alloc; "NOT NUMBER {row} {column}")?))
 }
 
-/// That there are so many rows, where the limit are the most.
+/// That there are this many rows, where the limit are the most.
 pub fn too_many_rows_text(alloc: Global, total: u64, limit: u32) -> Result<Text, OutOfMemory>
     ensures { IfOk result (λ t. t ≡ too_many_rows_text total limit) }
 {

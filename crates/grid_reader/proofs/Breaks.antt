@@ -1,7 +1,8 @@
 -- Texts with no tab and no end of a line.
-use Rattle.std.proofs.Common.{◌≡◌, ◌∙◌, ◌<◌, ◌==◌, ◌||◌, ℕ, zero, suc, Bool, true, false, cond, List, [], ◌∷◌, length, get_or, sym, refl, arith}
+use Rattle.std.proofs.Common.{◌≡◌, ◌∙◌, ◌<◌, ◌==◌, ℕ, zero, suc, Bool, true, false, cond, List, [], ◌∷◌, length, get_or, sym, refl, arith}
 use Rattle.std.proofs.lemmas.Grind.{common_steps}
 use Rattle.std.specs.List.{list_any}
+use Rattle.std.proofs.lemmas.Bool.{or_from}
 use Rattle.query_meaning.specs.Shown.{is_break, breaks}
 
 -- where a filter keeps nothing, it does not keep the first
@@ -9,16 +10,12 @@ first_kept : (b : Bool) (x : ℕ) (xs : List ℕ) → cond b (x ∷ xs) xs ≡ [
 first_kept true x xs e = absurd cc
 first_kept false x xs e = (refl, e)
 
--- neither of two tests passes
-no_one : (a b : Bool) → a ≡ false → b ≡ false → (a || b) ≡ false
-no_one a b x y = rw (x, y)
-
 -- a text without breaks has no byte that is one
 pub unbroken : (p : ℕ → Bool) → ((x : ℕ) → is_break x ≡ false → p x ≡ false) → (text : List ℕ) → breaks text ≡ [] → list_any p text ≡ false
 unbroken p own [] e = refl
 unbroken p own (x ∷ xs) e =
     let f = first_kept (is_break x) x (breaks xs) e in
-    no_one (p x) (list_any p xs) (own x f.0) (unbroken p own xs f.1)
+    or_from (p x) (list_any p xs) (own x f.0) (unbroken p own xs f.1)
 
 -- a tab is a break
 tab_breaks : (x : ℕ) → is_break x ≡ false → (x == 9) ≡ false

@@ -96,7 +96,7 @@ inner_read head lines c r columns rows size titles each titled given grid =
 pub front_bytes : (lines front : List (Bor (List ℕ))) (n : ℕ) → front ≡ take n lines → bytes_of front ≡ take n (bytes_of lines)
 front_bytes lines front n is = ap bytes_of is ∙ sym (take-map (λ t. t.now) n lines)
 
--- and what is behind it
+-- and what is after it
 pub back_bytes : (lines back : List (Bor (List ℕ))) (n : ℕ) → back ≡ drop n lines → bytes_of back ≡ drop n (bytes_of lines)
 back_bytes lines back n is = ap bytes_of is ∙ sym (drop-map (λ t. t.now) n lines)
 

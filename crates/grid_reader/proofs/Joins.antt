@@ -1,6 +1,6 @@
 -- Parting what was joined.
-use Rattle.std.proofs.Common.{◌≡◌, ◌∙◌, ◌++◌, ◌==◌, ◌||◌, ℕ, Bool, true, false, cond, length, ◌≤◌, ◌<◌, List, [], ◌∷◌, sym, ap, refl, All, arith, flat_map, append_assoc}
-use Rattle.std.proofs.lemmas.Grind.{common_steps}
+use Rattle.std.proofs.Common.{◌≡◌, ◌∙◌, ◌++◌, ◌==◌, ℕ, Bool, true, false, cond, length, ◌≤◌, ◌<◌, List, [], ◌∷◌, sym, ap, refl, All, arith, flat_map, append_assoc}
+use Rattle.std.proofs.lemmas.Bool.{eq-eqb, or_parts}
 use Rattle.std.specs.List.{list_any, join_with_byte, onto_first}
 use Rattle.std.proofs.lemmas.List.{append-nil}
 use Rattle.std.proofs.lemmas.List.Splits.{slice_split_none, slice_split_at}
@@ -13,35 +13,26 @@ abbrev pub AreWithout : ℕ → List (List ℕ) → Type 0
 AreWithout byte [] = Unit {0}
 AreWithout byte (part ∷ parts) = (list_any (λ b. b == byte) part ≡ false) × AreWithout byte parts
 
--- where neither test passes
-or_both : (a b : Bool) → (a || b) ≡ false → (a ≡ false) × (b ≡ false)
-or_both true b h = absurd (cc h)
-or_both false b h = (refl, h)
-
 -- each byte of a text that lacks one is another
 none_of : (byte : ℕ) (part : List ℕ) → list_any (λ b. b == byte) part ≡ false → All (λ b. (b == byte) ≡ false) part
 none_of byte [] h = All-nil (λ b. (b == byte) ≡ false)
 none_of byte (x ∷ xs) h =
-    let both = or_both (x == byte) (list_any (λ b. b == byte) xs) h in
+    let both = or_parts (x == byte) (list_any (λ b. b == byte) xs) h in
     All-cons (λ b. (b == byte) ≡ false) x xs both.0 (none_of byte xs both.1)
-
--- a number is itself
-same : (n : ℕ) → (n == n) ≡ true
-same n = grind (arith, common_steps)
 
 -- parts that were joined by a byte that none of them has
 pub parted_joined : (byte : ℕ) (part : List ℕ) (parts : List (List ℕ)) → AreWithout byte (part ∷ parts) → parted byte (join_with_byte byte (part ∷ parts)) ≡ part ∷ parts
 parted_joined byte part [] own = slice_split_none (λ b. b == byte) part (none_of byte part own.0)
 parted_joined byte part (next ∷ parts) own =
-    slice_split_at (λ b. b == byte) part byte (join_with_byte byte (next ∷ parts)) (none_of byte part own.0) (same byte) ∙ ap (λ ps. part ∷ ps) (parted_joined byte next parts own.1)
+    slice_split_at (λ b. b == byte) part byte (join_with_byte byte (next ∷ parts)) (none_of byte part own.0) (eq-eqb byte byte refl) ∙ ap (λ ps. part ∷ ps) (parted_joined byte next parts own.1)
 
--- lines, and nothing behind the last
+-- lines, and nothing after the last
 pub parted_lines : (lines : List (List ℕ)) → AreWithout 10 lines → parted 10 (flat_map line lines) ≡ lines ++ [] ∷ []
 parted_lines [] own = refl
 parted_lines (l ∷ lines) own =
     ap (parted 10) (append_assoc l (10 ∷ []) (flat_map line lines)) ∙ slice_split_at (λ b. b == 10) l 10 (flat_map line lines) (none_of 10 l own.0) refl ∙ ap (λ ps. l ∷ ps) (parted_lines lines own.1)
 
--- lines in a row are joined by line feeds, with nothing behind the last
+-- lines in a row are joined by line feeds, with nothing after the last
 pub lines_joined : (lines : List (List ℕ)) → join_with_byte 10 (lines ++ [] ∷ []) ≡ flat_map line lines
 lines_joined [] = refl
 lines_joined (l ∷ []) = sym (append-nil (l ++ 10 ∷ []))

@@ -1,4 +1,4 @@
--- What stands behind a name text that was read.
+-- What stands after a name text that was read.
 use Rattle.std.proofs.Common.{◌≡◌, ◌≢◌, ◌∙◌, ◌-◌, ◌++◌, ℕ, false, true, List, [], ◌∷◌, sym, ap, subst, length, take, drop, flat_map, arith, append_assoc, take_all, String, Global, Option, Some, None, string_bytes, string_len, Bor}
 use Rattle.std.specs.Option.{MatchOption, IfSome, IsSomeAnd}
 use Rattle.std.specs.Str.{IsUtf8}
@@ -39,7 +39,7 @@ name_found text p s None m e n = tt
 name_found text p s (Some x) m e n =
     (record { begins = false; name = string_bytes s }, (some_bytes s n, is_utf8-from_IsUtf8 (string_bytes s) (IsUtf8-string_bytes s)), m ∙ ap (λ t. t ++ x.now) e)
 
--- and what stands behind it is found
+-- and what stands after it is found
 pub rest_found : (text p rest : List ℕ) (r : Option (Bor (List ℕ))) → MatchOption r ((rest : List ℕ) → text ≢ p ++ rest) (λ x. text ≡ p ++ x.now) → text ≡ p ++ rest → IsSomeAnd r (λ behind. behind.now ≡ rest)
 rest_found text p rest None m e = absurd (m rest e)
 rest_found text p rest (Some x) m e = append_cancel_left p x.now rest (sym m ∙ e)

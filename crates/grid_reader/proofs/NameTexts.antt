@@ -1,15 +1,16 @@
 -- A name text byte by byte: which bytes stand in it, and that it is UTF-8.
-use Rattle.std.proofs.Common.{◌≡◌, ◌≢◌, ◌∙◌, ◌<◌, ◌≤◌, ◌++◌, ◌&&◌, Bool, ℕ, suc, true, false, eqb, cond, List, [], ◌∷◌, inl, inr, sym, ap, refl, subst, length, get_or, flat_map, arith, append-nil}
+use Rattle.std.proofs.Common.{◌≡◌, ◌≢◌, ◌∙◌, ◌<◌, ◌≤◌, ◌++◌, ℕ, suc, true, false, eqb, cond, List, [], ◌∷◌, inl, inr, sym, ap, refl, subst, length, get_or, flat_map, arith, append-nil}
 use Rattle.std.specs.Prelude.{encode_utf8, encode_utf8_all}
 use Rattle.std.specs.Char.{IsScalar}
 use Rattle.std.specs.Str.{chars, is_utf8, all_scalars, IsUtf8}
-use Rattle.std.proofs.lemmas.Bool.{cases_eq, cases_lt}
+use Rattle.std.proofs.lemmas.Bool.{and_parts, cases_eq, cases_lt}
 use Rattle.std.proofs.lemmas.Bool.Decides.{nat_tests}
 use Rattle.std.proofs.lemmas.Grind.{flat_map-append}
 use Rattle.std.proofs.lemmas.List.Elements.{filter-append}
-use Rattle.std.proofs.lemmas.Str.{encode_ascii, encodes-chars, scalars-chars, inside_one, IsUtf8-append, IsUtf8-encode, IsUtf8-from_ascii, IsUtf8-from_is_utf8, IsUtf8-nil}
+use Rattle.std.proofs.lemmas.Str.{encode_ascii, encodes-chars, scalars-chars, IsUtf8-append, IsUtf8-encode, IsUtf8-from_ascii, IsUtf8-from_is_utf8, IsUtf8-nil}
 use Rattle.std.proofs.lemmas.Str.Ascii.{IsAscii-cons, IsAscii-nil}
 use Rattle.olap_meaning.specs.Texts.{name_character, name_text}
+use Rattle.olap_meaning.proofs.Characters.{high_bytes}
 use Rattle.query_meaning.specs.Shown.{is_break, breaks}
 use Rattle.grid_reader.specs.NameBytes.{name_byte}
 
@@ -69,16 +70,10 @@ high : (xs : List ℕ) → ((i : ℕ) → i < length xs → 128 ≤ get_or xs i 
 high [] h = refl
 high (b ∷ xs) h = ap (λ x. x ++ flat_map name_byte xs) (plain_byte b (high_byte b (h 0 (omega arith)))) ∙ ap (λ x. b ∷ x) (high xs (λ i lt. h (suc i) (omega (arith, lt))))
 
--- the bytes of a character from 128 on are from 128 on
-bytes_high : (c : ℕ) → 128 ≤ c → (i : ℕ) → i < length (encode_utf8 c) → 128 ≤ get_or (encode_utf8 c) i 0
-bytes_high c h i lt =
-    let low : get_or (encode_utf8 c) i 0 < 128 → c ≡ get_or (encode_utf8 c) i 0 = inside_one c [] (encode_utf8 c) i (sym (append-nil (encode_utf8 c))) lt in
-    grind (arith, low)
-
 plain_bytes : (c : ℕ) → Plain c → flat_map name_byte (encode_utf8 c) ≡ encode_utf8 c
 plain_bytes c p = elim (cases_lt c 128) [
   | inl h ↦ (let e = encode_ascii c h in ap (flat_map name_byte) e ∙ append-nil (name_byte c) ∙ plain_byte c p ∙ sym e)
-  | inr h ↦ high (encode_utf8 c) (bytes_high c h)
+  | inr h ↦ high (encode_utf8 c) (high_bytes c h)
 ]
 
 character : (c : ℕ) → flat_map name_byte (encode_utf8 c) ≡ name_character c
@@ -131,14 +126,10 @@ character_utf8 = by_forms (λ c. IsScalar c → IsUtf8 (name_character c))
     (λ s. two 92 110 (omega arith) (omega arith))
     (λ c p s. subst IsUtf8 (sym (plain_character c p)) (IsUtf8-encode c s))
 
-both : (a b : Bool) → (a && b) ≡ true → (a ≡ true) × (b ≡ true)
-both true b e = (refl, e)
-both false b e = absurd (cc e)
-
 characters_utf8 : (cs : List ℕ) → all_scalars cs ≡ true → IsUtf8 (flat_map name_character cs)
 characters_utf8 [] s = IsUtf8-nil
 characters_utf8 (c ∷ cs) s =
-    let h = both _ _ s in
+    let h = and_parts _ _ s in
     IsUtf8-append (name_character c) (flat_map name_character cs) (character_utf8 c h.0) (characters_utf8 cs h.1)
 
 pub name_text_utf8 : (name : List ℕ) → is_utf8 name ≡ true → IsUtf8 (name_text name)

@@ -1,5 +1,6 @@
 -- The lines of rows and their fields.
 use Rattle.std.proofs.Common.{Bor, not, eqb, ◌≡◌, ◌∙◌, ℕ, Bool, true, false, List, [], ◌∷◌, Option, Some, None, codes, length, sym, ap, refl, subst}
+use Rattle.std.proofs.lemmas.Bool.{not-false}
 use Rattle.std.specs.Cmp.Lexicographic.{pointwise}
 use Rattle.std.specs.List.{join_with_byte, IsFirstAndRest}
 use Rattle.std.proofs.lemmas.Bool.Decides.{Decides-eqb}
@@ -29,7 +30,7 @@ shown_no_tab [] (v ∷ vs) h = absurd h
 shown_no_tab (t ∷ ts) [] h = absurd h
 shown_no_tab (t ∷ ts) (v ∷ vs) h = (no_tab t h.0.1.0, shown_no_tab ts vs h.1)
 
--- fields are those of a row of so many columns
+-- fields are those of a row of this many columns
 pub record AreFieldsOf (columns : ℕ) (row : GridRow) (first title : List ℕ) (texts : List (List ℕ)) : Type 0 where
   pub begins : first ≡ codes "R"
   pub titled : title ≡ row.title
@@ -71,11 +72,6 @@ row_refused columns line first title texts parts never =
 same_row : (row : GridRow) (name : List ℕ) (values : List CellValue) → name ≡ row.title → values ≡ row.values → ◌≡◌ {A = Option GridRow} (Some (record { title = name; values = values })) (Some row)
 same_row row name values titled valued = rw (titled, valued)
 
--- a test whose opposite fails
-was_true : (b : Bool) → not b ≡ false → b ≡ true
-was_true true e = refl
-was_true false e = absurd cc
-
 -- a line whose fields are read as those of a row
 pub row_read : (columns : ℕ) (line first title : List ℕ) (texts : List (List ℕ)) (t : Option (List ℕ)) (v : Option (List CellValue)) (name : List ℕ) (values : List CellValue) → parted 9 line ≡ first ∷ title ∷ texts → first ≡ codes "R" → length texts ≡ columns → ReadsAs IsTitleAt title t → ReadsAs AreShown texts v → t ≡ Some name → v ≡ Some values → ReadsAs (IsRowLine columns) line (Some (record { title = name; values = values }))
 row_read columns line first title texts t v name values parts begins count titles shown named valued row =
@@ -107,4 +103,4 @@ other_text text letter word r is told own same =
 pub this_text : (text letter word : List ℕ) (r : Bool) → letter ≡ word → r ≡ not (pointwise eqb text letter) → r ≡ false → text ≡ word
 this_text text letter word r is told own =
     let d = slice_eq-Decides Decides-eqb text letter (pointwise eqb text letter) refl in
-    d.0 (was_true (pointwise eqb text letter) (sym told ∙ own)) ∙ is
+    d.0 (not-false (pointwise eqb text letter) (sym told ∙ own)) ∙ is

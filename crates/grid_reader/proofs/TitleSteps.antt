@@ -6,7 +6,7 @@ use Rattle.olap_meaning.specs.Texts.{name_text}
 use Rattle.query_meaning.specs.Titles.{TitleName, IsTitleName, IsTitle, mark, marked_name, names_text}
 use Rattle.grid_reader.specs.NameBytes.{NoBracket}
 
--- a text is name texts behind their marks
+-- a text is name texts after their marks
 pub record MarkedNames (text : List ℕ) : Type 0 where
   pub names : List TitleName
   pub named : All IsTitleName names
@@ -58,7 +58,7 @@ no_bracket : (names : List TitleName) → NoBracket (flat_map marked_name names)
 no_bracket [] others e = cc
 no_bracket (one ∷ names) others e = mark_no_bracket one.begins (name_text one.name ++ flat_map marked_name names) others (sym (append_assoc (mark one.begins) (name_text one.name) (flat_map marked_name names)) ∙ e)
 
--- a text begins with a name, and names behind their marks follow
+-- a text begins with a name, and names after their marks follow
 pub record NamesFrom (f : TitleName → List ℕ) (text : List ℕ) : Type 0 where
   pub one : TitleName
   pub others : List TitleName
@@ -79,7 +79,7 @@ marked_names text some t = parts t.names t.named t.is
     parts [] named is = absurd (some (ap length is))
     parts (one ∷ others) named is = record { one = one; others = others; named = named; is = is }
 
--- what stands behind a name, where one begins a text
+-- what stands after a name, where one begins a text
 module _ (f : TitleName → List ℕ) (text : List ℕ) (r : Option (Bor (List ℕ))) (wherever : (one : TitleName) (rest : List ℕ) → IsTitleName one → NoBracket rest → text ≡ f one ++ rest → IsSomeAnd r (λ behind. behind.now ≡ rest)) where
   found : (n : NamesFrom f text) → IsSomeAnd r (λ behind. behind.now ≡ flat_map marked_name n.others)
   found n = wherever n.one (flat_map marked_name n.others) (All-head IsTitleName n.one n.others n.named) (no_bracket n.others) n.is
@@ -98,13 +98,13 @@ module _ (f : TitleName → List ℕ) (text : List ℕ) (r : Option (Bor (List �
 pub found_at : (P : Bor (List ℕ) → Type 0) (r : Option (Bor (List ℕ))) (behind : Bor (List ℕ)) → IfSome r P → r ≡ Some behind → P behind
 found_at P r behind h e = subst (λ o. IfSome o P) e h
 
--- a name behind a mark
+-- a name after a mark
 pub marked_found : {E : Type 0} (text rest : List ℕ) (begins : Bool) (r : Result (Option (Bor (List ℕ))) E) → text ≡ mark begins ++ rest → IfOk r (λ found. IfSome found (λ behind. (one : TitleName) × IsTitleName one × (rest ≡ name_text one.name ++ behind.now))) → IfOk r (λ found. IfSome found (λ behind. (one : TitleName) × IsTitleName one × (text ≡ marked_name one ++ behind.now)))
 marked_found text rest begins (Err x) e m = tt
 marked_found text rest begins (Ok None) e m = tt
 marked_found text rest begins (Ok (Some x)) e m =
     (record { begins = begins; name = m.0.name }, m.1, e ∙ ap (λ t. mark begins ++ t) m.2 ∙ sym (append_assoc (mark begins) (name_text m.0.name) x.now))
 
--- what stands behind a name is shorter
+-- what stands after a name is shorter
 pub shorter : (text behind : List ℕ) (one : TitleName) → text ≡ marked_name one ++ behind → length behind < length text
 shorter text behind one e = omega (arith, ap length e, length-append (marked_name one) behind, length-append (mark one.begins) (name_text one.name))

@@ -38,7 +38,7 @@ IsShown text value = CanBeShown value × Shows value text
 abbrev pub AreShown : List (List ℕ) → List CellValue → Type 0
 AreShown texts values = Pairwise IsShown texts values
 
--- a line is that of this row, of so many columns
+-- a line is that of this row, of this many columns
 abbrev pub IsRowLine : ℕ → List ℕ → GridRow → Type 0
 IsRowLine columns text row = IsRow columns row × IsRowText Shows row text
 
@@ -57,7 +57,7 @@ pub record IsInnerOf (head : Head) (lines : List (List ℕ)) (grid : Grid) : Typ
   pub titles : AreColumnLines first grid.columns
   pub each : AreRowLines head.columns second grid.rows
 
--- the texts between the line feeds of a text are the lines of a grid, with nothing behind the last
+-- the texts between the line feeds of a text are the lines of a grid, with nothing after the last
 pub record AreGridLines (lines : List (List ℕ)) (grid : Grid) : Type 0 where
   pub head : Head
   pub top : List ℕ

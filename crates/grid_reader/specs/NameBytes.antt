@@ -2,13 +2,13 @@
 use Rattle.std.specs.Prelude.{ℕ, ◌≡◌, ◌≢◌, ◌++◌, ◌==◌, List, [], ◌∷◌, flat_map, if◌then◌else◌}
 
 -- a byte of a name, as its name text has it: a closing bracket twice; a backslash, a tab, a carriage return and a
--- line feed behind a backslash
+-- line feed after a backslash
 abbrev pub name_byte : ℕ → List ℕ
 name_byte b = if b == 93 then 93 ∷ 93 ∷ [] else if b == 92 then 92 ∷ 92 ∷ [] else if b == 9
     then 92 ∷ 116 ∷ [] else if b == 13 then 92 ∷ 114 ∷ [] else if b == 10 then 92 ∷ 110 ∷ []
     else b ∷ []
 
--- the byte of a name for which a letter stands behind a backslash
+-- the byte of a name for which a letter stands after a backslash
 abbrev pub unescaped : ℕ → ℕ
 unescaped letter = if letter == 116 then 9 else if letter == 114 then 13 else if letter == 110
     then 10 else letter

@@ -7,7 +7,7 @@ ghost use Rattle.grid_reader.specs.NameBytes.{name_byte, unescaped, NoBracket, I
 use olap_meaning::{OutOfMemory, name_text};
 use std::alloc::Global;
 
-// What a letter behind a backslash stands for.
+// What a letter after a backslash stands for.
 fn unescaped(letter: u8) -> u8
     ensures { result ≡ unescaped letter }
 {
@@ -19,7 +19,7 @@ fn unescaped(letter: u8) -> u8
     }
 }
 
-// The byte of a name with which a text begins, and what stands behind it; None at the end of a name.
+// The byte of a name with which a text begins, and what stands after it; None at the end of a name.
 fn first_byte(text: &[u8]) -> Option<(u8, &[u8])>
     ensures byte { (b : ℕ) (later : List ℕ) → text.now ≡ name_byte b ++ later
         → IsSomeAnd result (λ found. (found.0 ≡ b) × (found.1.now ≡ later)) }
@@ -35,7 +35,7 @@ fn first_byte(text: &[u8]) -> Option<(u8, &[u8])>
     }
 }
 
-// The bytes of a name, from behind its first bracket. Where no name ends there, they are any.
+// The bytes of a name, from after its first bracket. Where no name ends there, they are any.
 fn name_bytes(alloc: Global, text: &[u8]) -> Result<Vec<u8>, OutOfMemory>
     ensures { IfOk result (λ read. (name rest : List ℕ) → IsNameTo text.now name rest
         → read.items ≡ name) }
@@ -49,7 +49,7 @@ fn name_bytes(alloc: Global, text: &[u8]) -> Result<Vec<u8>, OutOfMemory>
     Ok(name)
 }
 
-/// What stands behind the name text with which a text begins. None where none begins it.
+/// What stands after the name text with which a text begins. None where none begins it.
 pub(crate) fn after_name(alloc: Global, text: &[u8]) -> Result<Option<&[u8]>, OutOfMemory>
     ensures only { IfOk result (λ found. IfSome found (λ behind. (one : TitleName)
         × IsTitleName one × (text.now ≡ name_text one.name ++ behind.now))) }

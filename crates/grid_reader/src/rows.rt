@@ -40,7 +40,7 @@ fn read_values(alloc: Global, texts: &[&[u8]]) -> Result<Option<List<CellValue>>
     Ok(Some(values))
 }
 
-// The row of so many columns, by its line.
+// The row of this many columns, by its line.
 fn read_row(alloc: Global, columns: usize, line: &[u8]) -> Result<Option<GridRow>, OutOfMemory>
     ensures { IfOk result (ReadsAs (IsRowLine columns) line.now) }
 {
@@ -63,7 +63,7 @@ fn read_row(alloc: Global, columns: usize, line: &[u8]) -> Result<Option<GridRow
     Ok(Some(GridRow { title, values }))
 }
 
-/// Rows of so many columns, by their lines.
+/// Rows of this many columns, by their lines.
 pub(crate) fn read_rows(
     alloc: Global,
     columns: usize,

@@ -9,7 +9,7 @@ use olap_meaning::{OutOfMemory, Text};
 use std::alloc::Global;
 use std::str::from_utf8;
 
-// What stands behind the mark with which a text begins.
+// What stands after the mark with which a text begins.
 fn after_mark(text: &[u8]) -> Option<&[u8]>
     ensures { MatchOption result ((begins : Bool) (rest : List ℕ) → text.now ≢ mark begins ++ rest)
         (λ rest. (begins : Bool) × (text.now ≡ mark begins ++ rest.now)) }
@@ -21,7 +21,7 @@ fn after_mark(text: &[u8]) -> Option<&[u8]>
     }
 }
 
-// What stands behind the mark and the name text with which a text begins.
+// What stands after the mark and the name text with which a text begins.
 fn after_marked_name(alloc: Global, text: &[u8]) -> Result<Option<&[u8]>, OutOfMemory>
     ensures only { IfOk result (λ found. IfSome found (λ behind. (one : TitleName)
         × IsTitleName one × (text.now ≡ marked_name one ++ behind.now))) }

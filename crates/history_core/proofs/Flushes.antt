@@ -1,4 +1,4 @@
--- What a flush is worth behind itself.
+-- What a flush is worth after itself.
 use Rattle.std.proofs.Common.{◌≡◌, ◌&&◌, not, List, Bool, true, false, take, ap, refl, le_of_lt, le_trans, le_of_eq, sym, take-take}
 use Rattle.olap_meaning.specs.Equivalents.{FloorIsGreatest}
 use Rattle.olap_meaning.specs.History.{Entry, Flush, flushed_after, flushes, kept, load_covers, version}
@@ -15,7 +15,7 @@ heeded history fresh greatest legal p q flusher who region cells before flush an
     let bound = (greatest (take q history.entries) answered.cell).above p (Flush flusher region) (entry-take q history.entries p (Flush flusher region) flush (le_of_lt before)) covers in
     (it.0, it.1, le_trans (le_of_eq (sym (ap (λ (es : List Entry). version es answered.cell.cube) (take-take p q history.entries (le_of_lt before))))) (le_trans bound it.2))
 
--- nothing is live behind what is false
+-- nothing is live after what is false
 none_live : (kept covers flushed : Bool) → flushed ≡ true → ((kept && covers) && not flushed) ≡ false
 none_live true true true h = refl
 none_live true false true h = refl

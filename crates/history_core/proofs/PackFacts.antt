@@ -175,11 +175,6 @@ module _ {A E : Type 0} (r : Result A E) (kinds : List Kind) (lists : List (List
         | Err e ↦ λ k s. rw (k, s) refl
       ] kept same
 
--- what is true whatever the result
-pub on_err : {A E P : Type 0} (r : Result A E) → P → OnErr r P
-on_err (Ok x) p = tt
-on_err (Err e) p = p
-
 -- an item that a list lends
 
 pub lent_is_some : {A : Type 0} (items : List A) (i : ℕ) (d : A) (found : Option (Bor A)) → option_copied found ≡ slice_get items i → i < length items → IsSome found
@@ -214,7 +209,7 @@ module _ (kinds : List Kind) (lists : List (List ℕ)) (cells : List Numbers) (i
       ∷ unpacked kinds lists (drop (i + 1) cells) (drop (length (kind_at kinds (get_or cells i d).kind).columns) values)
   unpacked_on = ap (λ (left : List Numbers). unpacked kinds lists left values) (drop_more cells i d inside)
 
--- one thing more at the end, or none where memory is wanting
+-- one thing more at the end, or none where there is no memory
 
 pub added_kept : {A E : Type 0} (r : Result ℕ E) (before after : List A) (thing : A) → OnOk r (after ≡ before ++ thing ∷ []) → OnErr r (after ≡ before) → (more : List A) × (after ≡ before ++ more)
 added_kept (Ok number) before after thing ok err = (thing ∷ [], ok)

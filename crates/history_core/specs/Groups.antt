@@ -12,7 +12,7 @@ use Rattle.olap_meaning.specs.Legal.{has_source}
 use Rattle.segment_header.specs.Widening.{Allowing, Serves}
 use Rattle.history_core.specs.Cache.{CacheOf}
 
--- so many numbers, from one on
+-- this many numbers, from one on
 abbrev pub numbers_from : ℕ → ℕ → List ℕ
 numbers_from first zero = []
 numbers_from first (suc count) = first ∷ numbers_from (suc first) count

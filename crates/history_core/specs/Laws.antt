@@ -47,7 +47,7 @@ HasRisingCalls history =
     → caller earlier ≡ Some first → caller later ≡ Some second → first.seat ≡ second.seat
     → first.call < second.call
 
--- flushes are heeded: behind a flush no answer to a cell that its region covers is older than the version of the cell's
+-- flushes are heeded: after a flush no answer to a cell that its region covers is older than the version of the cell's
 -- cube at the flush
 abbrev pub HasHeededFlushes : HistoryOf → Type 0
 HasHeededFlushes history =
@@ -60,7 +60,7 @@ HasHeededFlushes history =
     × (version (take p history.entries) answered.cell.cube ≤ v)
 
 -- flushes last: a load that was started before a flush is live for no cell that its region covers, at the flush and
--- whatever comes behind it
+-- whatever comes after it
 abbrev pub HasLastingFlushes : HistoryOf → Type 0
 HasLastingFlushes history =
     (p q j : ℕ) (who : Who) (region : Region) (cell : Cell) → j < p → p ≤ q

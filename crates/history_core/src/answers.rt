@@ -56,7 +56,7 @@ pub struct CacheView {
     pub lines: List<CacheLine>,
 }
 
-/// A cache does not have so many entries yet: how many were asked for, and how many it had when it was looked at.
+/// A cache does not have this many entries yet: how many were asked for, and how many it had when it was looked at.
 #[derive(Clone, Copy, Debug, PartialEq, Eq)]
 pub struct NotYet {
     pub asked: u64,

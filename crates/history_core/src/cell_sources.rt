@@ -48,7 +48,7 @@ impl CellSources {
         }
     }
 
-    /// Makes just the room for so many cells more, with so many values together. Adding them then takes memory only
+    /// Makes just the room for this many cells more, with this many values together. Adding them then takes memory only
     /// where a cell has other loads, or other columns, cube and measure, than all before it.
     pub fn reserve(&mut self, cells: usize, values: usize) -> Result<(), OutOfMemory>
         ensures { self.new ≡ self.old }

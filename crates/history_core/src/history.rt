@@ -55,7 +55,7 @@ impl History {
         }
     }
 
-    /// Makes room for so many entries more, so that adding them takes no memory.
+    /// Makes room for this many entries more, so that adding them takes no memory.
     pub fn reserve(&mut self, n: usize) -> Result<(), OutOfMemory>
         ensures ok { OnOk result (n ≤ self.new.spare) }
         ensures setting { self.new.setting ≡ self.old.setting }
@@ -137,7 +137,7 @@ impl History {
         laws::answers_are_fresh();
     }
 
-    /// Behind a flush no answer to a cell that its region covers is older than the version at the flush.
+    /// After a flush no answer to a cell that its region covers is older than the version at the flush.
     pub fn flushes_are_heeded(&self)
         ensures { HasHeededFlushes self.now }
     {

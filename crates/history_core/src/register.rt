@@ -7,7 +7,7 @@ use olap_meaning::OutOfMemory;
 use std::alloc::Global;
 use std::marker::Model;
 
-/// So many things are found by a walk, since most answers have no more; what comes behind them by its digest.
+/// This many things are found by a walk, since most answers have no more; what comes after them by its digest.
 const FEW: usize = 8;
 
 /// A digest with a number more.
@@ -15,7 +15,7 @@ pub(crate) fn digested(digest: u64, number: u64) -> u64 {
     (digest ^ number).wrapping_mul(0x9e37_79b9_7f4a_7c15)
 }
 
-/// Things by their numbers, which count from 0. Few take no memory beside their own. The number of each that comes behind
+/// Things by their numbers, which count from 0. Few take no memory beside their own. The number of each that comes after
 /// them is noted under a digest of it: of two with the same digest the later alone is found, and the other may be kept
 /// once more.
 #[derive(Drop)]

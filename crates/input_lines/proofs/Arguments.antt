@@ -1,19 +1,21 @@
 -- What the arguments of commands say of a line.
-use Rattle.std.proofs.Common.{◌≡◌, ◌∙◌, ◌<◌, ◌==◌, ◌||◌, ℕ, List, [], ◌∷◌, ◌++◌, inl, inr, Bool, true, false, Some, Result, Ok, Err, IfOk, refl, sym, ap, subst, arith}
-use Rattle.std.specs.Prelude.{codes, encode_utf8, encode_utf8_all}
+use Rattle.std.proofs.Common.{◌≡◌, ◌∙◌, ◌==◌, ◌||◌, ℕ, List, [], ◌∷◌, ◌++◌, inl, inr, Bool, true, false, Option, Some, None, Result, Ok, Err, IfOk, refl, sym, ap, subst, arith}
+use Rattle.std.specs.Prelude.{encode_utf8, encode_utf8_all}
+use Rattle.std.specs.Option.{option_map_or}
 use Rattle.std.specs.Str.{IsAscii, is_utf8}
 use Rattle.std.proofs.lemmas.Bool.{and_parts}
 use Rattle.std.proofs.lemmas.Bool.Decides.{Decides-eqb}
 use Rattle.std.proofs.lemmas.Str.{IsUtf8-from_ascii, chars-IsAscii, encode_ascii, encodes-chars}
 use Rattle.std.proofs.lemmas.Str.Ascii.{IsAscii-cons, IsAscii-nil}
-use Rattle.query_meaning.specs.Requests.{argument_of, is_blank, is_quit, is_show}
+use Rattle.query_meaning.specs.Requests.{argument_of, is_blank}
 use Rattle.query_meaning.specs.Tokens.{is_white}
 use Rattle.text_forms.specs.Forms.{Writes}
 use Rattle.text_forms.specs.White.{IsWhite, White, End}
+use Rattle.text_forms.proofs.Alike.{white_low}
 use Rattle.command_arguments.specs.Blank.{IsBlank}
 use Rattle.olap_meaning.specs.declared.OutOfMemory.{OutOfMemory}
 use Rattle.input_lines.specs.Asked.{Asks, AsksOnly, asked}
-use Rattle.input_lines.specs.Requests.{IsOnly, IsRequest}
+use Rattle.input_lines.specs.Requests.{HasArgument, IsOnly, IsRequest}
 use Rattle.input_lines.specs.declared.request.Request.{Request}
 
 -- a white character is one white byte
@@ -40,29 +42,29 @@ white_character c white = by (c == 32) (c == 9) refl refl white
     by false true is other h = inr ((Decides-eqb c 9).0 other)
     by false false is other h = absurd (let n : ⊥ = cc in n)
 
-low : (c : ℕ) → IsWhite c → c < 128
-low c (inl is) = omega arith
-low c (inr is) = omega arith
-
 ascii : (text : List ℕ) → is_blank text ≡ true → IsAscii text
 ascii [] blank = IsAscii-nil
-ascii (c ∷ text) blank = let parts = and_parts (is_white c) (is_blank text) blank in IsAscii-cons c text (low c (white_character c parts.0)) (ascii text parts.1)
+ascii (c ∷ text) blank = let parts = and_parts (is_white c) (is_blank text) blank in IsAscii-cons c text (white_low c (white_character c parts.0)) (ascii text parts.1)
 
 all_white : (text : List ℕ) → is_blank text ≡ true → White End text
 all_white [] blank = refl
 all_white (c ∷ text) blank = let parts = and_parts (is_white c) (is_blank text) blank in inl (white_character c parts.0, all_white text parts.1)
 
 -- a text of white bytes is one of white characters
-pub writes_blank : (text : List ℕ) → is_blank text ≡ true → Writes IsBlank text tt
+writes_blank : (text : List ℕ) → is_blank text ≡ true → Writes IsBlank text tt
 writes_blank text blank = record { utf8 = IsUtf8-from_ascii text (ascii text blank); means = subst (White End) (sym (chars-IsAscii text (ascii text blank))) (all_white text blank) }
 
--- QUIT and white end the session
-pub quits : (line argument : List ℕ) (value : Unit {0}) → argument_of (codes "QUIT") line ≡ Some argument → Writes IsBlank argument value → is_quit line ≡ true
-quits line argument value e w = rw e (blank_text argument value w)
+-- a line with a command and an argument that writes nothing has the command and white
+pub is_white_argument : (word line argument : List ℕ) (value : Unit {0}) → argument_of word line ≡ Some argument → Writes IsBlank argument value → option_map_or is_blank (argument_of word line) false ≡ true
+is_white_argument word line argument value e w = rw e (blank_text argument value w)
 
--- CACHE and white ask for what is kept
-pub shows : (line argument : List ℕ) (value : Unit {0}) → argument_of (codes "CACHE") line ≡ Some argument → Writes IsBlank argument value → is_show line ≡ true
-shows line argument value e w = rw e (blank_text argument value w)
+-- and the other way round
+pub white_argument : (word line : List ℕ) → option_map_or is_blank (argument_of word line) false ≡ true → HasArgument word (Writes IsBlank) line tt
+white_argument word line white = by (argument_of word line) refl white
+  where
+    by : (argument : Option (List ℕ)) → argument_of word line ≡ argument → option_map_or is_blank argument false ≡ true → HasArgument word (Writes IsBlank) line tt
+    by None is h = absurd (let n : ⊥ = cc in n)
+    by (Some argument) is h = record { argument = argument; command = is; writes = writes_blank argument h }
 
 -- a line of text that has a command asks for what the command asks for with its argument
 pub asked_by : (word argument text line : List ℕ) (r : Result Request OutOfMemory) → is_utf8 line ≡ true → text ≡ line → Some argument ≡ argument_of word text → IfOk r (λ request. Asks word argument (asked request)) → IfOk r (λ request. IsRequest line (asked request))

@@ -1,4 +1,4 @@
--- Of the bytes that may be lines fewer are left behind each line.
+-- Of the bytes that may be lines fewer are left after each line.
 use Rattle.std.proofs.Common.{◌≡◌, refl, ◌∙◌, ℕ, ◌+◌, ◌-◌, ◌<◌, ◌≤◌, List, ◌++◌, length, arith}
 use Rattle.std.specs.Prelude.{Ok}
 use Rattle.std.proofs.lemmas.List.{length-append}
@@ -29,7 +29,7 @@ says_fewer at_end all after says = gives_fewer all after says
 says_fewer spent all after says = absurd says
 says_fewer cut_off all after says = absurd says
 
--- behind a line fewer bytes may be lines
+-- after a line fewer bytes may be lines
 pub tells_fewer : (before after : Reading) (events : List Event) → Tells before events after (Ok next.Line) → allowed after < allowed before
 tells_fewer before after events tells =
     let same = hears_allowed tells.hears in

@@ -41,7 +41,7 @@ cut text bytes rest clear short is = by (slice_index text (length text - 1) == 1
         absurd (cc (sym at ∙ eq-eqb (slice_index text (length text - 1)) 13 byte)) in
         ended text [] rest (nothing_between no_cr) (subst HasNoLf same clear) (subst (λ (t : List ℕ). length t ≤ 65536) same short) (is ∙ ap (λ (t : List ℕ). t ++ 10 ∷ rest) same)
 
--- bytes with an LF that is not too far, whatever comes behind them
+-- bytes with an LF that is not too far, whatever comes after them
 pub begins_line : (held rest : List ℕ) (n : ℕ) → n ≡ line_length held → n < length held → n ≤ 65536 → Begins (held ++ rest) (FirstLine (without_cr (take n held)) (drop (n + 1) held ++ rest))
 begins_line held rest n first there short =
     let at : line_length held < length held = omega arith in
@@ -51,7 +51,7 @@ begins_line held rest n first there short =
     let size : length (take n held) ≡ n = length-take-le n held (omega arith) in
     cut (take n held) (held ++ rest) (drop (n + 1) held ++ rest) (no_lf-take held n (omega arith)) (omega arith) (ap (λ (xs : List ℕ). xs ++ rest) split ∙ append_assoc (take n held) (10 ∷ drop (n + 1) held) rest)
 
--- too many bytes before an LF, whatever comes behind them
+-- too many bytes before an LF, whatever comes after them
 pub begins_too_many : (held rest : List ℕ) → 65536 < line_length held → Begins (held ++ rest) TooMany
 begins_too_many held rest long =
     let n : ℕ = line_length held in
@@ -60,7 +60,7 @@ begins_too_many held rest long =
     too_many (take (line_length held) held) (drop (line_length held) held ++ rest) (no_lf-take held (line_length held) (omega arith)) (omega arith)
     (ap (λ (xs : List ℕ). xs ++ rest) (sym (take-append-drop (line_length held) held)) ∙ append_assoc (take (line_length held) held) (drop (line_length held) held) rest)
 
--- bytes with no LF, behind which nothing comes
+-- bytes with no LF, after which nothing comes
 pub begins_last : (held : List ℕ) → line_length held ≡ length held → length held ≤ 65536 → 0 < length held → Begins held (FirstLine held [])
 begins_last held none short some = last (λ empty. omega (arith, some, ap length empty)) (no_lf-all held none) short
 

@@ -8,4 +8,5 @@ pub mod Falling
 pub mod Words
 pub mod Arguments
 pub mod Commands
+pub mod Stops
 pub mod Only

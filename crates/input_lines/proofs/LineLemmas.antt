@@ -1,8 +1,6 @@
 -- What the first bytes of an input say of its first line.
 use Rattle.std.proofs.Common.{◌≡◌, ℕ, ◌+◌, ◌<◌, ◌≤◌, List, ◌++◌, ◌-◌, ◌∙◌, subst, inl, inr, Bool, not, true, false, length, get_or, take, drop, refl, arith, ap, sym}
 use Rattle.std.specs.Prelude.{◌==◌, slice_index, All, min, None, Some, if◌then◌else◌}
-use Rattle.std.specs.List.{position_or_len}
-use Rattle.std.proofs.lemmas.Grind.{common_steps}
 use Rattle.std.proofs.lemmas.Bool.Decides.{nat_tests}
 use Rattle.std.proofs.lemmas.List.{length-take, get_or-take, length-drop, get_or-drop}
 use Rattle.std.proofs.lemmas.Bool.{cases_lt}
@@ -10,10 +8,6 @@ use Rattle.std.proofs.lemmas.List.Sums.{position_or_len_is, fails_before_first, 
 use Rattle.std.proofs.lemmas.List.Folds.{prefix_len-append}
 use Rattle.memchr.specs.Find.{IsFirstByte, Nowhere, Passes, is_byte}
 use Rattle.input_lines.specs.Reader.{is_lf, line_length, without_cr}
-
--- the first place that passes stays, whatever comes behind it
-pub position_or_len-front : {X : Type 0} (p : X → Bool) (xs ys : List X) → position_or_len p xs < length xs → position_or_len p (xs ++ ys) ≡ position_or_len p xs
-position_or_len-front p xs ys h = grind (arith, common_steps, prefix_len-append)
 
 -- a test that is not true
 not_true : (b : Bool) → (b ≡ true → ⊥) → b ≡ false
@@ -46,7 +40,7 @@ line_length-none xs hay looked is clear first =
     let all : looked + length hay ≡ length xs = omega arith in
     sym (position_or_len_is is_lf xs (length xs) 0 (omega arith) (subst (λ (n : ℕ). (k : ℕ) → k < n → is_lf (get_or xs k 0) ≡ false) all (not_before xs hay looked (length hay) is clear first)) (λ past. absurd (omega arith)))
 
--- bytes with no LF, and more behind them
+-- bytes with no LF, and more after them
 pub line_length-more : (held bytes : List ℕ) → line_length held ≡ length held → length held ≤ line_length (held ++ bytes)
 line_length-more held bytes none =
     let f = prefix_len-append (λ x. not (is_lf x)) held bytes in

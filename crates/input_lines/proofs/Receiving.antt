@@ -33,7 +33,7 @@ with_received-few reading bytes some few none open_yet =
     nonzero : (n : ℕ) → 0 < n → (n == 0) ≡ false
     nonzero n some = grind (arith, nat_tests)
 
--- bytes of which the last is behind all that may be lines
+-- bytes of which the last is after all that may be lines
 pub with_received-beyond : (reading : Reading) (bytes : List ℕ) → length bytes ≡ reading.room + 1 → reading.ended ≡ false → with_received reading bytes ≡ record (with_bytes reading (take reading.room bytes)) { beyond = get_or bytes reading.room 0 ∷ [] }
 with_received-beyond reading bytes size open_yet =
     let last : drop reading.room bytes ≡ get_or bytes reading.room 0 ∷ [] = last_byte reading.room bytes size in

@@ -1,4 +1,4 @@
--- How bytes come from a source behind those that are held.
+-- How bytes come from a source after those that are held.
 use Rattle.std.proofs.Common.{◌≡◌, ℕ, ◌+◌, ◌-◌, ◌≤◌, List, [], ◌++◌, inl, inr, length, take, drop, arith, ap, sym, subst, ◌∙◌}
 use Rattle.std.specs.Prelude.{Result, Ok, Err, IfOk, Option, min, slice_range, ◌==◌}
 use Rattle.std.proofs.lemmas.List.{take_at, length-take, length-take-le, length-drop, drop-append-le, drop-drop, drop-take, drop_all, take_all, take-take}
@@ -14,7 +14,7 @@ use Rattle.input_lines.specs.Reader.{HasReceived, Reading, received}
 pub slice_range-same : (xs ys : List ℕ) (i j : ℕ) → take j xs ≡ take j ys → slice_range xs i j ≡ slice_range ys i j
 slice_range-same xs ys i j same = between_is xs i j ∙ ap (drop i) same ∙ sym (between_is ys i j)
 
--- two parts, one behind the other
+-- two parts, one after the other
 pub slice_range-more : (xs : List ℕ) (i j n : ℕ) → i ≤ j → j + n ≤ length xs → slice_range xs i (j + n) ≡ slice_range xs i j ++ take n (drop j xs)
 slice_range-more xs i j n order within =
     let reach : i ≤ length (take j xs) = omega (arith, length-take j xs) in
@@ -24,7 +24,7 @@ slice_range-more xs i j n order within =
 pub slice_range-drop : (xs : List ℕ) (i j n : ℕ) → slice_range xs (i + n) j ≡ drop n (slice_range xs i j)
 slice_range-drop xs i j n = between_is xs (i + n) j ∙ sym (drop-drop n i (take j xs)) ∙ ap (drop n) (sym (between_is xs i j))
 
--- a part, and behind it the rest up to a place
+-- a part, and after it the rest up to a place
 pub slice_range-split : (xs : List ℕ) (i j k : ℕ) → i ≤ j → j ≤ k → k ≤ length xs → slice_range xs i k ≡ slice_range xs i j ++ slice_range xs j k
 slice_range-split xs i j k order later within =
     let n : ℕ = k - j in
@@ -49,7 +49,7 @@ gave-written (Ok n) talk told xs ys j len size passed = rw (written_back len ys 
 pub slice_range-written : (xs ys : List ℕ) (i j len : ℕ) → length ys ≡ len → take j ys ≡ take j xs → slice_range (take len (ys ++ drop (length ys) xs)) i j ≡ slice_range xs i j
 slice_range-written xs ys i j len size same = rw (written_back len ys xs size) (slice_range-same ys xs i j same)
 
--- bytes that were read behind a part: those that may be lines, and one behind them
+-- bytes that were read after a part: those that may be lines, and one after them
 pub HasReceived-read :
     (before after : Option (List ℕ)) (talk told : List Event) (old : Reading) (ys : List ℕ) (i j n lines : ℕ) → i ≤ j → j + n ≤ length ys → n ≤ old.room + 1 → lines ≡ min n old.room → slice_range ys i j ≡ old.held → old.line ≡ [] → TakenOff before after (take n (drop j ys))
     → told ≡ talk ++ received (take n (drop j ys))

@@ -12,7 +12,7 @@ use Rattle.input_lines.specs.declared.next.Found.TheVariants as found
 use Rattle.input_lines.proofs.LineLemmas.{no_lf-all}
 use Rattle.input_lines.proofs.Fronts.{begins_last, begins_line, begins_too_many}
 
--- bytes with an LF that is not too far, whatever comes behind them
+-- bytes with an LF that is not too far, whatever comes after them
 pub told-line :
     (old new : Reading) (rest : List ℕ) (n : ℕ) → IsFound (found.Lf n) old.held → new.line ≡ without_cr (take n old.held) → new.held ≡ drop (n + 1) old.held → KeepsRoom old new → GivesLine (old.held ++ (old.beyond ++ rest)) (allowed old) new.line (new.held ++ (new.beyond ++ rest)) (allowed new)
 told-line old new rest n is gives leaves keeps =
@@ -42,11 +42,11 @@ says-line old new n is gives leaves keeps = record {
 pub keeps_all : (reading : Reading) → reading.line ≡ [] → Keeps reading reading
 keeps_all reading none = record { line = none; held = refl; rest = record { room = refl; beyond = refl; ended = refl } }
 
--- what may be lines, where more comes behind it
+-- what may be lines, where more comes after it
 take-allowed : (reading : Reading) (more : List ℕ) → take (allowed reading) (reading.held ++ more) ≡ reading.held ++ take reading.room more
 take-allowed reading more = take-append-add reading.held more reading.room
 
--- too many bytes before an LF, whatever comes behind them
+-- too many bytes before an LF, whatever comes after them
 pub told-too_many : (old : Reading) (rest : List ℕ) → 65536 < line_length old.held → Begins (take (allowed old) (old.held ++ (old.beyond ++ rest))) TooMany
 told-too_many old rest long =
     subst (λ (bytes : List ℕ). Begins bytes TooMany) (sym (take-allowed old (old.beyond ++ rest))) (begins_too_many old.held (take old.room (old.beyond ++ rest)) long)
@@ -54,7 +54,7 @@ told-too_many old rest long =
 pub says-too_many : (held : List ℕ) → 65536 < line_length held → Begins held TooMany
 says-too_many held long = subst (λ (bytes : List ℕ). Begins bytes TooMany) (append-nil held) (begins_too_many held [] long)
 
--- bytes with no LF, behind which a byte too many comes
+-- bytes with no LF, after which a byte too many comes
 pub told-spent : (old : Reading) (rest : List ℕ) → Finds found.Spent old → IsSpent (old.held ++ (old.beyond ++ rest)) (allowed old)
 told-spent old rest is =
     let whole : length (old.held ++ (old.beyond ++ rest)) ≡ length old.held + length (old.beyond ++ rest) = length-append old.held (old.beyond ++ rest) in
@@ -72,11 +72,11 @@ told-spent old rest is =
     some_byte [] other = absurd (other refl)
     some_byte (x ∷ xs) other = omega arith
 
--- nothing comes behind what is held
+-- nothing comes after what is held
 none_behind : (old : Reading) (rest : List ℕ) → old.beyond ≡ [] → rest ≡ [] → old.beyond ++ rest ≡ []
 none_behind old rest none end = ap (λ (bs : List ℕ). bs ++ rest) none ∙ end
 
--- bytes with no LF, behind which nothing comes
+-- bytes with no LF, after which nothing comes
 pub told-last :
     (old new : Reading) (rest : List ℕ) → Finds found.Neither old → 0 < length old.held → rest ≡ [] → new.line ≡ old.held → new.held ≡ [] → KeepsRoom old new → GivesLine (old.held ++ (old.beyond ++ rest)) (allowed old) new.line (new.held ++ (new.beyond ++ rest)) (allowed new)
 told-last old new rest is some end gives leaves keeps =

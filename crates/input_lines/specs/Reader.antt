@@ -11,7 +11,7 @@ use Rattle.input_lines.specs.declared.next.Found.{Found}
 use Rattle.input_lines.specs.declared.next.Found.TheVariants as found
 
 -- the line that was given last; the bytes that were received, may be lines, and are not yet given; how many bytes more
--- may be lines; the byte behind all these, where it has come; and whether the end has come
+-- may be lines; the byte after all these, where it has come; and whether the end has come
 pub record Reading : Type 0 where
   pub line : List ℕ
   pub held : List ℕ
@@ -47,7 +47,7 @@ pub record IsSpent (bytes : List ℕ) (most : ℕ) : Type 0 where
   pub none : HasNoLf (take most bytes)
   pub short : most ≤ line_limit
 
--- a line comes, which with its end is among the bytes that may be lines; behind it the rest is left, of which so many
+-- a line comes, which with its end is among the bytes that may be lines; after it the rest is left, of which this many
 -- may be
 pub record GivesLine (bytes : List ℕ) (most : ℕ) (line rest : List ℕ) (left : ℕ) : Type 0 where
   pub size : ℕ
@@ -55,7 +55,7 @@ pub record GivesLine (bytes : List ℕ) (most : ℕ) (line rest : List ℕ) (lef
   pub size_is : length bytes ≡ size + length rest
   pub within : most ≡ size + left
 
--- an answer tells what the bytes that were not given begin with, of which at most so many may be lines
+-- an answer tells what the bytes that were not given begin with, of which at most this many may be lines
 abbrev pub TellsOf : List ℕ → ℕ → Next → List ℕ → List ℕ → ℕ → Type 0
 TellsOf bytes most Line line rest left = GivesLine bytes most line rest left
 TellsOf bytes most TooLong line rest left = Begins (take most bytes) TooMany
@@ -86,7 +86,7 @@ with_bytes reading bytes =
     record reading { held = reading.held ++ bytes; room = reading.room - length bytes }
 
 -- why a reader has stopped to receive: what it holds says what comes next, or the end has come, or a byte has come
--- behind all that may be lines, or a receive has failed
+-- after all that may be lines, or a receive has failed
 pub data Heard : Type 0 where
   enough : Heard
   at_end : Heard
@@ -94,12 +94,12 @@ pub data Heard : Type 0 where
   cut_off : Heard
 
 -- Hears before events all heard: what passes from what a reader holds on until it stops to receive, and what it holds
--- then. It receives only while more is needed to know what comes next, and at most one byte behind those that may be
+-- then. It receives only while more is needed to know what comes next, and at most one byte after those that may be
 -- lines
 pub data Hears : Reading → List Event → Reading → Heard → Type 0 where
   -- nothing, since what is held says it
   known : {reading : Reading} → NeedsNoMore reading.held → Hears reading [] reading enough
-  -- nothing, since a byte has come behind all that may be lines
+  -- nothing, since a byte has come after all that may be lines
   beyond : {reading : Reading} → ¬ NeedsNoMore reading.held → reading.beyond ≢ []
       → Hears reading [] reading spent
   -- nothing, since the end has come before
@@ -116,13 +116,13 @@ pub data Hears : Reading → List Event → Reading → Heard → Type 0 where
       → ¬ NeedsNoMore reading.held → MayReceive reading → bytes ≢ [] → length bytes ≤ reading.room
       → Hears (with_bytes reading bytes) events all heard
       → Hears reading (gave bytes ∷ events) all heard
-  -- bytes come of which the last is behind all that may be lines
+  -- bytes come of which the last is after all that may be lines
   piece_beyond : {reading all : Reading} {events : List Event} {heard : Heard} (bytes : List ℕ)
       (last : ℕ) → ¬ NeedsNoMore reading.held → MayReceive reading → length bytes ≡ reading.room
       → Hears (record (with_bytes reading bytes) { beyond = last ∷ [] }) events all heard
       → Hears reading (gave (bytes ++ last ∷ []) ∷ events) all heard
 
--- but for the line and the bytes that are held, a reader holds what it held
+-- except for the line and the bytes that are held, a reader holds what it held
 pub record KeepsRoom (all after : Reading) : Type 0 where
   pub room : after.room ≡ all.room
   pub beyond : after.beyond ≡ all.beyond
@@ -134,7 +134,7 @@ pub record Keeps (all after : Reading) : Type 0 where
   pub held : after.held ≡ all.held
   pub rest : KeepsRoom all after
 
--- a line is what the bytes that were held at last begin with; those behind it are still held
+-- a line is what the bytes that were held at last begin with; those after it are still held
 pub record GivesHeldLine (all after : Reading) : Type 0 where
   pub begins : Begins all.held (FirstLine after.line after.held)
   pub rest : KeepsRoom all after
@@ -190,8 +190,8 @@ abbrev pub received : List ℕ → List Event
 received [] = ended ∷ []
 received (byte ∷ bytes) = gave (byte ∷ bytes) ∷ []
 
--- what a reader holds when these bytes came, or the end, with none: those that may be lines stand behind those that it
--- held, and one behind them is apart
+-- what a reader holds when these bytes came, or the end, with none: those that may be lines stand after those that it
+-- held, and one after them is apart
 abbrev pub with_received : Reading → List ℕ → Reading
 with_received reading bytes = record reading {
   held = reading.held ++ take reading.room bytes;
@@ -200,7 +200,7 @@ with_received reading bytes = record reading {
   ended = length bytes == 0;
 }
 
--- a reader has received so many bytes, or the end
+-- a reader has received this many bytes, or the end
 pub record HasReceived (before after : Option (List ℕ)) (talk told : List Event) (n : ℕ)
     (old new : Reading) : Type 0 where
   pub bytes : List ℕ

@@ -14,7 +14,7 @@ use Rattle.command_arguments.specs.Position.{IsPosition}
 use Rattle.command_arguments.specs.declared.append.AppendArgument.{AppendArgument}
 
 -- what a line asks for: nothing, since it is no text, or blank, or has no command, or its argument is none of its
--- command's form and stops at a byte; the end; that a cache has so many entries; an append; the answer to a query; a
+-- command's form and stops at a byte; the end; that a cache has this many entries; an append; the answer to a query; a
 -- flush; that the aggregate table of a name is built; or to be shown what is kept
 pub data Request : Type 0 where
   NotText : Request

@@ -61,7 +61,7 @@ fn word_length(text: &[u8]) -> usize
     }
 }
 
-// Whether a text is this word in capital letters, but for the case of its letters.
+// Whether a text is this word in capital letters, except for the case of its letters.
 fn is_word(text: &[u8], word: &[u8]) -> bool
     ensures { result ≡ bytes_eq (in_capitals text.now) word.now }
 {
@@ -99,7 +99,7 @@ fn argument_start(word: &[u8], line: &[u8]) -> Option<usize>
 }
 
 /// The argument of a command in a line, by the command's word in capital letters. None where the line has another word,
-/// or no white behind it.
+/// or no white after it.
 pub(crate) fn argument_of<'a>(word: &str, line: &'a str) -> Option<&'a str>
     ensures found { option_map (λ text. text.now) result ≡ argument_of word.now line.now }
     ensures within { IfSome result (λ text. length text.now ≤ length line.now) }

@@ -16,7 +16,7 @@ pub enum Next {
 // What was found in the bytes that are held.
 #[derive(Clone, Copy)]
 pub(crate) enum Found {
-    // An LF, with so many bytes before it.
+    // An LF, with this many bytes before it.
     Lf(usize),
     // More bytes than a line may have before an LF.
     TooLong,

@@ -19,7 +19,7 @@ pub const LINE_LIMIT: usize = 65_536;
 pub const BUFFER_SIZE: usize = 131_072;
 
 /// Reads an input line by line. It holds the bytes that it has received from its link and not yet given, and the line
-/// that it gave last. Of the input at most so many bytes may be lines, and it receives at most one byte behind these.
+/// that it gave last. Of the input at most this many bytes may be lines, and it receives at most one byte after these.
 #[derive(Drop)]
 pub struct LineReader {
     bytes: Vec<u8>,
@@ -29,7 +29,7 @@ pub struct LineReader {
     // Where the held bytes begin and end.
     start: usize,
     end: usize,
-    // Where the byte ends that came behind all that may be lines: where the held bytes do until it has come.
+    // Where the byte ends that came after all that may be lines: where the held bytes do until it has come.
     behind: usize,
     // How many bytes more may be lines.
     room: u64,
@@ -56,14 +56,14 @@ impl Model for LineReader {
         × (r.end < r.behind → r.room ≡ 0) };
 }
 
-// So many bytes of no meaning.
+// This many bytes of no meaning.
 fn room(alloc: Global, size: usize) -> Result<Vec<u8>, OutOfMemory>
     ensures { IfOk result (λ v. v.len ≡ size) }
 {
     Ok(vec![in alloc; 0; size]?)
 }
 
-// Moves the bytes between two places to the front, where few places are left behind them. Gives where they stand then.
+// Moves the bytes between two places to the front, where few places are left after them. Gives where they stand then.
 fn make_room(bytes: &mut Vec<u8>, start: usize, end: usize) -> (usize, usize)
     requires order { start ≤ end }
     requires within { end ≤ bytes.old.len }
@@ -81,7 +81,7 @@ fn make_room(bytes: &mut Vec<u8>, start: usize, end: usize) -> (usize, usize)
     (0, end - start)
 }
 
-// How far bytes may be received from a place on, where so many more may be lines: up to one behind these.
+// How far bytes may be received from a place on, where this many more may be lines: up to one after these.
 fn stop_behind(place: usize, size: usize, room: u64) -> usize
     requires { place < size }
     ensures order { place < result }
@@ -118,7 +118,7 @@ fn read_to<K: Link>(
     link.receive(&mut bytes[place..stop])
 }
 
-// Reads bytes behind those between two places, where so many more may be lines, and gives their number: 0 only at the
+// Reads bytes after those between two places, where this many more may be lines, and gives their number: 0 only at the
 // input's end.
 fn read_behind<K: Link>(
     link: &mut K,
@@ -146,7 +146,7 @@ fn read_behind<K: Link>(
     read_to(link, bytes, end, stop)
 }
 
-// How many bytes stand before the first LF, where it is not among so many of the first.
+// How many bytes stand before the first LF, where it is not among this many of the first.
 fn before_lf(held: &[u8], looked: usize) -> usize
     requires { looked ≤ line_length held.now }
     ensures { result ≡ line_length held.now }
@@ -157,7 +157,7 @@ fn before_lf(held: &[u8], looked: usize) -> usize
     }
 }
 
-// What these bytes show, where no LF is among so many of the first.
+// What these bytes show, where no LF is among this many of the first.
 fn look(held: &[u8], looked: usize) -> Found
     requires { looked ≤ line_length held.now }
     ensures { IsFound result held.now }
@@ -184,7 +184,7 @@ fn trimmed(bytes: &[u8]) -> usize
 }
 
 impl LineReader {
-    /// A reader that holds nothing, of an input of which at most so many bytes may be lines. It takes all the memory that
+    /// A reader that holds nothing, of an input of which at most this many bytes may be lines. It takes all the memory that
     /// it will need.
     pub fn new(alloc: Global, most: u64) -> Result<LineReader, OutOfMemory>
         ensures { IfOk result (λ reader. reader ≡ record {
@@ -224,7 +224,7 @@ impl LineReader {
         &self.bytes[self.start..self.end]
     }
 
-    // Whether a byte has come behind all that may be lines.
+    // Whether a byte has come after all that may be lines.
     fn is_spent(&self) -> bool
         ensures none { result ≡ false → self.now.beyond ≡ [] }
         ensures some { result ≡ true → (self.now.beyond ≢ []) × (self.now.room ≡ 0) }
@@ -264,7 +264,7 @@ impl LineReader {
         Ok(n)
     }
 
-    // Receives bytes until an LF is held, or too many bytes, or until the end, or until a byte has come behind all that
+    // Receives bytes until an LF is held, or too many bytes, or until the end, or until a byte has come after all that
     // may be lines.
     fn find<K: Link>(&mut self, link: &mut K) -> Result<Found, Failed>
         requires { self.old.line ≡ [] }
@@ -297,7 +297,7 @@ impl LineReader {
         }
     }
 
-    // Gives the line of so many bytes, behind which an LF stands.
+    // Gives the line of this many bytes, after which an LF stands.
     fn give_line(&mut self, size: usize)
         requires { size < length self.old.held }
         ensures line { self.new.line ≡ without_cr (take size self.old.held) }
@@ -350,7 +350,7 @@ impl LineReader {
     }
 
     /// What comes next of the input. `link` is the same one at each call. A line that is held is given with no receive,
-    /// nothing is received behind the end or behind a byte too many, and a failure loses nothing: the next call goes on
+    /// nothing is received after the end or after a byte too many, and a failure loses nothing: the next call goes on
     /// where this one was.
     pub fn next<K: Link>(&mut self, link: &mut K) -> Result<Next, Failed>
         // What has passed for the answer: bytes are received only while more is needed, and the answer is what they
@@ -374,7 +374,7 @@ impl LineReader {
         ensures no_lf { HasNoLf self.new.line }
         ensures bound { length self.new.held ≤ BUFFER_SIZE }
 
-        // Nothing is asked of the link while it is known what comes next, nor behind a byte too many.
+        // Nothing is asked of the link while it is known what comes next, nor after a byte too many.
         ensures unasked { NeedsNoMore self.old.held → link.new ≡ link.old }
         ensures spent { self.old.beyond ≢ [] → link.new ≡ link.old }
     {

@@ -28,7 +28,7 @@ pub enum Request {
     Stops(usize),
     /// The end of the session.
     Quit,
-    /// That the cache has so many entries.
+    /// That the cache has this many entries.
     After(u64),
     /// That the batch of a file is appended to a cube.
     Append(AppendArgument),

@@ -1,25 +1,23 @@
--- The tables behind an entry that builds one: those before it, and this.
+-- The tables after an entry that builds one: those before it, and this.
 use Rattle.std.proofs.Common.{◌≡◌, ◌∙◌, ◌<◌, ◌≤◌, ◌+◌, ◌==◌, ℕ, zero, suc, true, false, List, [], ◌∷◌, ◌++◌, Option, None, Some, length, filter_map, refl, sym, ap, arith, inl, inr}
 use Rattle.std.specs.Prelude.{nat_lt, option_and_then}
 use Rattle.std.specs.List.{range_with_len}
-use Rattle.std.proofs.lemmas.Bool.{cases_Bool}
+use Rattle.std.proofs.lemmas.Bool.{cases_Bool, eqb-true}
 use Rattle.std.proofs.lemmas.Bool.Decides.{nat_tests}
 use Rattle.olap_meaning.specs.declared.cells.Who.{Who}
 use Rattle.olap_meaning.specs.declared.tables.Setting.{Setting}
 use Rattle.olap_meaning.specs.Catalog.{table_cube}
 use Rattle.olap_meaning.specs.History.{Entry, Agg, version}
 use Rattle.olap_meaning.specs.Legal.{Legal}
+use Rattle.olap_meaning.proofs.Versions.{rows_stay}
 use Rattle.agg_tables.specs.Tables.{TableOf, built_over}
 use Rattle.load_costs.specs.Costs.{last_built, table_built, tables_built}
-use Rattle.load_costs.proofs.BuiltFacts.{built_place, is_declared, last_more, over_version, rows_stay, table_stays}
+use Rattle.load_costs.proofs.BuiltFacts.{built_place, is_declared, last_more, over_version, table_stays}
 use Rattle.installed_tables.specs.Installed.{put}
-
-eq_of : (a b : ℕ) → (a == b) ≡ true → a ≡ b
-eq_of a b h = grind (arith, nat_tests)
 
 -- one more table among those that some function gives for places from one on
 module _ (f g : ℕ → Option TableOf) (table : TableOf) (new : g table.table ≡ Some table) (others : (i : ℕ) → (table.table == i) ≡ false → g i ≡ f i) (placed : (i : ℕ) (own : TableOf) → f i ≡ Some own → own.table ≡ i) where
-  -- behind its place they are the same
+  -- after its place they are the same
   behind : (a n : ℕ) → table.table < a → filter_map g (range_with_len a n) ≡ filter_map f (range_with_len a n)
   behind a zero later = refl
   behind a (suc n) later = rw (others a (apart table.table a later), behind (a + 1) n (omega (arith, later))) refl
@@ -48,7 +46,7 @@ module _ (f g : ℕ → Option TableOf) (table : TableOf) (new : g table.table �
   one_more a zero from within = absurd (omega (arith, from, within))
   one_more a (suc n) from within = elim (cases_Bool (table.table == a)) [
     | inl here ↦
-        let is : table.table ≡ a = eq_of table.table a here in
+        let is : table.table ≡ a = eqb-true table.table a here in
         let there : g a ≡ Some table = ap g (sym is) ∙ new in
         rw (there, behind (a + 1) n (omega (arith, is))) (at_place (f a) refl is)
     | inr other ↦
@@ -96,7 +94,7 @@ module _ (setting : Setting) (history : List Entry) (who : Who) (table : TableOf
   last : last_built table.table after ≡ Some table.version
   last = last_more table.table history entry ∙ rw (same table.table) refl
 
-  -- behind it this is the table that was built last
+  -- after it this is the table that was built last
   pub built_last : table_built setting.catalog after table.table ≡ Some table
   built_last =
       ap (λ (o : Option ℕ). option_and_then (λ v. option_and_then (over_version setting.catalog after table.table v) (table_cube setting.catalog table.table)) o) last

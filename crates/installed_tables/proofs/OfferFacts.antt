@@ -2,8 +2,7 @@
 use Rattle.std.proofs.Common.{◌≡◌, ◌∙◌, ◌≤◌, ◌==◌, ℕ, Bool, true, List, [], ◌∷◌, Option, None, Some, length, map, take, filter_map, refl, sym, ap, subst, arith, inl, inr, All}
 use Rattle.std.specs.Prelude.{◌&&◌, nat_le, option_and_then, option_map, slice_get}
 use Rattle.std.specs.List.{list_all, list_any, range_with_len}
-use Rattle.std.proofs.lemmas.Bool.{and_parts, or_cases}
-use Rattle.std.proofs.lemmas.Bool.Decides.{nat_tests}
+use Rattle.std.proofs.lemmas.Bool.{and_parts, eqb-true, leb-true, or_cases}
 use Rattle.std.proofs.lemmas.List.{length-take}
 use Rattle.std.proofs.lemmas.List.Elements.{All-cons, All-nil}
 use Rattle.olap_meaning.specs.declared.cells.Header.{Header}
@@ -15,6 +14,7 @@ use Rattle.olap_meaning.specs.Catalog.{table_cube}
 use Rattle.olap_meaning.specs.History.{Entry, rows_of, version}
 use Rattle.olap_meaning.specs.Legal.{Legal}
 use Rattle.olap_meaning.specs.Rolled.{adds_up}
+use Rattle.olap_meaning.proofs.Lists.{mapped_from}
 use Rattle.fact_versions.specs.FactRows.{FactRows}
 use Rattle.fact_reader.specs.BodyRows.{rows_in}
 use Rattle.agg_tables.specs.declared.declared.Declared.{Declared}
@@ -22,16 +22,10 @@ use Rattle.agg_tables.specs.declared.declared.Fold.{Fold}
 use Rattle.agg_tables.specs.Costs.{has_column_of, is_usable, serves}
 use Rattle.agg_tables.specs.Declarations.{declared_for, declared_table}
 use Rattle.agg_tables.specs.Tables.{TableOf, built, built_over, fold_over, folds_of, table_over}
-use Rattle.agg_tables.proofs.FindFacts.{gone_on, mapped_there}
+use Rattle.agg_tables.proofs.FindFacts.{gone_on}
 use Rattle.load_costs.specs.Costs.{last_built, table_built, tables_built}
 use Rattle.segment_load.specs.Loads.{IsOffered}
 use Rattle.load_costs.proofs.BuiltFacts.{built_place, built_reached, over_version}
-
-eq_of : (a b : ℕ) → (a == b) ≡ true → a ≡ b
-eq_of a b h = grind (arith, nat_tests)
-
-le_of : (a b : ℕ) → nat_le a b ≡ true → a ≤ b
-le_of a b h = grind (arith, nat_tests)
 
 first_of : (a b c d : Bool) → (a && b && c && d) ≡ true → a ≡ true
 first_of a b c d h = (and_parts a b (and_parts (a && b) c (and_parts (a && b && c) d h).0).0).0
@@ -41,7 +35,7 @@ served_cube : (catalog : Catalog) (declared : Declared) (rows : List Row) (heade
 served_cube catalog declared rows header [] some = absurd (cc)
 served_cube catalog declared rows header (fold ∷ folds) some =
     elim (or_cases (serves header (fold_over catalog declared rows fold)) (list_any (serves header) (map (fold_over catalog declared rows) folds)) some) [
-      | inl here ↦ eq_of declared.cube header.cube (first_of (declared.cube == header.cube) (fold.measure == header.measure) (adds_up fold.aggregator) (list_all (λ own. has_column_of (fold_over catalog declared rows fold).header own.0) header.columns) here)
+      | inl here ↦ eqb-true declared.cube header.cube (first_of (declared.cube == header.cube) (fold.measure == header.measure) (adds_up fold.aggregator) (list_all (λ own. has_column_of (fold_over catalog declared rows fold).header own.0) header.columns) here)
       | inr there ↦ served_cube catalog declared rows header folds there
     ]
 
@@ -50,7 +44,7 @@ declared_cube : (catalog : Catalog) (table cube : ℕ) (declared : Declared) →
 declared_cube catalog table cube declared is of =
     let own = gone_on (λ (own : SchemaAggregate). option_and_then (λ place. option_map (declared_for catalog own place) (slice_get catalog.cubes place)) (table_cube catalog table)) (slice_get catalog.schema.aggregates table) declared is in
     let place = gone_on (λ (place : ℕ). option_map (declared_for catalog own.0 place) (slice_get catalog.cubes place)) (table_cube catalog table) declared own.2 in
-    let made = mapped_there (declared_for catalog own.0 place.0) (slice_get catalog.cubes place.0) declared place.2 in
+    let made = mapped_from (declared_for catalog own.0 place.0) (slice_get catalog.cubes place.0) declared place.2 in
     let same : Some place.0 ≡ Some cube = sym place.1 ∙ of in
     let place_is : place.0 ≡ cube = cc in
     sym (ap (λ (d : Declared). d.cube) made.2) ∙ place_is
@@ -68,7 +62,7 @@ offered_one setting history header snapshot i table legal present is = λ may.
     let by_cube = gone_on (over_version setting.catalog history i by_version.0) (table_cube setting.catalog i) table by_version.2 in
     let v = by_version.0 in
     let cube = by_cube.0 in
-    let made = mapped_there (table_over setting.catalog i v (rows_of history cube v)) (declared_table setting.catalog i) table by_cube.2 in
+    let made = mapped_from (table_over setting.catalog i v (rows_of history cube v)) (declared_table setting.catalog i) table by_cube.2 in
     let usable = (and_parts (is_usable header table) (nat_le table.version (length snapshot)) may).0 in
     let serving : list_any (serves header) table.bodies ≡ true = (and_parts table.measured (list_any (serves header) table.bodies) usable).1 in
     let bodies : table.bodies ≡ map (fold_over setting.catalog made.0 (rows_of history cube v)) (folds_of made.0.measures) = sym (ap (λ (t : TableOf). t.bodies) made.2) in

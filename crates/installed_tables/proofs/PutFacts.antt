@@ -21,7 +21,7 @@ less a b h = grind (arith, nat_tests)
 abbrev pub place_for : ℕ → List TableOf → ℕ
 place_for table tables = position_or_len (λ own. nat_le table own.table) tables
 
--- the place of the first that passes a test, and behind all where none does
+-- the place of the first that passes a test, and after all where none does
 pub found_place : {A : Type 0} (p : A → Bool) (xs : List A) (n : ℕ) → position p xs ≡ Some n → n ≡ position_or_len p xs
 found_place p xs n found = by (nat_lt (position_or_len p xs) (length xs)) refl found
   where

@@ -33,7 +33,7 @@ fn first_behind(tables: &[Arc<AggTable>], table: u32) -> Option<usize>
     tables.iter().position(|own| own.table() >= table)
 }
 
-// The place of a table among others: that of the first that is no earlier, and behind all where each is earlier.
+// The place of a table among others: that of the first that is no earlier, and after all where each is earlier.
 fn place_for(tables: &[Arc<AggTable>], table: u32) -> usize
     ensures value { result ≡ position_or_len (λ own. nat_le table own.value.table) tables.now }
     ensures within { result ≤ length tables.now }
@@ -73,7 +73,7 @@ impl Installed {
         self.tables.as_slice()
     }
 
-    /// Installs a table: it takes the place of an earlier one of its declaration. Where memory is wanting, nothing has changed.
+    /// Installs a table: it takes the place of an earlier one of its declaration. Where there is no memory, nothing has changed.
     pub fn install(&mut self, table: AggTable) -> Result<(), OutOfMemory>
         ensures installed { OnOk result (self.new ≡ put table self.old) }
         ensures unchanged { OnErr result (self.new ≡ self.old) }

@@ -1,7 +1,6 @@
 -- A query that means axes is answered by the grid of an answer to their cells, a flush by what it means, an AGG by the
 -- table of its name, and a look by what is kept.
-use Rattle.std.proofs.Common.{◌≡◌, ◌≢◌, refl, sym, ap, subst, ◌⊎◌, ℕ, List, true, false, codes, bytes_eq, is_some, Option, Some, None, Result, Ok, Err, inl, inr, arith}
-use Rattle.std.specs.Option.{option_map_or}
+use Rattle.std.proofs.Common.{◌≡◌, ◌≢◌, refl, sym, subst, ◌⊎◌, ℕ, List, true, codes, Option, Some, None, Result, Ok, Err, inl, inr, arith}
 use Rattle.olap_meaning.specs.declared.regions.Region.{Region}
 use Rattle.olap_meaning.specs.Catalog.{find_agg}
 use Rattle.query_meaning.specs.declared.axes.Axes.{Axes}
@@ -10,11 +9,12 @@ use Rattle.query_meaning.specs.AxisCells.{cells_of}
 use Rattle.query_meaning.specs.RegionMeaning.{RegionRefusal, flush_meant}
 use Rattle.query_meaning.specs.RegionReplies.{cube_named}
 use Rattle.query_meaning.specs.Replies.{built_reply, flushed_reply, no_memory_reply}
-use Rattle.query_meaning.specs.Requests.{MayTakeMemory, argument_of, is_blank, is_show}
+use Rattle.query_meaning.specs.Requests.{MayTakeMemory, is_show}
 use Rattle.query_meaning.specs.Resolution.{Refusal, axes_meant}
 use Rattle.history_core.specs.declared.answers.Answer.{Answer}
 use Rattle.input_lines.specs.Requests.{Request, Ask, Flush, Agg, Show}
-use Rattle.input_lines.proofs.Commands.{no_other}
+use Rattle.input_lines.proofs.Arguments.{white_argument}
+use Rattle.input_lines.proofs.Commands.{cache, takes_none}
 use Rattle.line_session.specs.Answered.{AggsAreAnswered, FlushesAreAnswered, LooksAreAnswered, QueriesAreAnswered}
 use Rattle.line_session.specs.Desks.{AddsNone, HasAsked}
 use Rattle.line_session.specs.Replies.{AnswersAgg, AnswersFlush, AnswersLine, AnswersMeaning, AnswersRequest, AnswersShow, Dealing, IsGridOf, LeavesUnread, StandsStill, catalog_of}
@@ -103,19 +103,13 @@ aggs_answered tools dealing handled argument name handles utf8 command writes =
     answers = by handles.answers
 
 -- a line that asks for what is kept has none of the commands whose argument may take memory
-shown_without : (word line : List ℕ) → bytes_eq word (codes "CACHE") ≡ false → is_some (argument_of word line) ≡ true → is_show line ≡ true → ⊥
-shown_without word line other has show =
-    let none : is_show line ≡ false = ap (λ (o : Option (List ℕ)). option_map_or is_blank o false) (no_other word (codes "CACHE") line other has) in let n : ⊥ = cc in n
-
-takes_none : (line : List ℕ) → MayTakeMemory line → is_show line ≡ true → ⊥
-takes_none line (utf8, inl mdx) show = shown_without (codes "MDX") line refl mdx show
-takes_none line (utf8, inr (inl append)) show = shown_without (codes "APPEND") line refl append show
-takes_none line (utf8, inr (inr (inl flush))) show = shown_without (codes "FLUSH") line refl flush show
-takes_none line (utf8, inr (inr (inr agg))) show = shown_without (codes "AGG") line refl agg show
+shows_none : (line : List ℕ) → MayTakeMemory line → is_show line ≡ true → ⊥
+shows_none line takes show =
+    let has = white_argument (codes "CACHE") line show in takes_none cache line refl takes (has.argument, has.command)
 
 pub looks_answered : (tools : ToolsOf) → LooksAreAnswered tools
 looks_answered tools dealing handled handles utf8 show = by handles.answers
   where
     by : AnswersLine tools dealing handled ⊎ LeavesUnread dealing handled → AnswersShow dealing handled.position handled.reply
     by (inl line) = subst (λ (r : Request). AnswersRequest tools dealing r handled.position handled.reply) (sym (line.only Show (utf8, show))) line.answers
-    by (inr unread) = absurd (takes_none handled.line unread.takes show)
+    by (inr unread) = absurd (shows_none handled.line unread.takes show)

@@ -43,7 +43,7 @@ no_region desk known cube meant why reply same (inr is) (inr told) = by (refusal
         let there = subst (λ (k : Catalog). reply ≡ flush_refusal_reply k cube refused) same t in
         subst (λ (m : Result Region RegionRefusal). AnswersFlush (between desk desk []) cube m None reply) (sym i) (stands_still desk, inl there)
 
--- the position of a look is one behind the entries that it finds
+-- the position of a look is one after the entries that it finds
 look_position : (before after : DeskOf) (view : CacheView) (shows : HasShown before after view) → view.position ≡ length (before.cache.entries ++ shows.more) + 1
 look_position before after view shows =
     let all = ap (λ (cache : CacheOf). length cache.entries) shows.adds.goes_on.cache in

@@ -11,7 +11,7 @@ use Rattle.history_core.specs.Seats.{entries_of}
 use Rattle.history_core.specs.Cache.{CacheOf}
 use Rattle.line_session.specs.Desks.{DeskOf, GoesOn, costs_between, costs_behind, with_more}
 
--- what the entries behind a history cost a seat
+-- what the entries after a history cost a seat
 pub started_are : (catalog : Catalog) (seat : ℕ) (before final more : List Entry) → final ≡ before ++ more → costs_behind catalog seat before final ≡ seat_costs catalog seat before more
 started_are catalog seat before final more grown = ap (seat_costs catalog seat before) (ap (drop (length before)) grown ∙ drop-append_seam before more)
 

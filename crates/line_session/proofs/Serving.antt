@@ -73,7 +73,7 @@ told_of P most n next None rest text holds told = tt
 told_of P most n next (Some bytes) None text holds told = absurd told
 told_of P most n next (Some bytes) (Some behind) text holds told = holds bytes behind told
 
--- what holds of the bytes behind a line, and so of them and it
+-- what holds of the bytes after a line, and so of them and it
 told_then : (P Q : List ℕ → Type 0) (most n : ℕ) (left rest : Option (List ℕ)) (text : List ℕ) → ((bytes behind : List ℕ) → GivesLine bytes most text behind n → P behind → Q bytes) → TellsFront left most next.Line text rest n → IfSome rest P → IfSome left Q
 told_then P Q most n None rest text step told holds = tt
 told_then P Q most n (Some bytes) None text step told holds = absurd told
@@ -218,7 +218,7 @@ module _ (tools : ToolsOf) where
         steps = steps ∙ ap (λ (n : ℕ). start + n) (read_by tools around then.line read one.last one.told end one.answers);
       }
 
-  -- a turn behind which it goes on
+  -- a turn after which it goes on
   pub turn_goes_on_both :
       (reading then : Reading) (before middle after : DeskOf) (a b c : List Event) (answers answered told : List Fetched) (files : Option Files) (left rest : Option (List ℕ)) (end : SessionEnd) (start between finish : ℕ) → end ≢ Memory → IsAtEnd reading.ended left
       → (events : List Event) × (asked : List Fetched) × (read : ℕ) × (between ≡ start + read) × HasPassed a b answers answered files events asked × Turn tools reading then (record { before = before; after = middle; asked = asked }) read events left rest None

@@ -36,7 +36,7 @@ module _ (tools : ToolsOf) (around : Dealing) (line : List ℕ) (read : ℕ) (la
   read_by (Err e) ReceiveFault answers = answers.0.2
   read_by _ _ answers = absurd answers
 
-  -- the line that is handled in a turn behind which the session goes on
+  -- the line that is handled in a turn after which the session goes on
   abbrev pub handled_on : (told : Result Next Failed) → Answers tools told around line read last None → Handled
   handled_on (Ok next.Line) answers = record { line = line; position = answers.position; reply = answers.reply; read = read }
   handled_on _ answers = absurd answers

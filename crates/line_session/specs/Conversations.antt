@@ -27,7 +27,7 @@ pub record IsCutOff (reply : List ℕ) (events : List Event) : Type 0 where
   pub some : 0 < length reply
   pub events_are : events ≡ cut taken reply
 
--- what the reader of a session holds at its begin, where so many bytes may be lines
+-- what the reader of a session holds at its begin, where this many bytes may be lines
 abbrev pub fresh : ℕ → Reading
 fresh most = record { line = []; held = []; room = most; beyond = []; ended = false }
 

@@ -58,7 +58,7 @@ pub record AddsNone (before after : DeskOf) : Type 0 where
   pub none : entries_of more before.seat ≡ []
   pub fronts : after.fronts ≡ before.fronts
 
--- a call of the seat was added behind these entries, as the last that is seen
+-- a call of the seat was added after these entries, as the last that is seen
 pub record AddsCall (before after : DeskOf) (more : List Entry) (call : Entry) : Type 0 where
   pub goes_on : GoesOnBy before after (more ++ call ∷ [])
   pub fronts : after.fronts ≡ before.fronts
@@ -88,7 +88,7 @@ is_start_or_done (Start load) = true
 is_start_or_done (Done who load) = true
 is_start_or_done _ = false
 
--- no load is started behind one that was given up
+-- no load is started after one that was given up
 abbrev pub none_behind_drops : List Entry → Bool
 none_behind_drops [] = true
 none_behind_drops (Drop who load ∷ entries) = list_all is_end entries
@@ -113,7 +113,7 @@ IsLoadOfLook allowing cache entries who cells load =
     MayBeStarted allowing
     (record { setting = cache.setting; entries = entries }) who (unawaited entries cells) load
 
--- the Start at a position is one of a look at some cells, behind so many entries: that look gives it over what was
+-- the Start at a position is one of a look at some cells, after this many entries: that look gives it over what was
 -- seen then, and since then there are only Starts of the same call
 pub record IsOfLook (allowing : Allowing) (cache : CacheOf) (begun : ℕ) (who : Who)
     (cells : List Cell) (p : ℕ) (load : Load) : Type 0 where
@@ -186,7 +186,7 @@ pub record HasAsked (allowing : Allowing) (before after : DeskOf) (cells : List 
   pub idle : IsIdle after
 
 -- cells were not answered: at most loads that they lack were started, for the seat's next call, and no load of the seat
--- flies; behind one that was given up none was started
+-- flies; after one that was given up none was started
 pub record HasNotAsked (allowing : Allowing) (before after : DeskOf)
     (cells : List Cell) : Type 0 where
   pub who : Who
@@ -230,7 +230,7 @@ pub record HasFlushed (before after : DeskOf) (region : Region) (position : ℕ)
   pub position_is : position ≡ length after.cache.entries
 
 -- an aggregate table of the schema was built: as the last entry, by the seat, of the version that its cube had then, and it has
--- so many groups; none of the seat's loads was started or ended for it
+-- this many groups; none of the seat's loads was started or ended for it
 pub record HasBuilt (before after : DeskOf) (table : ℕ) (built : AggBuilt) : Type 0 where
   pub who : Who
   pub own : who.seat ≡ before.seat
@@ -253,7 +253,7 @@ pub record HasShown (before after : DeskOf) (view : CacheView) : Type 0 where
   pub position_is : view.position ≡ length after.cache.entries
   pub lines : view.lines ≡ cache_lines (with_more before.cache more).entries
 
--- the front was read: just so many entries are seen then, and none of them is a new one of the seat
+-- the front was read: just this many entries are seen then, and none of them is a new one of the seat
 pub record HasReadFront (before after : DeskOf) (front : ℕ) : Type 0 where
   pub more : List Entry
   pub goes_on : GoesOnBy before after more
@@ -261,7 +261,7 @@ pub record HasReadFront (before after : DeskOf) (front : ℕ) : Type 0 where
   pub front_is : front ≡ length after.cache.entries
   pub fronts : after.fronts ≡ option_map (λ fronts. fronts ++ front ∷ []) before.fronts
 
--- what the entries behind a history cost a seat: its loads, and the tables that it has built, each by the entries before it
+-- what the entries after a history cost a seat: its loads, and the tables that it has built, each by the entries before it
 abbrev pub costs_behind : Catalog → ℕ → List Entry → List Entry → ℕ
 costs_behind catalog seat before after =
     seat_costs catalog seat before (drop (length before) after)

@@ -159,7 +159,7 @@ AnswersAppend dealing argument None position reply =
     StandsStill dealing position
     × ((reply ≡ no_cube_reply argument.cube) ⊎ (reply ≡ no_memory_reply))
 
--- the reply where so many entries were asked for and a cache has those of this front
+-- the reply where this many entries were asked for and a cache has those of this front
 abbrev pub front_reply : ℕ → ℕ → List ℕ
 front_reply asked front =
     if nat_le asked front then seen_reply front else not_yet_reply asked front
@@ -260,7 +260,7 @@ AnswersRequest tools dealing Show position reply = AnswersShow dealing position 
 abbrev pub costs_of : Dealing → ℕ
 costs_of dealing = costs_between dealing.before dealing.after
 
--- so many rows and groups were read: where a line has an entry, just what its entries cost; else at most that
+-- this many rows and groups were read: where a line has an entry, just what its entries cost; else at most that
 abbrev pub AreCosts : Dealing → Option ℕ → ℕ → Type 0
 AreCosts dealing position read =
     (IsSome position → read ≡ costs_of dealing) × (read ≤ costs_of dealing)
@@ -273,8 +273,8 @@ rows_to_build dealing name =
     (present_rows (catalog_of dealing.before) dealing.after.cache.entries)
     (find_agg (catalog_of dealing.before) name) 0
 
--- so many rows and groups were read for a line that asks for this: where it has an entry, what its entries cost; else at most
--- that, and for a table that was not built at most the rows of its version. Nothing is read but for a query and an AGG
+-- this many rows and groups were read for a line that asks for this: where it has an entry, what its entries cost; else at most
+-- that, and for a table that was not built at most the rows of its version. Nothing is read except for a query and an AGG
 abbrev pub IsRead : Dealing → Request → Option ℕ → ℕ → Type 0
 IsRead dealing (Ask query) position read = AreCosts dealing position read
 IsRead dealing (Agg name) position read =

@@ -1,5 +1,7 @@
 -- The bytes of a reply.
-use Rattle.std.specs.Prelude.{ℕ, List}
+use Rattle.std.specs.Prelude.{ℕ, ◌++◌, List, codes}
+use Rattle.std.specs.Fmt.{decimal}
+use Rattle.std.specs.List.{fold}
 use Rattle.line_session.specs.declared.reply.Bytes.{Bytes}
 use Rattle.line_session.specs.declared.reply.Bytes.TheVariants.{Fixed, Short, Made}
 
@@ -8,3 +10,7 @@ abbrev pub bytes_in : Bytes → List ℕ
 bytes_in (Fixed text) = text.now
 bytes_in (Short text) = text.bytes
 bytes_in (Made text) = text
+
+-- a label and numbers in decimal, with a space before each
+abbrev pub numbered : List ℕ → List ℕ → List ℕ
+numbered label numbers = fold (λ text number. text ++ codes " " ++ decimal number) label numbers

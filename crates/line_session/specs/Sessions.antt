@@ -44,8 +44,8 @@ pub record EndsAtLast (lines : List (List ℕ)) : Type 0 where
   pub earlier : go_on before ≡ true
   pub ends : ends_session last ≡ true
 
--- AreFirst most bytes lines left rest: these are the first lines of an input of which at most so many bytes may be
--- taken, each line with its end; behind them the rest is left, of which so many bytes may be taken
+-- AreFirst most bytes lines left rest: these are the first lines of an input of which at most this many bytes may be
+-- taken, each line with its end; after them the rest is left, of which this many bytes may be taken
 pub data AreFirst : ℕ → List ℕ → List (List ℕ) → ℕ → List ℕ → Type 0 where
   -- none yet
   none : {most : ℕ} {bytes : List ℕ} → AreFirst most bytes [] most bytes
@@ -55,7 +55,7 @@ pub data AreFirst : ℕ → List ℕ → List (List ℕ) → ℕ → List ℕ �
       → AreFirst (most - size) behind lines left rest
       → AreFirst most bytes (first ∷ lines) left rest
 
--- what is left behind the lines that were handled, by how the session ended: the end has come; or too many bytes without
+-- what is left after the lines that were handled, by how the session ended: the end has come; or too many bytes without
 -- an LF come, among those that may be taken; or no LF is among those, which are no more than a line may have, and one
 -- byte more comes
 abbrev pub IsLeft : SessionEnd → ℕ → List ℕ → Type 0
@@ -64,7 +64,7 @@ IsLeft LongLine left rest = Begins (take left rest) TooMany
 IsLeft Budget left rest = IsSpent rest left
 IsLeft end left rest = ⊥
 
--- which lines of an input were handled, of which at most so many bytes may be taken, by how the session ended
+-- which lines of an input were handled, of which at most this many bytes may be taken, by how the session ended
 abbrev pub AreHandled : ℕ → SessionEnd → List (List ℕ) → List ℕ → Type 0
 AreHandled most Quit lines bytes =
     (left : ℕ) × (rest : List ℕ) × AreFirst most bytes lines left rest × EndsAtLast lines
@@ -78,7 +78,7 @@ AreHandled most end lines bytes =
     (left : ℕ) × (rest : List ℕ) × AreFirst most bytes lines left rest × (go_on lines ≡ true)
     × IsLeft end left rest
 
--- a write has failed: of the replies joined a front was sent; or too long a line came behind all these lines, and of
+-- a write has failed: of the replies joined a front was sent; or too long a line came after all these lines, and of
 -- the replies and that to it a front was sent
 abbrev pub IsSentInPart : ℕ → Option (List ℕ) → List (List ℕ) → List ℕ → List ℕ
     → List ℕ → Type 0
@@ -97,7 +97,7 @@ AreSent most SendFault left lines before after text =
 AreSent most end left lines before after text = after ≡ before ++ text
 
 -- a session was served: the lines that were handled are those of the input, each with its reply, and the replies were
--- sent. At most so many bytes of the input may be taken, and one more
+-- sent. At most this many bytes of the input may be taken, and one more
 pub record IsServed (tools : ToolsOf) (most : ℕ) (end : SessionEnd) (dealing : Dealing) (left : Option (List ℕ))
     (sent_before sent_after : List ℕ) (handled : List Handled) : Type 0 where
   pub session : IsSession tools dealing.before dealing.asked handled dealing.after
@@ -114,8 +114,8 @@ abbrev pub is_agg_without_memory : Handled → Bool
 is_agg_without_memory handled =
     is_some (argument_of (codes "AGG") handled.line) && bytes_eq handled.reply no_memory_reply
 
--- so many rows has the version of the cube of some aggregate table that was the present one at some place of the history,
--- at the session's begin or behind it
+-- this many rows has the version of the cube of some aggregate table that was the present one at some place of the history,
+-- at the session's begin or after it
 abbrev pub AreOfVersion : Dealing → ℕ → Type 0
 AreOfVersion dealing rows =
     (table : ℕ) × (front : ℕ) × (length dealing.before.cache.entries ≤ front)

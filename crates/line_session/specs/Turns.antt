@@ -30,7 +30,7 @@ EndsReply line reply events (Some Quit) = (ends_session line ≡ true) × (event
 EndsReply line reply events (Some SendFault) = IsCutOff reply events
 EndsReply line reply events (Some end) = ⊥
 
--- a line was handled, for which so many rows and groups were read, and this has passed of its reply; the session goes on, or
+-- a line was handled, for which this many rows and groups were read, and this has passed of its reply; the session goes on, or
 -- ends there
 pub record Replies (tools : ToolsOf) (dealing : Dealing) (line : List ℕ) (read : ℕ)
     (events : List Event) (end : Option SessionEnd) : Type 0 where
@@ -44,7 +44,7 @@ pub record Replies (tools : ToolsOf) (dealing : Dealing) (line : List ℕ) (read
 abbrev pub IsStill : Dealing → ℕ → Type 0
 IsStill dealing read = (dealing.after ≡ dealing.before) × (dealing.asked ≡ []) × (read ≡ 0)
 
--- what comes next of an input was answered, for which so many rows and groups were read, and this has passed of the answer; the
+-- what comes next of an input was answered, for which this many rows and groups were read, and this has passed of the answer; the
 -- session goes on, or ends there
 abbrev pub Answers : ToolsOf → Result Next Failed → Dealing → List ℕ → ℕ → List Event
     → Option SessionEnd → Type 0
@@ -61,7 +61,7 @@ Answers tools (Err e) dealing line read events (Some ReceiveFault) =
     IsStill dealing read × (events ≡ [])
 Answers tools told dealing line read events end = ⊥
 
--- a turn: what comes next is heard and answered, for which so many rows and groups are read. Where the link tells what is left,
+-- a turn: what comes next is heard and answered, for which this many rows and groups are read. Where the link tells what is left,
 -- it is what that begins with
 pub record Turn (tools : ToolsOf) (reading then : Reading) (dealing : Dealing) (read : ℕ)
     (events : List Event) (left_before left_after : Option (List ℕ))

@@ -15,11 +15,12 @@ use std::alloc::Global;
 use std::sync::ledger::Ledger;
 
 // The reply where a table was built. It takes no memory.
+#[tactic(auto, using(std::proofs::Common::append_assoc))]
 fn reply_to_built(built: AggBuilt) -> Reply
     ensures { result ≡ built_reply built.position built.version built.groups }
 {
     let version = u64::from(built.version.0);
-    Reply::three_numbers("AGG ", built.position, version, built.groups)
+    Reply::numbers("AGG", &[built.position, version, built.groups])
 }
 
 /// The reply to an AGG: the aggregate table of the name is built at a desk. Only that no table has the name takes memory to

@@ -40,7 +40,7 @@ fn reply_to_batch_fault(alloc: Global, fault: &BatchFault) -> Reply
     }
 }
 
-// The reply to a batch that does not fit behind those before it.
+// The reply to a batch that does not fit after those before it.
 fn reply_to_append_fault(alloc: Global, fault: &AppendFault) -> Reply
     ensures { (result ≡ refused_batch_reply (refused_append_text fault.now))
         ⊎ (result ≡ no_memory_reply) }
@@ -56,7 +56,7 @@ fn reply_to_appended(appended: Appended) -> Reply
     ensures { result ≡ version_reply appended.position appended.version }
 {
     let version = u64::from(appended.version.0);
-    Reply::two_numbers("VERSION ", appended.position, version)
+    Reply::numbers("VERSION", &[appended.position, version])
 }
 
 // The reply to a batch that is appended to a cube.

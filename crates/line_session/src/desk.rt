@@ -25,8 +25,8 @@ pub trait Desk {
         ensures idle { IsIdle (seen self.now) };
 
     /// Answers cells, in their order. The loads that are missing, which allow what the widener answers, are run and
-    /// delivered first; where memory is wanting, those that were started are given up. It adds as many steps as the loads cost
-    /// that it has started, and at most as many where memory is wanting.
+    /// delivered first; where there is no memory, those that were started are given up. It adds as many steps as the loads cost
+    /// that it has started, and at most as many where there is no memory.
     fn ask<L: Ledger>(
         &mut self,
         alloc: Global,
@@ -57,7 +57,7 @@ pub trait Desk {
             (HasNotAppended (seen self.old) (seen self.new) cube batch.rows) };
 
     /// Flushes a region: no load that was started before serves the cells that it covers. Gives the position of the entry.
-    /// Where memory is wanting, nothing is flushed.
+    /// Where there is no memory, nothing is flushed.
     fn flush(&mut self, region: Region) -> Result<u64, OutOfMemory>
         requires flushable { IsTrue
             (is_flushable (seen self.old).cache.setting.catalog region) }
@@ -66,7 +66,7 @@ pub trait Desk {
 
     /// Builds an aggregate table of the schema from the present version of its cube, for the loads that are started from then
     /// on, in place of an earlier one of its declaration. It adds as many steps as that version has rows, and at most as many
-    /// where memory is wanting; then nothing is built.
+    /// where there is no memory; then nothing is built.
     fn build_agg<L: Ledger>(
         &mut self,
         table: u32,
@@ -87,7 +87,7 @@ pub trait Desk {
         ensures shown { IfOk result (HasShown (seen self.old) (seen self.new)) }
         ensures refused { OnErr result (AddsNone (seen self.old) (seen self.new)) };
 
-    /// Reads how many entries the cache has, and gives their number where there are so many. It takes no memory.
+    /// Reads how many entries the cache has, and gives their number where there are this many. It takes no memory.
     fn after(&mut self, n: u64) -> Result<u64, NotYet>
         ensures front { IfOk result (HasReadFront (seen self.old) (seen self.new)) }
         ensures enough { IfOk result (λ front. n ≤ front) }

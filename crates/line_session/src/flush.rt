@@ -121,7 +121,7 @@ fn reply_to_fault(alloc: Global, catalog: &Catalog, text: &RegionText, fault: &R
             Reply::made(levels_line(alloc, catalog, cube, first, second))
         }
         RegionFault::TooManyBoxes { count, limit } => {
-            Reply::two_numbers("ERR 13 REGION BOXES ", *count, u64::from(*limit))
+            Reply::numbers("ERR 13 REGION BOXES", &[*count, u64::from(*limit)])
         }
         RegionFault::OutOfMemory => Reply::no_memory(),
     }
@@ -135,7 +135,7 @@ fn reply_to_region<P: Desk>(desk: &mut P, region: Region) -> Reply
         cube (Ok region) position result }
 {
     match desk.flush(region) {
-        Ok(position) => Reply::number("FLUSHED ", position),
+        Ok(position) => Reply::numbers("FLUSHED", &[position]),
         Err(OutOfMemory) => Reply::no_memory(),
     }
 }

@@ -27,15 +27,15 @@ use shown_values::{Formatter, GivesTexts};
 use std::alloc::Global;
 use std::sync::ledger::Ledger;
 
-// The reply to a line that asks whether there are so many entries. It takes no memory.
+// The reply to a line that asks whether there are this many entries. It takes no memory.
 fn reply_to_after<P: Desk>(desk: &mut P, count: u64) -> Reply
     ensures { (position : Option ℕ)
         × TellsWhatIsSeen (record { before = P.seen desk.old; after = P.seen desk.new; asked = [] })
         count position result }
 {
     match desk.after(count) {
-        Ok(front) => Reply::number("SEEN ", front),
-        Err(not_yet) => Reply::two_numbers("ERR 14 NOT YET ", not_yet.asked, not_yet.front),
+        Ok(front) => Reply::numbers("SEEN", &[front]),
+        Err(not_yet) => Reply::numbers("ERR 14 NOT YET", &[not_yet.asked, not_yet.front]),
     }
 }
 
@@ -69,7 +69,7 @@ fn reply_to_request<P: Desk, D: Depot, L: Ledger>(
         Request::NotText => Reply::fixed("ERR 2 UTF8\n"),
         Request::Blank => Reply::fixed(""),
         Request::NoCommand => Reply::fixed("ERR 3 COMMAND\n"),
-        Request::Stops(byte) => Reply::number("ERR 4 SYNTAX ", *byte as u64),
+        Request::Stops(byte) => Reply::numbers("ERR 4 SYNTAX", &[*byte as u64]),
         Request::Quit => Reply::fixed("BYE\n"),
         Request::After(count) => reply_to_after(desk, *count),
         Request::Append(argument) => reply_to_append(alloc, desk, depot, catalog, argument),

@@ -40,9 +40,9 @@ fn reply_to_fault(alloc: Global, fault: &ResolveFault) -> Reply
         ResolveFault::AxisTwice { hierarchy } => {
             Reply::made(named_line(alloc, "ERR 7 AXIS TWICE", hierarchy.as_str()))
         }
-        ResolveFault::MixedSet { at } => Reply::number("ERR 8 MIXED ", u64::from(*at)),
+        ResolveFault::MixedSet { at } => Reply::numbers("ERR 8 MIXED", &[u64::from(*at)]),
         ResolveFault::TooManyCells { count, limit } => {
-            Reply::two_numbers("ERR 9 CELLS ", *count, u64::from(*limit))
+            Reply::numbers("ERR 9 CELLS", &[*count, u64::from(*limit)])
         }
         ResolveFault::OutOfMemory => Reply::no_memory(),
     }

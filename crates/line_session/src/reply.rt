@@ -1,15 +1,16 @@
 //! Replies that are to be sent.
-ghost use Rattle.std.specs.Prelude.{◌≡◌, ◌≤◌, ◌++◌, codes, length, MatchResult};
-ghost use Rattle.std.specs.Fmt.{decimal};
+ghost use Rattle.std.specs.Prelude.{◌≡◌, ◌≤◌, length, MatchResult};
 ghost use Rattle.olap_meaning.specs.Texts.{line};
 ghost use Rattle.query_meaning.specs.Replies.{no_memory_reply};
+ghost use Rattle.line_session.specs.ReplyBytes.{numbered};
 
 use arrayvec::ArrayString;
 use itoa::Buffer;
 use olap_meaning::{OutOfMemory, Text};
 use std::marker::Model;
 
-// The longest line of a label and three numbers, in bytes: a label of 20, three numbers of 20 digits, two spaces and the end.
+// The longest line of a label and three numbers, in bytes: a label of 19, three numbers of 20 digits, a space before each
+// and the end.
 const LINE_SIZE: usize = 83;
 
 // Where the bytes of a reply stand.
@@ -64,49 +65,18 @@ impl Reply {
         }
     }
 
-    /// A line of a label and a number.
-    pub(crate) fn number(label: &'static str, number: u64) -> Reply
-        requires { length label.now ≤ 20 }
-        ensures { result ≡ line (label.now ++ decimal number) }
+    /// A line of a label and at most three numbers, with a space before each.
+    pub(crate) fn numbers(label: &'static str, numbers: &[u64]) -> Reply
+        requires label { length label.now ≤ 19 }
+        requires few { length numbers.now ≤ 3 }
+        ensures { result ≡ line (numbered label.now numbers.now) }
     {
         let mut text = ArrayString::new();
         text.push_str(label);
-        text.push_str(Buffer::new().format(number));
-        text.push_str("\n");
-        Reply {
-            bytes: Bytes::Short(text),
+        for number in numbers {
+            text.push_str(" ");
+            text.push_str(Buffer::new().format(*number));
         }
-    }
-
-    /// A line of a label and two numbers, with a space between these.
-    pub(crate) fn two_numbers(label: &'static str, first: u64, second: u64) -> Reply
-        requires { length label.now ≤ 20 }
-        ensures { result ≡ line (label.now ++ decimal first ++ codes " " ++ decimal second) }
-    {
-        let mut text = ArrayString::new();
-        text.push_str(label);
-        text.push_str(Buffer::new().format(first));
-        text.push_str(" ");
-        text.push_str(Buffer::new().format(second));
-        text.push_str("\n");
-        Reply {
-            bytes: Bytes::Short(text),
-        }
-    }
-
-    /// A line of a label and three numbers, with a space between each two.
-    pub(crate) fn three_numbers(label: &'static str, first: u64, second: u64, third: u64) -> Reply
-        requires { length label.now ≤ 20 }
-        ensures { result ≡ line
-            (label.now ++ decimal first ++ codes " " ++ decimal second ++ codes " " ++ decimal third) }
-    {
-        let mut text = ArrayString::new();
-        text.push_str(label);
-        text.push_str(Buffer::new().format(first));
-        text.push_str(" ");
-        text.push_str(Buffer::new().format(second));
-        text.push_str(" ");
-        text.push_str(Buffer::new().format(third));
         text.push_str("\n");
         Reply {
             bytes: Bytes::Short(text),

@@ -51,16 +51,6 @@ IsPermutation-filter {X} p =
           | inr fails ↦ elim (cases_Bool (p y)) [ inl passes ↦ simp (fails, passes) (IsPermutation-refl _) | inr also ↦ simp (fails, also) (IsPermutation-refl _) ]
         ]
 
--- two filters, in either order
-pub filter-turned : {X : Type 0} (p q : X → Bool) (xs : List X) → filter p (filter q xs) ≡ filter q (filter p xs)
-filter-turned p q [] = refl
-filter-turned p q (x ∷ xs) =
-    let rest = filter-turned p q xs in
-    elim (cases_Bool (p x)) [
-      | inl passes ↦ elim (cases_Bool (q x)) [ inl also ↦ simp (passes, also, rest) | inr fails ↦ simp (passes, fails, rest) ]
-      | inr fails ↦ elim (cases_Bool (q x)) [ inl passes ↦ simp (fails, passes, rest) | inr also ↦ simp (fails, also, rest) ]
-    ]
-
 -- a filter of a filter that keeps all that it keeps
 pub filter-filter : {X : Type 0} (p q : X → Bool) → ((x : X) → p x ≡ true → q x ≡ true) → (xs : List X) → filter p (filter q xs) ≡ filter p xs
 filter-filter p q tells [] = refl

@@ -1,55 +1,34 @@
 -- Rising lists with the same members.
-use Rattle.std.proofs.Common.{◌≡◌, ◌<◌, ℕ, true, false, List, [], ◌∷◌, refl, sym, arith, inl, inr}
+use Rattle.std.proofs.Common.{◌≡◌, ◌<◌, ℕ, true, List, [], ◌∷◌, refl, sym, arith, inl, inr}
 use Rattle.std.specs.Prelude.{◌==◌, nat_lt, Contains}
 use Rattle.std.specs.List.{list_all}
-use Rattle.std.proofs.lemmas.Bool.{and_from, and_parts, cases_Bool}
-use Rattle.std.proofs.lemmas.Bool.Decides.{nat_tests}
+use Rattle.std.proofs.lemmas.Bool.{and_from, and_parts, cases_Bool, eq-eqb, eqb-true, ltb-true}
 use Rattle.olap_meaning.specs.Covering.{among}
 use Rattle.olap_meaning.specs.Legal.{rise}
 use Rattle.olap_meaning.proofs.Members.{any_member, in_first, in_rest}
+use Rattle.olap_meaning.proofs.Orders.{above_of}
+use Rattle.olap_meaning.proofs.Lists.{below_differs}
 
-lt_true : (a b : ℕ) → nat_lt a b ≡ true → a < b
-lt_true a b h = grind (arith, nat_tests)
-
-eq_false : (a b : ℕ) → a < b → (a == b) ≡ false
-eq_false a b h = grind (arith, nat_tests)
-
-eq_self : (a : ℕ) → (a == a) ≡ true
-eq_self a = grind (arith, nat_tests)
-
-eq_of : (a b : ℕ) → (a == b) ≡ true → a ≡ b
-eq_of a b h = grind (arith, nat_tests)
-
--- the elements above the first of a list that are in it are in its rest
+-- the elements above_of the first of a list that are in it are in its rest
 rest_among : (y : ℕ) (ys zs : List ℕ) → list_all (nat_lt y) zs ≡ true → list_all (among (y ∷ ys)) zs ≡ true → list_all (among ys) zs ≡ true
-rest_among y ys [] above inside = refl
-rest_among y ys (z ∷ zs) above inside =
-    let parts = and_parts (nat_lt y z) (list_all (nat_lt y) zs) above in
+rest_among y ys [] above_of inside = refl
+rest_among y ys (z ∷ zs) above_of inside =
+    let parts = and_parts (nat_lt y z) (list_all (nat_lt y) zs) above_of in
     let inner = and_parts (among (y ∷ ys) z) (list_all (among (y ∷ ys)) zs) inside in
-    let here : among ys z ≡ true = rw (eq_false y z (lt_true y z parts.0)) at inner.0 in
+    let here : among ys z ≡ true = rw (below_differs y z (ltb-true y z parts.0)) at inner.0 in
     rw here (rest_among y ys zs parts.1 inner.1)
-
--- an element of a list that is all above a number is above it
-above : (x : ℕ) (ys : List ℕ) (z : ℕ) → list_all (nat_lt x) ys ≡ true → among ys z ≡ true → x < z
-above x [] z below inside = absurd (cc)
-above x (y ∷ ys) z below inside =
-    let parts = and_parts (nat_lt x y) (list_all (nat_lt x) ys) below in
-    elim (cases_Bool (y == z)) [
-      | inl same ↦ let lt : x < y = lt_true x y parts.0 in let e : y ≡ z = eq_of y z same in omega arith
-      | inr other ↦ above x ys z parts.1 (rw other at inside)
-    ]
 
 -- the first of two rising lists with the same elements are the same
 first_same : (x y : ℕ) (xs ys : List ℕ) → list_all (nat_lt x) xs ≡ true → list_all (nat_lt y) ys ≡ true → among (y ∷ ys) x ≡ true → among (x ∷ xs) y ≡ true → x ≡ y
 first_same x y xs ys up up' x_in y_in =
     elim (cases_Bool (y == x)) [
-      | inl same ↦ sym (eq_of y x same)
+      | inl same ↦ sym (eqb-true y x same)
       | inr other ↦
           elim (cases_Bool (x == y)) [
-            | inl same ↦ eq_of x y same
+            | inl same ↦ eqb-true x y same
             | inr differs ↦
-                let lt : y < x = above y ys x up' (rw other at x_in) in
-                let gt : x < y = above x xs y up (rw differs at y_in) in
+                let lt : y < x = above_of y ys x up' (rw other at x_in) in
+                let gt : x < y = above_of x xs y up (rw differs at y_in) in
                 absurd (omega arith)
           ]
     ]
@@ -73,7 +52,7 @@ pub all_among : (xs ys : List ℕ) → ((x : ℕ) → Contains xs x → Contains
 all_among [] ys into = refl
 all_among (x ∷ xs) ys into =
     and_from (among ys x) (list_all (among ys) xs)
-    (any_member (λ v. v == x) ys x (into x (in_first x xs)) (eq_self x))
+    (any_member (λ v. v == x) ys x (into x (in_first x xs)) (eq-eqb x x refl))
     (all_among xs ys (λ z held. into z (in_rest x xs z held)))
 
 pub rising_same : (xs ys : List ℕ) → rise xs ≡ true → rise ys ≡ true → ((x : ℕ) → Contains xs x → Contains ys x) → ((y : ℕ) → Contains ys y → Contains xs y) → xs ≡ ys

@@ -1,30 +1,25 @@
 -- The tables that a history has built, as the history grows, and which they are.
-use Rattle.std.proofs.Common.{◌≡◌, ◌∙◌, ◌<◌, ◌≤◌, ◌+◌, ◌==◌, ℕ, zero, suc, true, false, List, [], ◌∷◌, ◌++◌, Option, None, Some, length, map, take, take_all, cond, filter_map, flat_map, refl, sym, ap, subst, arith, inl, inr, bytes_eq, ◌↔◌}
+use Rattle.std.proofs.Common.{◌≡◌, ◌∙◌, ◌<◌, ◌≤◌, ◌+◌, ◌==◌, ℕ, zero, suc, true, false, List, [], ◌∷◌, ◌++◌, Option, None, Some, length, map, take, take_all, filter_map, refl, sym, ap, subst, arith, inl, inr, bytes_eq, ◌↔◌}
 use Rattle.std.specs.Prelude.{Contains, IsTrue, is_some, nat_lt, option_and_then, position, slice_get}
 use Rattle.std.specs.List.{list_all, list_any, range_with_len}
 use Rattle.std.specs.Option.{option_or}
-use Rattle.std.proofs.lemmas.Bool.{and_from, cases_Bool}
+use Rattle.std.proofs.lemmas.Bool.{and_from, cases_Bool, eqb-true}
 use Rattle.std.proofs.lemmas.Bool.Decides.{nat_tests}
-use Rattle.std.proofs.lemmas.List.{take-append-le}
-use Rattle.std.proofs.lemmas.List.Elements.{filter_map-append}
-use Rattle.std.proofs.lemmas.List.Recursion.{is_count_by}
+use Rattle.std.proofs.lemmas.Option.{slice_get_within}
 use Rattle.olap_meaning.specs.declared.schema.SchemaAggregate.{SchemaAggregate}
 use Rattle.olap_meaning.specs.declared.tables.Catalog.{Catalog}
-use Rattle.olap_meaning.specs.declared.tables.Row.{Row}
 use Rattle.olap_meaning.specs.declared.tables.Setting.{Setting}
 use Rattle.olap_meaning.specs.declared.cells.Who.{Who}
 use Rattle.olap_meaning.specs.Catalog.{table_cube}
-use Rattle.olap_meaning.specs.History.{Entry, Append, Agg, Flush, Start, Done, Drop, Evict, Answer, Saw, appended, rows_of, version}
+use Rattle.olap_meaning.specs.History.{Entry, Append, Agg, Flush, Start, Done, Drop, Evict, Answer, Saw, rows_of, version}
 use Rattle.olap_meaning.specs.Legal.{IsLegalAgg, Legal, rise}
-use Rattle.olap_meaning.proofs.Versions.{versions_rise}
+use Rattle.olap_meaning.proofs.Versions.{rows_stay, versions_rise}
+use Rattle.olap_meaning.proofs.Lists.{mapped_from}
 use Rattle.agg_tables.specs.Declarations.{declared_table}
 use Rattle.agg_tables.specs.Tables.{TableOf, built_over, table_over}
-use Rattle.agg_tables.proofs.FindFacts.{gone_on, mapped_there}
+use Rattle.agg_tables.proofs.FindFacts.{gone_on}
 use Rattle.load_costs.specs.Costs.{builds, last_built, table_built, tables_built, version_built}
 use Rattle.load_costs.specs.Laws.{IsBuilt}
-
-eq_of : (a b : ℕ) → (a == b) ≡ true → a ≡ b
-eq_of a b h = grind (arith, nat_tests)
 
 -- the last of some and one more
 or_again : (a b c : Option ℕ) → option_or (option_or a b) c ≡ option_or a (option_or b c)
@@ -53,7 +48,7 @@ not_built table (e ∷ es) none = by (version_built table e) refl (λ rest. not_
     by None is earlier = rw (is, earlier (rw is at none)) refl
     by (Some v) is earlier = absurd (let h = rw is at none in cc)
 
--- a table is built last by an entry behind which none builds it
+-- a table is built last by an entry after which none builds it
 pub last_counts : (table version : ℕ) (who : Who) (before after : List Entry) → list_any (λ entry. is_some (version_built table entry)) after ≡ false → last_built table (before ++ Agg who table version ∷ after) ≡ Some version
 last_counts table version who before after none =
     last_behind table before (Agg who table version ∷ after) ∙ rw (not_built table after none, same table) refl
@@ -71,7 +66,7 @@ last_there table (e ∷ es) v last = by (last_built table es) refl last (λ rest
     here (Agg who own w) is = elim (cases_Bool (own == table)) [
       | inl same ↦
           let version_is : w ≡ v = let h = rw same at is in cc in
-          let table_is : own ≡ table = eq_of own table same in
+          let table_is : own ≡ table = eqb-true own table same in
           (who, rw (version_is, table_is) refl)
       | inr other ↦ absurd (let h = rw other at is in cc)
     ]
@@ -90,12 +85,6 @@ last_there table (e ∷ es) v last = by (last_built table es) refl last (λ rest
         let rest = later (some ∙ is) in
         (suc rest.0, (rest.1.0, rest.1.1))
 
--- a place that has an element is one of the list
-pub get_within : {A : Type 0} (xs : List A) (b : ℕ) (one : A) → slice_get xs b ≡ Some one → b < length xs
-get_within [] b one at = absurd (cc)
-get_within (x ∷ xs) zero one at = omega arith
-get_within (x ∷ xs) (suc b) one at = omega (arith, get_within xs b one at)
-
 -- a table was built over a version that its cube had
 pub built_reached : (setting : Setting) (history : List Entry) (table v cube : ℕ) → Legal setting history → last_built table history ≡ Some v → table_cube setting.catalog table ≡ Some cube → v ≤ version history cube
 built_reached setting history table v cube legal last is =
@@ -104,26 +93,10 @@ built_reached setting history table v cube legal last is =
     let same : Some step.cube ≡ Some cube = sym step.known ∙ is in
     let cube_is : step.cube ≡ cube = cc in
     let reached : v ≤ version (take found.0 history) cube = subst (λ (c : ℕ). v ≤ version (take found.0 history) c) cube_is step.reached in
-    let within = get_within history found.0 (Agg found.1.0 table v) found.1.1 in
+    let within = slice_get_within history found.0 (Agg found.1.0 table v) found.1.1 in
     let rising = versions_rise history cube found.0 (length history) (omega (arith, within)) in
     let whole = ap (λ (entries : List Entry). version entries cube) (take_all (length history) history (omega arith)) in
     omega (arith, reached, rising, whole)
-
--- the rows of a version that a cube had stay
-version-length : (history : List Entry) (cube : ℕ) → version history cube ≡ length (filter_map (appended cube) history)
-version-length history cube = sym (is_count_by (λ (entries : List Entry). length (filter_map (appended cube) entries)) (λ entry. is_some (appended cube entry)) refl step history)
-  where
-    step : (entry : Entry) (entries : List Entry) → length (filter_map (appended cube) (entry ∷ entries)) ≡ cond (is_some (appended cube entry)) (1 + length (filter_map (appended cube) entries)) (length (filter_map (appended cube) entries))
-    step entry entries = by (appended cube entry) refl
-      where
-        by : (o : Option (List Row)) → appended cube entry ≡ o → length (filter_map (appended cube) (entry ∷ entries)) ≡ cond (is_some (appended cube entry)) (1 + length (filter_map (appended cube) entries)) (length (filter_map (appended cube) entries))
-        by None e = rw e refl
-        by (Some rows) e = rw e (omega arith)
-
-pub rows_stay : (history : List Entry) (entry : Entry) (cube v : ℕ) → v ≤ version history cube → rows_of (history ++ entry ∷ []) cube v ≡ rows_of history cube v
-rows_stay history entry cube v few =
-    ap (λ (batches : List (List Row)). flat_map (λ rows. rows) (take v batches)) (filter_map-append (appended cube) history (entry ∷ []))
-    ∙ ap (λ (batches : List (List Row)). flat_map (λ rows. rows) batches) (take-append-le v (filter_map (appended cube) history) (filter_map (appended cube) (entry ∷ [])) (omega (arith, few, version-length history cube)))
 
 -- a table over the rows of a version of its cube
 abbrev pub over_version : Catalog → List Entry → ℕ → ℕ → ℕ → Option TableOf
@@ -167,7 +140,7 @@ pub built_place : (catalog : Catalog) (history : List Entry) (i : ℕ) (table : 
 built_place catalog history i table is =
     let by_version = gone_on (λ v. option_and_then (over_version catalog history i v) (table_cube catalog i)) (last_built i history) table is in
     let by_cube = gone_on (over_version catalog history i by_version.0) (table_cube catalog i) table by_version.2 in
-    let made = mapped_there (table_over catalog i by_version.0 (rows_of history by_cube.0 by_version.0)) (declared_table catalog i) table by_cube.2 in
+    let made = mapped_from (table_over catalog i by_version.0 (rows_of history by_cube.0 by_version.0)) (declared_table catalog i) table by_cube.2 in
     ap (λ (t : TableOf). t.table) (sym made.2)
 
 -- a table that is declared and was built is one that the history has built
@@ -204,7 +177,7 @@ module _ (f : ℕ → Option TableOf) where
   back a zero i table from within is = absurd (omega (arith, from, within))
   back a (suc n) i table from within is = elim (cases_Bool (i == a)) [
     | inl same ↦
-        let place : i ≡ a = eq_of i a same in
+        let place : i ≡ a = eqb-true i a same in
         let here : f a ≡ Some table = ap f (sym place) ∙ is in
         rw here (zero, omega arith, refl)
     | inr other ↦
@@ -246,7 +219,7 @@ module _ (f : ℕ → Option TableOf) where
 pub is_declared : (catalog : Catalog) (table cube : ℕ) → table_cube catalog table ≡ Some cube → table < length catalog.schema.aggregates
 is_declared catalog table cube is =
     let found = gone_on (λ (own : SchemaAggregate). position (λ cube. bytes_eq own.cube cube.name) catalog.cubes) (slice_get catalog.schema.aggregates table) cube is in
-    get_within catalog.schema.aggregates table found.0 found.1
+    slice_get_within catalog.schema.aggregates table found.0 found.1
 
 -- the tables of a history are just those that it has built, and rise
 pub tables_are : (catalog : Catalog) (history : List Entry) → ((table : TableOf) → Contains (tables_built catalog history) table ↔ IsBuilt catalog history table) × IsTrue (rise (map (λ table. table.table) (tables_built catalog history)))

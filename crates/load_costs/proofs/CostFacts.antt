@@ -1,6 +1,6 @@
 -- What the costs of loads depend on, and their sums over entries.
 use Rattle.std.proofs.Common.{◌≡◌, ◌∙◌, ◌+◌, ℕ, zero, suc, false, List, [], ◌∷◌, ◌++◌, Option, None, Some, append_assoc, length, take, filter_map, refl, sym, ap, arith}
-use Rattle.std.specs.Prelude.{◌||◌, option_and_then, slice_get}
+use Rattle.std.specs.Prelude.{◌||◌, option_and_then}
 use Rattle.std.specs.List.{list_any, range_with_len}
 use Rattle.std.specs.Option.{option_map_or, option_or}
 use Rattle.std.proofs.Math.Seq.{take-append_seam}
@@ -9,14 +9,11 @@ use Rattle.olap_meaning.specs.declared.tables.Catalog.{Catalog}
 use Rattle.olap_meaning.specs.History.{Entry, Append, Agg, Flush, Start, Done, Drop, Evict, Answer, Saw, Load, load_at}
 use Rattle.olap_meaning.specs.Worth.{load_rows}
 use Rattle.olap_meaning.proofs.Loads.{load_start, start_load}
-use Rattle.olap_meaning.proofs.Positions.{entry-append, entry_within}
+use Rattle.olap_meaning.proofs.Positions.{entry_within, get_seam}
+use Rattle.olap_meaning.proofs.Growing.{load_stays}
 use Rattle.agg_tables.specs.Costs.{cheapest, read_cost}
 use Rattle.agg_tables.specs.Tables.{TableOf}
 use Rattle.load_costs.specs.Costs.{builds, cost, last_built, reads, seat_costs, start_cost, start_read, table_built, tables_built, version_built}
-
--- a load that was started is started at its position however a history goes on
-load_stays : (entries more : List Entry) (j : ℕ) (load : Load) → load_at entries j ≡ Some load → load_at (entries ++ more) j ≡ Some load
-load_stays entries more j load at = start_load (entries ++ more) j load (entry-append entries more j (Start load) (load_start entries j load at))
 
 -- what a load costs that was started stays as it is
 pub cost_on : (catalog : Catalog) (entries more : List Entry) (j : ℕ) (load : Load) → load_at entries j ≡ Some load → cost catalog (entries ++ more) j ≡ cost catalog entries j
@@ -26,10 +23,6 @@ cost_on catalog entries more (suc b) load at =
     ap (λ (h : List Entry). option_map_or (start_cost catalog h) (load_at (entries ++ more) (suc b)) 0) (take-append-le b entries more (omega (arith, within.1)))
     ∙ ap (λ (o : Option Load). option_map_or (start_cost catalog (take b entries)) o 0) (load_stays entries more (suc b) load at ∙ sym at)
 
-get_seam : (entries rest : List Entry) (entry : Entry) → slice_get (entries ++ entry ∷ rest) (length entries) ≡ Some entry
-get_seam [] rest entry = refl
-get_seam (e ∷ es) rest entry = get_seam es rest entry
-
 -- and what it reads
 pub reads_on : (catalog : Catalog) (entries more : List Entry) (j : ℕ) (load : Load) → load_at entries j ≡ Some load → reads catalog (entries ++ more) j ≡ reads catalog entries j
 reads_on catalog entries more zero load at = refl
@@ -38,13 +31,13 @@ reads_on catalog entries more (suc b) load at =
     ap (λ (h : List Entry). option_and_then (start_read catalog h) (load_at (entries ++ more) (suc b))) (take-append-le b entries more (omega (arith, within.1)))
     ∙ ap (λ (o : Option Load). option_and_then (start_read catalog (take b entries)) o) (load_stays entries more (suc b) load at ∙ sym at)
 
--- what a load costs is what it costs behind the entries before it
+-- what a load costs is what it costs after the entries before it
 pub cost_at : (catalog : Catalog) (entries rest : List Entry) (load : Load) → cost catalog (entries ++ Start load ∷ rest) (suc (length entries)) ≡ start_cost catalog entries load
 cost_at catalog entries rest load =
     ap (λ (h : List Entry). option_map_or (start_cost catalog h) (load_at (entries ++ Start load ∷ rest) (suc (length entries))) 0) (take-append_seam entries (Start load ∷ rest))
     ∙ ap (λ (o : Option Load). option_map_or (start_cost catalog entries) o 0) (start_load (entries ++ Start load ∷ rest) (suc (length entries)) load (get_seam entries rest (Start load)))
 
--- and it reads what it reads behind them
+-- and it reads what it reads after them
 pub reads_at : (catalog : Catalog) (entries rest : List Entry) (load : Load) → reads catalog (entries ++ Start load ∷ rest) (suc (length entries)) ≡ start_read catalog entries load
 reads_at catalog entries rest load =
     ap (λ (h : List Entry). option_and_then (start_read catalog h) (load_at (entries ++ Start load ∷ rest) (suc (length entries)))) (take-append_seam entries (Start load ∷ rest))

@@ -39,7 +39,7 @@ tables_built catalog history =
     filter_map
     (table_built catalog history) (range_with_len 0 (length catalog.schema.aggregates))
 
--- what a load reads that is started behind some entries: the cheapest of the facts of its version and the tables that these
+-- what a load reads that is started after some entries: the cheapest of the facts of its version and the tables that these
 -- entries have built
 abbrev pub start_read : Catalog → List Entry → Load → Option TableOf
 start_read catalog history load =
@@ -69,7 +69,7 @@ abbrev pub version_rows : Catalog → List Entry → ℕ → ℕ → ℕ
 version_rows catalog history table v =
     option_map_or (λ cube. length (rows_of history cube v)) (table_cube catalog table) 0
 
--- what an entry costs a seat that comes behind others: where the seat starts a load by it, what that costs; and where the
+-- what an entry costs a seat that comes after others: where the seat starts a load by it, what that costs; and where the
 -- seat builds a table by it, the rows of the table's version
 abbrev pub seat_cost : Catalog → ℕ → List Entry → Entry → ℕ
 seat_cost catalog seat before (Start load) =
@@ -78,7 +78,7 @@ seat_cost catalog seat before (Agg who table v) =
     if who.seat == seat then version_rows catalog before table v else 0
 seat_cost catalog seat before _ = 0
 
--- what some entries behind others cost a seat, each by the entries before it
+-- what some entries after others cost a seat, each by the entries before it
 abbrev pub seat_costs : Catalog → ℕ → List Entry → List Entry → ℕ
 seat_costs catalog seat before [] = 0
 seat_costs catalog seat before (entry ∷ entries) =

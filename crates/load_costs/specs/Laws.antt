@@ -12,7 +12,7 @@ use Rattle.agg_tables.specs.Costs.{read_cost}
 use Rattle.agg_tables.specs.Tables.{TableOf, built_over}
 use Rattle.load_costs.specs.Costs.{builds, cost, last_built, reads, seat_costs, start_cost, start_read, tables_built, version_built}
 
--- what a load costs and reads that was started stays as it is, whatever comes behind: a table that is built later does not
+-- what a load costs and reads that was started stays as it is, whatever comes after: a table that is built later does not
 -- change it
 abbrev pub CostsStay : Type 0
 CostsStay =
@@ -21,7 +21,7 @@ CostsStay =
     → (cost catalog (entries ++ more) j ≡ cost catalog entries j)
     × (reads catalog (entries ++ more) j ≡ reads catalog entries j)
 
--- what a load reads and costs by its position is what it reads and costs behind the entries before its Start
+-- what a load reads and costs by its position is what it reads and costs after the entries before its Start
 abbrev pub LoadsCountAtTheirStart : Type 0
 LoadsCountAtTheirStart =
     (catalog : Catalog) (before after : List Entry) (load : Load)
@@ -30,7 +30,7 @@ LoadsCountAtTheirStart =
     × (cost catalog (before ++ Start load ∷ after) (suc (length before))
     ≡ read_cost (load_rows before load) (start_read catalog before load))
 
--- what entries cost a seat is what the first cost it, and what the others cost it that come behind these
+-- what entries cost a seat is what the first cost it, and what the others cost it that come after these
 abbrev pub CostsAddUp : Type 0
 CostsAddUp =
     (catalog : Catalog) (seat : ℕ) (before first others : List Entry)
@@ -43,7 +43,7 @@ LoadsReadRows =
     (catalog : Catalog) (history : List Entry) (load : Load)
     → list_any builds history ≡ false → start_cost catalog history load ≡ load_rows history load
 
--- a table is built last by an entry behind which none builds it
+-- a table is built last by an entry after which none builds it
 abbrev pub LastBuildsCount : Type 0
 LastBuildsCount =
     (table version : ℕ) (who : Who) (before after : List Entry)

@@ -1,7 +1,7 @@
 //! Laws of what loads cost. A call of one costs nothing.
 ghost use Rattle.load_costs.specs.Laws.{CostsAddUp, CostsStay, LastBuildsCount, LoadsCountAtTheirStart, LoadsReadRows, LoadsReadTheCheapest, TablesAreThoseBuilt};
 
-/// What a load costs and reads that was started stays as it is, whatever comes behind: a table that is built later does not
+/// What a load costs and reads that was started stays as it is, whatever comes after: a table that is built later does not
 /// change it.
 pub fn costs_stay()
     ensures { CostsStay }
@@ -12,7 +12,7 @@ pub fn loads_count_at_their_start()
     ensures { LoadsCountAtTheirStart }
 {}
 
-/// What entries cost a seat is a sum over them, each behind those before it.
+/// What entries cost a seat is a sum over them, each after those before it.
 pub fn costs_add_up()
     ensures { CostsAddUp }
 {}
@@ -22,7 +22,7 @@ pub fn loads_read_rows()
     ensures { LoadsReadRows }
 {}
 
-/// A table is built last by an entry behind which none builds it.
+/// A table is built last by an entry after which none builds it.
 pub fn last_builds_count()
     ensures { LastBuildsCount }
 {}

@@ -1,6 +1,6 @@
 -- What seat 1 has done at its manager, as a desk alone.
-use Rattle.std.proofs.Common.{◌≡◌, refl, sym, ◌∙◌, ap, subst, ℕ, ◌+◌, ◌≤◌, List, [], ◌∷◌, ◌++◌, append_assoc, length, map, filter, Bool, true, false, ◌==◌, inl, inr, Some, None, Result, Ok, Err, arith, All, if◌then◌else◌}
-use Rattle.std.specs.Prelude.{OnErr, nat_lt}
+use Rattle.std.proofs.Common.{◌≡◌, refl, sym, ◌∙◌, ap, subst, ℕ, ◌+◌, ◌≤◌, List, [], ◌∷◌, ◌++◌, append_assoc, length, map, filter, Bool, true, false, ◌==◌, inl, inr, Some, None, arith, All, if◌then◌else◌}
+use Rattle.std.specs.Prelude.{nat_lt}
 use Rattle.std.specs.List.{list_all}
 use Rattle.std.proofs.lemmas.Bool.{and_from, and_parts, eq-eqb, lt-ltb, ltb-true}
 use Rattle.std.proofs.lemmas.List.{append-nil}
@@ -51,7 +51,7 @@ goes_on before after more setting entries own = record {
   own = λ _. own_entries 1 more own;
 }
 
--- a call behind entries of the seat
+-- a call after entries of the seat
 pub adds_call :
     (before after : CacheOf) (more : List Entry) (call : Entry) → after.setting ≡ before.setting → after.entries ≡ (before.entries ++ more) ++ call ∷ [] → All (λ e. is_of_seat 1 e ≡ true) more → is_of_seat 1 call ≡ true
     → AddsCall (desk_of before) (desk_of after) more call
@@ -147,7 +147,7 @@ next_after before after more seat n m grown le new next =
     ∙ list_all-append (is_call_below m) (filter (is_call_of seat) before) (filter (is_call_of seat) more)
     ∙ and_from _ _ (all_below n m (filter (is_call_of seat) before) le next) new
 
--- behind parts of loads it goes on, and behind a call of the seat
+-- after parts of loads it goes on, and after a call of the seat
 pub next_parts : (before after more : List Entry) (who : Who) (seat n m : ℕ) → after ≡ before ++ more → n ≤ m → All (IsPartOf who) more → is_next_call before (record { seat = seat; call = n }) ≡ true → is_next_call after (record { seat = seat; call = m }) ≡ true
 next_parts before after more who seat n m grown le parts next =
     next_after before after more seat n m grown le (ap (list_all (is_call_below m)) (parts_uncalled more seat (parts_all who more parts))) next
@@ -206,7 +206,7 @@ desk_refused catalog entries who last read is desk =
       count = desk.count;
     }
 
--- and behind a call of the seat which starts, ends and delivers no load
+-- and after a call of the seat which starts, ends and delivers no load
 desk_called :
     (before : CacheOf) (after : List Entry) (who : Who) (call : Entry) (last read : ℕ) → caller call ≡ Some who → started call ≡ None → cost_by before.setting.catalog after 1 call ≡ 0 → Legal before.setting before.entries → after ≡ before.entries ++ call ∷ [] → who ≡ record { seat = 1; call = last + 1 } → IsDesk before.setting.catalog before.entries last read
     → IsDesk before.setting.catalog after who.call read
@@ -315,8 +315,3 @@ has_shown before after who view seat setting grown is lines = record {
   position_is = is;
   lines = lines ∙ ap cache_lines (sym (append-nil before.entries));
 }
-
--- what holds anyway holds on an error
-pub on_error : {T E P : Type 0} (r : Result T E) → P → OnErr r P
-on_error (Ok x) holds = tt
-on_error (Err e) holds = holds

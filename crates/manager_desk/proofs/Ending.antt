@@ -1,5 +1,5 @@
 -- Jobs that are out stay so, while one after another is ended.
-use Rattle.std.proofs.Common.{◌≡◌, refl, sym, ◌∙◌, ap, ℕ, zero, suc, ◌+◌, ◌<◌, List, [], ◌∷◌, ◌++◌, append_assoc, length, map, drop, Bool, true, false, not, ◌==◌, inl, inr, None, get_or, arith, All, is_some}
+use Rattle.std.proofs.Common.{◌≡◌, refl, sym, ◌∙◌, ap, ℕ, ◌+◌, List, [], ◌∷◌, ◌++◌, append_assoc, map, Bool, true, false, not, ◌==◌, inl, inr, None, All, is_some}
 use Rattle.std.proofs.lemmas.Bool.{and_parts, both_ways, not-true, or_cases}
 use Rattle.std.proofs.lemmas.List.Elements.{All-tail}
 use Rattle.olap_meaning.specs.Covering.{among}
@@ -21,7 +21,7 @@ end_starts : (job : JobOf) (b : Bool) → started (end_of job b) ≡ None
 end_starts job true = refl
 end_starts job false = refl
 
--- the jobs behind one that was ended
+-- the jobs after one that was ended
 pub rest_out :
     (before after : CacheOf) (job : JobOf) (rest : List JobOf) (b : Bool) → after.setting ≡ before.setting → after.entries ≡ before.entries ++ end_of job b ∷ [] → Legal before.setting before.entries → All (IsJobOf before) (job ∷ rest) → apart (map (λ j. j.load) (job ∷ rest)) ≡ true → AreOut before.entries (job ∷ rest)
     → All (IsJobOf after) rest × (apart (map (λ j. j.load) rest) ≡ true) × AreOut after.entries rest
@@ -37,11 +37,6 @@ rest_out before after job rest b same grown legal all different out =
             | inr new ↦ let none : is_some (started (end_of job b)) ≡ false = ap is_some (end_starts job b) in absurd (both_ways _ none new.1)
           ],
     )
-
-pub drop_at : {A : Type 0} (xs : List A) (i : ℕ) (x : A) → i < length xs → x ≡ get_or xs i x → drop i xs ≡ x ∷ drop (i + 1) xs
-drop_at [] i x l is = absurd (omega arith)
-drop_at (y ∷ ys) zero x l is = ap (λ z. z ∷ ys) (sym is)
-drop_at (y ∷ ys) (suc i) x l is = let e : suc i + 1 ≡ suc (i + 1) = omega arith in drop_at ys i x (omega (arith, l)) is ∙ ap (λ (n : ℕ). x ∷ drop n (y ∷ ys)) (sym e)
 
 ends_push : (jobs : List JobOf) (es : List Entry) (job : JobOf) (b : Bool) → AreEndsOf jobs es → AreEndsOf (jobs ++ job ∷ []) (es ++ end_of job b ∷ [])
 ends_push [] [] job true are = (inl refl, tt)

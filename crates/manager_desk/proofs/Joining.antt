@@ -112,7 +112,7 @@ pub same_cache : (one other : CacheOf) → one.setting ≡ other.setting → one
 same_cache one other setting entries =
     ap (λ (s : Setting). record { setting = s; entries = one.entries }) setting ∙ ap (λ (es : List Entry). record { setting = other.setting; entries = es }) entries
 
--- the answer to cells behind the loads that they lack, each delivered
+-- the answer to cells after the loads that they lack, each delivered
 pub adds_answer :
     (allowing : Allowing) (before middle after : CacheOf) (who : Who) (cells : List Cell) (headers : List Header) (answer : Told) → AreHeadersOf allowing before cells headers → middle.setting ≡ before.setting → middle.entries ≡ before.entries ++ delivered_with before who cells headers → after.setting ≡ middle.setting
     → after.entries ≡ middle.entries ++ Answer who answer.sources.value ∷ [] → IsAnswer middle cells answer → AddsAnswer allowing before after who cells answer
@@ -186,7 +186,7 @@ module _ (allowing : Allowing) (before middle : CacheOf) (who : Who) (cells : Li
   pub jobs_own : All (λ job. job.who ≡ who) jobs
   jobs_own = whole_jobs.0
 
-  -- the ends of the jobs, behind the Starts
+  -- the ends of the jobs, after the Starts
   pub ended_added : (after : List Entry) (ended : EndsJobs middle.entries after jobs) → after ≡ before.entries ++ (map Start (loads_with before who cells headers) ++ ended.ends)
   ended_added after ended = ended.entries ∙ ap (λ (es : List Entry). es ++ ended.ends) look.entries ∙ append_assoc before.entries (map Start (loads_with before who cells headers)) ended.ends
 

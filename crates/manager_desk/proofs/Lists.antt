@@ -1,20 +1,10 @@
 -- Items of lists, by their places.
-use Rattle.std.proofs.Common.{◌≡◌, sym, ap, subst, ℕ, zero, suc, ◌+◌, ◌<◌, List, [], ◌∷◌, ◌++◌, length, Some, slice_get, arith, All, Contains, refl, ◌∙◌}
+use Rattle.std.proofs.Common.{◌≡◌, sym, ap, ℕ, zero, suc, ◌+◌, ◌<◌, List, [], ◌∷◌, ◌++◌, length, Some, slice_get, arith, All, refl, ◌∙◌}
 use Rattle.std.specs.Prelude.{sum_by}
 use Rattle.std.proofs.lemmas.List.Elements.{All-head, All-tail}
 use Rattle.std.proofs.lemmas.List.Sums.{sum_by-cons}
 
-pub all_at : {A : Type 0} (P : A → Type 0) (xs : List A) (i : ℕ) (x : A) → All P xs → slice_get xs i ≡ Some x → P x
-all_at P [] i x all at = absurd (cc)
-all_at P (y ∷ ys) zero x all at = let e : y ≡ x = cc in subst P e (All-head P y ys all)
-all_at P (y ∷ ys) (suc i) x all at = all_at P ys i x (All-tail P y ys all) at
-
-pub contains_at : {A : Type 0} (xs : List A) (i : ℕ) (x : A) → slice_get xs i ≡ Some x → Contains xs x
-contains_at [] i x at = absurd (cc)
-contains_at (y ∷ ys) zero x at = (0, omega arith, cc)
-contains_at (y ∷ ys) (suc i) x at = let rest = contains_at ys i x at in (suc rest.0, omega (arith, rest.1), rest.2)
-
--- an item behind some others
+-- an item after some others
 pub get_behind : {A : Type 0} (xs ys : List A) (b i : ℕ) → b ≡ length xs + i → slice_get (xs ++ ys) b ≡ slice_get ys i
 get_behind [] ys b i at = let e : b ≡ i = omega (arith, at) in ap (slice_get ys) e
 get_behind (x ∷ xs) ys zero i at = absurd (omega (arith, at))

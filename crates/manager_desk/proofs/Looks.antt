@@ -10,6 +10,7 @@ use Rattle.olap_meaning.specs.declared.cells.Who.{Who}
 use Rattle.olap_meaning.specs.History.{Entry, Load, Start, awaited_load, entry_at, load_at, started}
 use Rattle.olap_meaning.proofs.Loads.{load_start, start_load}
 use Rattle.olap_meaning.proofs.Members.{in_first, in_rest}
+use Rattle.olap_meaning.proofs.Lists.{holds_at}
 use Rattle.history_core.specs.Cache.{CacheOf}
 use Rattle.history_core.specs.Groups.{IsHeaderFor, alike, firsts, load_with, loads_with, wanted_of}
 use Rattle.segment_header.specs.Widening.{Allowing}
@@ -17,11 +18,11 @@ use Rattle.history_core.specs.Seats.{NoneFlies, actor, entries_of}
 use Rattle.cache_manager.proofs.Looking.{idle_unawaited}
 use Rattle.cache_manager.proofs.Pushes.{load_within}
 use Rattle.line_session.specs.Desks.{AreEnds, AreHeadersOf, AreLoadsFor, IsLoadOfLook, IsOfLook, MayBeStarted, is_end, is_of_load, load_numbers, none_behind_drops, unawaited, with_more}
-use Rattle.manager_desk.proofs.Lists.{all_at, get_before, get_behind}
+use Rattle.manager_desk.proofs.Lists.{get_before, get_behind}
 use Rattle.manager_desk.proofs.Own.{IsPartOf, ends_parts, ends_start_none, loads_own, own_entries, parts_all, parts_seat, starts_parts}
 
 start_back : (loads : List Load) (ends : List Entry) (i : ℕ) (load : Load) → All (λ e. started e ≡ None) ends → slice_get (map Start loads ++ ends) i ≡ Some (Start load) → slice_get loads i ≡ Some load
-start_back [] ends i load none at = let no : started (Start load) ≡ None = all_at (λ e. started e ≡ None) ends i (Start load) none at in absurd (cc)
+start_back [] ends i load none at = let no : started (Start load) ≡ None = holds_at (λ e. started e ≡ None) ends i (Start load) none at in absurd (cc)
 start_back (l ∷ ls) ends zero load none at = cc
 start_back (l ∷ ls) ends (suc i) load none at = start_back ls ends i load none at
 
@@ -37,7 +38,7 @@ all_unawaited entries (cell ∷ cells) idle =
     let none : not (is_some (awaited_load entries cell)) ≡ true = ap (λ (o : Option ℕ). not (is_some o)) (idle_unawaited entries cell idle) in
     rw none (ap (λ (cs : List Cell). cell ∷ cs) (all_unawaited entries cells idle))
 
--- behind Starts and then ends no load is started once one was given up
+-- after Starts and then ends no load is started once one was given up
 ends_all : (who : Who) (js : List ℕ) (es : List Entry) → AreEnds who js es → list_all is_end es ≡ true
 ends_all who [] [] are = refl
 ends_all who [] (e ∷ es) are = absurd are
@@ -99,10 +100,10 @@ module _ (allowing : Allowing) (before : CacheOf) (who : Who) (cells : List Cell
       get_behind before.entries (map Start (loads_with before who cells headers) ++ ends) c (c - length before.entries) pos ∙ start_on (loads_with before who cells headers) ends (c - length before.entries) other.0 other.1 in (
         other.0,
         start_load (before.entries ++ (map Start (loads_with before who cells headers) ++ ends)) (suc c) other.0 entry,
-        all_at (λ (l : Load). l.who ≡ who) (loads_with before who cells headers) (c - length before.entries) other.0 (loads_own before who cells headers) other.1,
+        holds_at (λ (l : Load). l.who ≡ who) (loads_with before who cells headers) (c - length before.entries) other.0 (loads_own before who cells headers) other.1,
       )
 
-  -- each Start is one of the look behind what there was
+  -- each Start is one of the look after what there was
   is_of_look : (p : ℕ) (load : Load) → NoneFlies before.entries → All (λ e. started e ≡ None) ends → length before.entries < p → load_at (before.entries ++ (map Start (loads_with before who cells headers) ++ ends)) p ≡ Some load
       → IsOfLook allowing (with_more before (map Start (loads_with before who cells headers) ++ ends)) (length before.entries) who cells p load
   is_of_look zero load idle none late at = absurd (omega (arith, late))

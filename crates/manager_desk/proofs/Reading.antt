@@ -1,5 +1,5 @@
 -- What the jobs of a look cost is what its loads cost, and each job is of its call.
-use Rattle.std.proofs.Common.{◌≡◌, refl, sym, ◌∙◌, ap, subst, ℕ, suc, ◌+◌, ◌==◌, List, [], ◌∷◌, ◌++◌, append_assoc, length, map, Bool, true, Some, slice_get, arith, All}
+use Rattle.std.proofs.Common.{◌≡◌, refl, sym, ◌∙◌, ap, subst, ℕ, suc, ◌+◌, ◌==◌, List, [], ◌∷◌, ◌++◌, append_assoc, length, map, Bool, true, Some, arith, All}
 use Rattle.std.specs.Prelude.{sum_by, if◌then◌else◌}
 use Rattle.std.proofs.lemmas.Bool.{eq-eqb}
 use Rattle.std.proofs.lemmas.List.{length-append}
@@ -10,16 +10,13 @@ use Rattle.olap_meaning.specs.declared.tables.Catalog.{Catalog}
 use Rattle.olap_meaning.specs.declared.tables.Setting.{Setting}
 use Rattle.olap_meaning.specs.History.{Entry, Start, Load, load_at}
 use Rattle.olap_meaning.proofs.Loads.{start_load}
+use Rattle.olap_meaning.proofs.Positions.{get_seam}
 use Rattle.segment_load.specs.Loads.{JobOf, job_cost}
 use Rattle.load_costs.specs.Costs.{cost, seat_cost, seat_costs, start_cost}
 use Rattle.load_costs.proofs.CostFacts.{cost_at}
 use Rattle.history_core.specs.Groups.{numbers_from}
 use Rattle.cache_manager.specs.Jobs.{IsJobOf}
 use Rattle.manager_desk.specs.Ends.{done_of}
-
-get_seam : (entries rest : List Entry) (entry : Entry) → slice_get (entries ++ entry ∷ rest) (length entries) ≡ Some entry
-get_seam [] rest entry = refl
-get_seam (e ∷ es) rest entry = get_seam es rest entry
 
 -- a job of the number of a Start is that of its load
 job_load : (setting : Setting) (entries : List Entry) (load : Load) (rest : List Entry) (job : JobOf) (is : IsJobOf (record { setting = setting; entries = entries ++ Start load ∷ rest }) job) → job.load ≡ length entries + 1 → is.load ≡ load

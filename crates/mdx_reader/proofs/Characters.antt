@@ -1,18 +1,11 @@
 -- A character in a name.
-use Rattle.std.proofs.Common.{◌≡◌, ◌≢◌, ℕ, suc, ◌<◌, ◌≤◌, List, [], ◌∷◌, inl, inr, refl, sym, ap, subst, ◌∙◌, arith, length, get_or}
+use Rattle.std.proofs.Common.{◌≡◌, ◌≢◌, ℕ, suc, ◌<◌, List, [], ◌∷◌, inl, inr, refl, sym, ap, subst, ◌∙◌, arith, length, get_or}
 use Rattle.std.specs.Prelude.{encode_utf8}
 use Rattle.std.proofs.lemmas.Bool.{cases_lt}
-use Rattle.std.proofs.lemmas.List.{append-nil}
-use Rattle.std.proofs.lemmas.Str.{encode_ascii, inside_one}
+use Rattle.std.proofs.lemmas.Str.{encode_ascii}
+use Rattle.olap_meaning.proofs.Characters.{high_bytes}
 use Rattle.query_meaning.specs.Tokens.{escaped}
-use Rattle.text_forms.proofs.Names.{escaped_other}
-
--- a character beyond ASCII has only bytes beyond ASCII
-pub high_bytes : (c : ℕ) → 128 ≤ c → (k : ℕ) → k < length (encode_utf8 c) → 128 ≤ get_or (encode_utf8 c) k 0
-high_bytes c h k lt = elim (cases_lt (get_or (encode_utf8 c) k 0) 128) [
-  | inl low ↦ (let e = inside_one c [] (encode_utf8 c) k (sym (append-nil (encode_utf8 c))) lt low in absurd (omega arith))
-  | inr high ↦ high
-]
+use Rattle.text_forms.specs.NameFacts.{escaped_other}
 
 -- a text without "]" stands in a name as it is
 pub escaped_none : (bytes : List ℕ) → ((k : ℕ) → k < length bytes → get_or bytes k 0 ≢ 93) → escaped bytes ≡ bytes

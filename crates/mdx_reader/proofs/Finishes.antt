@@ -122,7 +122,7 @@ cube_alone base q (path ∷ paths) f g = absurd g
 cube_finishes : (base : Base) → Finishes (rest_of (place.AfterCube base)) (Some (sliced base []))
 cube_finishes base = (record { slicer = []; same = refl; goes = refl }, (λ q h. cube_alone base q h.slicer h.same h.goes))
 
--- the whole behind the slicer's path
+-- the whole after the slicer's path
 path_alone : (base : Base) (path : List (List ℕ)) (q : Query) (names : List (List ℕ)) → q ≡ sliced base ((path ++ names) ∷ []) → Dots names End [] → q ≡ sliced base (path ∷ [])
 path_alone base path q [] f g = f ∙ ap (λ x. sliced base (x ∷ [])) (append-nil path)
 path_alone base path q (name ∷ names) f g = absurd g

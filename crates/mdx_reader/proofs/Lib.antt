@@ -1,5 +1,4 @@
 pub mod Characters
-pub mod Answering
 pub mod Wants
 pub mod Finishes
 pub mod WholeQueries

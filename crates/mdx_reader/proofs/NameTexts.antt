@@ -9,7 +9,7 @@ use Rattle.std.proofs.lemmas.List.{append-nil, length-drop, take_all}
 use Rattle.std.proofs.lemmas.Str.{IsUtf8-drop, IsUtf8-append, IsUtf8-from_ascii, encode_ascii, len_utf8_ascii, len_utf8_bounds}
 use Rattle.std.proofs.lemmas.Str.Ascii.{IsAscii-cons, IsAscii-nil}
 use Rattle.query_meaning.specs.Tokens.{escaped, bracketed}
-use Rattle.text_forms.proofs.Names.{escaped_other, escaped_close}
+use Rattle.text_forms.specs.NameFacts.{escaped_other, escaped_close}
 use Rattle.mdx_reader.specs.PathTexts.{BeginsName}
 use Rattle.mdx_reader.specs.PathSteps.{IsByteAt, BeginsOtherwise, IsCharAt, IsNameAt, NameStops}
 use Rattle.mdx_reader.proofs.Characters.{escaped_character}
@@ -51,7 +51,7 @@ no_end c more x y h e = elim (cases_eq c 93) [
   | inr other ↦ (let k = escaped_other c more other in other (h c (escaped more ++ y) cc).0)
 ]
 
--- the same characters of a name, and the same behind them
+-- the same characters of a name, and the same after them
 name_same : (a b x y : List ℕ) → Ends x → Ends y → escaped a ++ x ≡ escaped b ++ y → (a ≡ b) × (x ≡ y)
 name_same [] [] x y m n e = (refl, e)
 name_same [] (d ∷ b) x y m n e = absurd (no_end d b x y m e)

@@ -30,7 +30,7 @@ path_shorter : {path : List (List ℕ)} {text rest : List ℕ} → BeginsPath pa
 path_shorter (one n) = name_shorter n
 path_shorter (more behind next n d h) = omega (arith, name_shorter n, dot_shorter d, path_shorter h)
 
--- the text behind a dot with which a name begins is one
+-- the text after a dot with which a name begins is one
 next_same : (text next other name rest : List ℕ) → BeginsDot text next → BeginsDot text other → BeginsNoWhite next → BeginsName name other rest → next ≡ other
 next_same text next other name rest d e w n = dot_same text next other w (open_no_white other _ (opened n)) d e
 

@@ -9,7 +9,7 @@ use Rattle.mdx_reader.specs.PathSteps.{IsByteAt, IsCharAt}
 pub byte_is : (text : List ℕ) (at byte : ℕ) → IsByteAt text at byte → get_or text at 0 ≡ byte
 byte_is text at byte h = let k = drop_more text at 0 h.within in let e = h.parts in cc
 
--- a text may be cut behind a byte of ASCII
+-- a text may be cut after a byte of ASCII
 pub behind_byte : (text : List ℕ) (at byte : ℕ) → IsUtf8 text → byte < 128 → IsByteAt text at byte → IsCharBoundary text (at + 1)
 behind_byte text at byte u low h = IsCharBoundary-after_ascii text at u h.within (omega (arith, byte_is text at byte h))
 

@@ -3,7 +3,7 @@ use Rattle.std.proofs.Common.{◌≡◌, ◌≢◌, ◌⊎◌, ◌++◌, ◌<◌
 use Rattle.query_meaning.specs.declared.token.Token.{Token}
 use Rattle.query_meaning.specs.declared.token.Token.TheVariants.{Word, Sign, Name}
 use Rattle.query_meaning.specs.Tokens.{Placed, At}
-use Rattle.tokens.specs.Grammars.{Took}
+use Rattle.text_forms.specs.Grammars.{Took}
 use Rattle.query_meaning.specs.declared.query.AxisText.{AxisText}
 use Rattle.query_meaning.specs.declared.query.Query.{Query}
 use Rattle.query_meaning.specs.declared.keyword.Keyword.{Keyword}
@@ -21,10 +21,10 @@ use Rattle.mdx_reader.specs.declared.place.Place.TheVariants as place
 use Rattle.query_meaning.specs.Keywords.{keyword_text}
 use Rattle.query_meaning.specs.Tree.{Set, Braces, none, more}
 use Rattle.mdx_reader.specs.Places.{rest_of}
-use Rattle.tokens.specs.Kinds.{same_word, sign_no_word, sign_no_name, word_no_name}
+use Rattle.text_forms.specs.Kinds.{same_word, sign_no_word, sign_no_name, word_no_name}
 use Rattle.std.proofs.Common.{MatchBool, ◌≤◌}
-use Rattle.tokens.specs.Grammars.{Completes, WantsWord, WantsName}
-use Rattle.tokens.specs.Words.{Begins}
+use Rattle.text_forms.specs.Grammars.{Completes, WantsWord, WantsName}
+use Rattle.text_forms.specs.Words.{Begins}
 use Rattle.mdx_reader.specs.Begins.{Follows, no_set, no_set_word}
 use Rattle.mdx_reader.specs.SetMoves as sets
 use Rattle.mdx_reader.specs.PathMoves as paths
@@ -165,7 +165,7 @@ item_no_word : (head : Head) (around : List Frame) (from left : ℕ) (front : Li
 item_no_word head around from zero front lt = no_word (rest_of (place.AnItem head around from zero)) front (λ at u. sets.item_refused head around from at (Word u) (λ e. sign_no_word _ _ (sym e)))
 item_no_word head around from (suc less) front lt = no_word (rest_of (place.AnItem head around from (suc less))) front (λ at u. sets.item_as_set head around from less at (Word u) None (λ e. sign_no_word _ _ (sym e)) (sets.set_refused head (frame.Braces from less none ∷ around) less at (Word u) (no_set_word less u (λ l. absurd (omega (arith, lt, l))))))
 
--- words behind a set, and behind a path that may be one
+-- words after a set, and after a path that may be one
 after_words : (head : Head) (around : List Frame) (set : Set) (front : List ℕ) (r : Bool) → around ≡ [] → WordBegins front keyword.On r → WantsWord (rest_of (place.AfterSet head around set)) front r
 after_words head [] set front r e b = one_word (rest_of (place.AfterSet head [] set)) front keyword.On r b _ (ends.closes head [] set) (λ at k n m o. sets.after_refused head [] set at k n)
 after_words head (f ∷ around) set front r e b = absurd cc
@@ -178,7 +178,7 @@ alone_words : (head : Head) (around : List Frame) (from : ℕ) (path : List (Lis
 alone_words head [] from path front r e b = one_word (rest_of (place.AfterName (path_of.Alone head [] from) path)) front keyword.On r b _ (ends.path_closes (path_of.Alone head [] from) path) (λ at k n m o. paths.dots_refused (path_of.Alone head [] from) path at k (o 46) n)
 alone_words head (f ∷ around) from path front r e b = absurd cc
 
--- no word stands behind a name
+-- no word stands after a name
 names_no_word : (of : PathOf) (path : List (List ℕ)) (front : List ℕ) → ((u : List ℕ) → ¬ paths.Ends of (Word u)) → WantsWord (rest_of (place.AfterName of path)) front false
 names_no_word of path front n = no_word (rest_of (place.AfterName of path)) front (λ at u. paths.dots_refused of path at (Word u) (λ e. sign_no_word _ _ (sym e)) (n u))
 
@@ -190,7 +190,7 @@ two_signs : (c d : ℕ) (u : List ℕ) → ¬ ((Word u ≡ Sign c) ⊎ (Word u �
 two_signs c d u (inl e) = sign_no_word _ _ (sym e)
 two_signs c d u (inr e) = sign_no_word _ _ (sym e)
 
--- words behind a dot
+-- words after a dot
 no_end : (of : PathOf) (k : Token) → k ≢ key keyword.Members → k ≢ key keyword.Children → ((n : List ℕ) → k ≢ Name n) → ¬ paths.BeginsEnd of k
 no_end of k n m o (paths.a_name x e) = o x e
 no_end of k n m o (paths.a_word head around from w e (inl f) g) = n (g ∙ ap (λ x. Word (keyword_text x)) f)
@@ -199,7 +199,7 @@ no_end of k n m o (paths.a_word head around from w e (inr f) g) = m (g ∙ ap (�
 dot_words : (head : Head) (around : List Frame) (from : ℕ) (path : List (List ℕ)) (front : List ℕ) (r : Bool) → EitherBegins front keyword.Members keyword.Children r → WantsWord (rest_of (place.AfterDot (path_of.Alone head around from) path)) front r
 dot_words head around from path front r b = two_words (rest_of (place.AfterDot (path_of.Alone head around from) path)) front keyword.Members keyword.Children r b _ _ (ends.members_go head around from path) (ends.children_go head around from path) (λ at k n m o i. paths.end_refused (path_of.Alone head around from) path at k (no_end (path_of.Alone head around from) k n m o))
 
--- words behind ON
+-- words after ON
 on_words : (w : Which) (axis : AxisText) (front : List ℕ) (r : Bool) → EitherBegins front (is_first w) (is_second w) r → WantsWord (rest_of (place.On w axis)) front r
 on_words w axis front r b = two_words (rest_of (place.On w axis)) front (is_first w) (is_second w) r b _ _ (ends.on_first w axis) (ends.on_second w axis) (λ at k n m o i. axes.on_refused w axis at k n m)
 

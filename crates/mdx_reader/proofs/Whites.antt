@@ -47,7 +47,7 @@ white_same [] (c ∷ b) x y p q m n e = (let k = first_white c b q in let j = m 
 white_same (c ∷ a) [] x y p q m n e = (let k = first_white c a p in let j = n c (a ++ x) (sym e) in cc)
 white_same (c ∷ a) (d ∷ b) x y p q m n e = white_same a b x y (other_white c a p) (other_white d b q) m n cc
 
--- a dot, and what is before and behind it
+-- a dot, and what is before and after it
 dotted : {text rest : List ℕ} (h : BeginsDot text rest) → text ≡ h.before ++ 46 ∷ (h.behind ++ rest)
 dotted {text} {rest} h = h.parts ∙ append_assoc h.before (46 ∷ h.behind) rest
 

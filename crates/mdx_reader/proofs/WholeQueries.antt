@@ -1,7 +1,7 @@
 -- A text that the reader's start takes writes a query, and the other way round.
 use Rattle.std.proofs.Common.{ℕ, List}
 use Rattle.text_forms.specs.Forms.{Writes, StopsAt}
-use Rattle.tokens.specs.Modes.{Reads}
+use Rattle.text_forms.specs.Modes.{Reads}
 use Rattle.query_meaning.specs.declared.query.Query.{Query}
 use Rattle.query_meaning.specs.WholeQueries.{WritesQuery}
 use Rattle.mdx_reader.specs.declared.place.Place.TheVariants.{Start}

@@ -4,7 +4,7 @@ use Rattle.query_meaning.specs.declared.token.Token.{Token}
 use Rattle.query_meaning.specs.declared.token.Token.TheVariants.{Word, Sign, Name}
 use Rattle.query_meaning.specs.Tokens.{Placed, At}
 use Rattle.query_meaning.specs.Next.{Tokens}
-use Rattle.tokens.specs.Grammars.{Took}
+use Rattle.text_forms.specs.Grammars.{Took}
 use Rattle.query_meaning.specs.declared.query.AxisText.{AxisText}
 use Rattle.query_meaning.specs.declared.query.Query.{Query}
 use Rattle.query_meaning.specs.declared.keyword.Keyword.{Keyword}
@@ -20,7 +20,7 @@ use Rattle.query_meaning.specs.Keywords.{keyword_text}
 use Rattle.query_meaning.specs.Tree.{Set}
 use Rattle.query_meaning.specs.Grammar.{Key, IsSet, IsAxis, NonEmpty, Either, IsSlicer, IsFrom, AreRows, IsQuery}
 use Rattle.mdx_reader.specs.Places.{Tail, query_of, BehindOn, axis_of, AnAxis, Emptied, ASet, sliced, Names, PathNext, DotsNext, FromNext, SlicerNext, Slicing, rest_of}
-use Rattle.tokens.specs.Kinds.{same_keyword, sign_no_word, sign_no_name, same_name}
+use Rattle.text_forms.specs.Kinds.{same_keyword, sign_no_word, sign_no_name, same_name}
 use Rattle.mdx_reader.specs.Tellings.{took_alike}
 use Rattle.mdx_reader.specs.Begins.{BeginsSet, set_begins, no_set_word}
 
@@ -70,7 +70,7 @@ empty_taken w at = λ ts q. (
 pub non_refused : (w : Which) (at : ℕ) (k : Token) → k ≢ Word (keyword_text keyword.Empty) → Took rest_of (rest_of (place.Non w)) (At at k) None
 non_refused w at k n = λ ts q h. n h.goes.1.0
 
--- behind ON
+-- after ON
 either : (j k : Keyword) (Then : Tokens) (at : ℕ) (t : Token) (ts : List Placed) → Either j k Then (At at t ∷ ts) → Then ts
 either j k Then at t ts (inl h) = h.1
 either j k Then at t ts (inr h) = h.1
@@ -116,7 +116,7 @@ on_begins (which.Rows columns) tail at k ts (inr h) = inr h.0
 pub on_refused : (w : Which) (axis : AxisText) (at : ℕ) (k : Token) → k ≢ Word (keyword_text (is_first w)) → k ≢ Word (keyword_text (is_second w)) → Took rest_of (rest_of (place.On w axis)) (At at k) None
 on_refused w axis at k n m = λ ts q h. elim (on_begins w h.tail at k ts h.goes) [ inl e ↦ n e | inr e ↦ m e ]
 
--- behind the columns
+-- after the columns
 rows_down : (columns : AxisText) (at : ℕ) (q : Query) (ts : List Placed) (rows : Option AxisText) (cube : List ℕ) (slicer : List (List (List ℕ))) → q ≡ query_of which.Columns (rows, cube, slicer) columns → AreRows rows (IsFrom cube slicer) (At at (Sign 44) ∷ ts) → AnAxis (which.Rows columns) q IsAxis ts
 rows_down columns at q ts None cube slicer f h = absurd (sign_no_word _ _ h.0)
 rows_down columns at q ts (Some axis) cube slicer f h = record { tail = (cube, slicer); axis = axis; same = f; goes = h.1 }
@@ -144,7 +144,7 @@ rows_begin (Some axis) Then at k ts h = inl h.0
 pub columns_refused : (columns : AxisText) (at : ℕ) (k : Token) → k ≢ Sign 44 → k ≢ Word (keyword_text keyword.From) → Took rest_of (rest_of (place.AfterColumns columns)) (At at k) None
 columns_refused columns at k n m = λ ts q h. elim (rows_begin h.tail.0 (IsFrom h.tail.1 h.tail.2) at k ts h.goes) [ inl e ↦ n e | inr e ↦ m e ]
 
--- behind the rows
+-- after the rows
 pub rows_from : (columns rows : AxisText) (at : ℕ) → Took rest_of (rest_of (place.AfterRows columns rows)) (At at (Word (keyword_text keyword.From))) (Some (place.ACube columns (Some rows)))
 rows_from columns rows at = λ ts q. (
   (λ h. record { cube = h.cube; slicer = h.slicer; same = h.same; goes = h.goes.1 }),

@@ -12,7 +12,7 @@ use Rattle.query_meaning.specs.Keywords.{keyword_text}
 use Rattle.query_meaning.specs.Tree.{Set, Braces, Cross, Tuple, Picked, none, more}
 use Rattle.query_meaning.specs.Grammar.{IsSet}
 use Rattle.mdx_reader.specs.Places.{Fill, After}
-use Rattle.tokens.specs.Kinds.{same_word, same_sign, sign_no_word, sign_no_name, word_no_name}
+use Rattle.text_forms.specs.Kinds.{same_word, same_sign, sign_no_word, sign_no_name, word_no_name}
 
 pub data BeginsSet (left : ℕ) (k : Token) : Type 0 where
   brace : k ≡ Sign 123 → BeginsSet left k
@@ -47,7 +47,7 @@ no_set_sign left c a b = no_set left (Sign c) (λ e. a (same_sign _ _ e)) (λ e.
 pub no_set_word : (left : ℕ) (u : List ℕ) → (0 < left → u ≢ keyword_text keyword.Crossjoin) → ¬ BeginsSet left (Word u)
 no_set_word left u n = no_set left (Word u) (λ e. sign_no_word _ _ (sym e)) (λ e. sign_no_word _ _ (sym e)) (λ lt e. n lt (same_word _ _ e)) (λ m. word_no_name _ _)
 
--- what may stand behind a set
+-- what may stand after a set
 abbrev pub Follows : List Frame → Token → Type 0
 Follows [] k = k ≡ Word (keyword_text keyword.On)
 Follows (frame.Braces at left front ∷ around) k = (k ≡ Sign 44) ⊎ (k ≡ Sign 125)
@@ -61,7 +61,7 @@ after_begins w (frame.Braces place left front ∷ around) (more set sets, fill) 
 after_begins w (frame.First place left ∷ around) fill at k ts h = h.0
 after_begins w (frame.Second place first ∷ around) fill at k ts h = h.0
 
--- no dot stands behind a set
+-- no dot stands after a set
 pub no_dot : (around : List Frame) → ¬ Follows around (Sign 46)
 no_dot [] h = sign_no_word _ _ h
 no_dot (frame.Braces place left front ∷ around) (inl e) = absurd (let n = same_sign _ _ e in omega arith)

@@ -4,7 +4,7 @@ use Rattle.std.proofs.lemmas.List.{append-nil}
 use Rattle.query_meaning.specs.declared.token.Token.{Token}
 use Rattle.query_meaning.specs.declared.token.Token.TheVariants.{Word, Sign, Name}
 use Rattle.query_meaning.specs.Tokens.{Placed, At}
-use Rattle.tokens.specs.Grammars.{Took}
+use Rattle.text_forms.specs.Grammars.{Took}
 use Rattle.query_meaning.specs.declared.set_text.Picks.TheVariants as picks
 use Rattle.query_meaning.specs.declared.query.AxisText.{AxisText}
 use Rattle.query_meaning.specs.declared.query.Query.{Query}
@@ -23,8 +23,8 @@ use Rattle.mdx_reader.specs.declared.place.Place.TheVariants as place
 use Rattle.query_meaning.specs.Keywords.{keyword_text}
 use Rattle.query_meaning.specs.Tree.{Set, Braces, Cross, Tuple, Picked, none, pushed}
 use Rattle.mdx_reader.specs.Places.{axis_of, whole, sliced, rest_of}
-use Rattle.tokens.specs.Grammars.{kinds, IsKind, Completes, IsViable}
-use Rattle.tokens.specs.Kinds.{signs, keyword_letters, x, x_kind}
+use Rattle.text_forms.specs.Grammars.{kinds, IsKind, Completes, IsViable}
+use Rattle.text_forms.specs.Kinds.{signs, keyword_letters, x, x_kind}
 use Rattle.mdx_reader.specs.Places.{stands}
 use Rattle.mdx_reader.specs.SetMoves as sets
 use Rattle.mdx_reader.specs.PathMoves as paths
@@ -85,7 +85,7 @@ on_first w axis = via (rest_of (place.On w axis)) (key (is_first w)) from_cube (
 pub on_second : (w : Which) (axis : AxisText) → Completes (rest_of (place.On w axis)) (key (is_second w) ∷ from_cube)
 on_second w axis = via (rest_of (place.On w axis)) (key (is_second w)) from_cube (λ at. after_on w axis) (keyword_letters (is_second w)) (axes.second_on w axis) (λ at. after_on_closes w axis)
 
--- behind a set
+-- after a set
 abbrev pub close : Which → List Frame → List Token
 close w [] = key keyword.On ∷ key (is_first w) ∷ from_cube
 close w (frame.Braces from left front ∷ around) = Sign 125 ∷ close w around
@@ -121,7 +121,7 @@ crossing_closes head around from (suc less) lt = via (rest_of (place.Crossing he
 pub cross_goes : (head : Head) (around : List Frame) (left : ℕ) → 0 < left → Completes (rest_of (place.ASet head around left)) (key keyword.Crossjoin ∷ close_crossing head.which around)
 cross_goes head around left lt = via (rest_of (place.ASet head around left)) (key keyword.Crossjoin) (close_crossing head.which around) (λ at. place.Crossing head around at left) (keyword_letters keyword.Crossjoin) (sets.cross_taken head around left) (λ at. crossing_closes head around at left lt)
 
--- behind a name
+-- after a name
 abbrev pub close_path : PathOf → List Token
 close_path (path_of.Alone head around from) = close head.which around
 close_path (path_of.InTuple head around from front) = Sign 41 ∷ close head.which around

@@ -5,7 +5,7 @@ use Rattle.query_meaning.specs.declared.token.Token.{Token}
 use Rattle.query_meaning.specs.declared.token.Token.TheVariants.{Word, Sign, Name}
 use Rattle.query_meaning.specs.Tokens.{Placed, At}
 use Rattle.query_meaning.specs.Next.{Tokens, End}
-use Rattle.tokens.specs.Grammars.{Took}
+use Rattle.text_forms.specs.Grammars.{Took}
 use Rattle.query_meaning.specs.declared.set_text.Picks.{Picks}
 use Rattle.query_meaning.specs.declared.set_text.Picks.TheVariants as picks
 use Rattle.query_meaning.specs.declared.query.Query.{Query}
@@ -22,7 +22,7 @@ use Rattle.query_meaning.specs.Keywords.{keyword_text}
 use Rattle.query_meaning.specs.Tree.{Tuple, Picked}
 use Rattle.query_meaning.specs.Grammar.{Dots, Path, MorePaths, Suffix}
 use Rattle.mdx_reader.specs.Places.{Fill, whole, After, Done, Other, sliced, query_by, BehindPath, BehindDot, Names, DotsNext, NameNext, rest_of}
-use Rattle.tokens.specs.Kinds.{keywords, same_sign, word_no_name, same_name}
+use Rattle.text_forms.specs.Kinds.{keywords, same_sign, word_no_name, same_name}
 use Rattle.mdx_reader.specs.Tellings.{took_alike}
 use Rattle.mdx_reader.specs.Begins.{Follows, after_begins, no_dot}
 
@@ -77,7 +77,7 @@ dot_taken of front at = λ ts q. (
   (λ h. dot_up of front at q h.other ts h.names h.same h.goes),
 )
 
--- a name behind a dot
+-- a name after a dot
 no_name_ends : (of : PathOf) (other : Other of) (at : ℕ) (name : List ℕ) (ts : List Placed) → ¬ BehindDot of other (At at (Name name) ∷ ts)
 no_name_ends (path_of.Alone head around from) (picks.Itself, fill) at name ts h = h
 no_name_ends (path_of.Alone head around from) (picks.Members, fill) at name ts h = word_no_name _ _ (sym h.0)
@@ -121,7 +121,7 @@ children_taken head around from path at = λ ts q. (
   (λ h. record { other = (picks.Children, h.fill); names = []; same = h.same ∙ ap (λ x. whole head.which head.non_empty around h.fill (Picked from x picks.Children)) (sym (append-nil path)); goes = (refl, h.goes) }),
 )
 
--- what may stand behind a dot
+-- what may stand after a dot
 pub data BeginsEnd (of : PathOf) (k : Token) : Type 0 where
   a_name : (n : List ℕ) → k ≡ Name n → BeginsEnd of k
   a_word : (head : Head) (around : List Frame) (from : ℕ) (w : Keyword) → of ≡ path_of.Alone head around from → (w ≡ keyword.Members) ⊎ (w ≡ keyword.Children) → k ≡ Word (keyword_text w) → BeginsEnd of k
@@ -210,7 +210,7 @@ slicer_follows base front path at = λ ts q. (
   (λ h. record { other = h.names ∷ h.other; names = []; same = h.same ∙ ap (λ x. sliced base x) (append_assoc front (path ∷ []) (h.names ∷ h.other)) ∙ ap (λ x. sliced base (front ++ x ∷ h.names ∷ h.other)) (sym (append-nil path)); goes = (refl, h.goes) }),
 )
 
--- what may stand behind a name, besides a dot
+-- what may stand after a name, besides a dot
 abbrev pub Ends : PathOf → Token → Type 0
 Ends (path_of.Alone head around from) k = Follows around k
 Ends (path_of.InTuple head around from front) k = (k ≡ Sign 44) ⊎ (k ≡ Sign 41)

@@ -39,12 +39,12 @@ pub record IsWhiteTo (text : List ℕ) (from place : ℕ) : Type 0 where
   pub all_white : list_all is_white white ≡ true
   pub parts : drop from text ≡ white ++ drop place text
 
--- all the white at the byte `from`, and the byte behind it
+-- all the white at the byte `from`, and the byte after it
 pub record IsBehindWhite (text : List ℕ) (from place : ℕ) : Type 0 where
   pub white : IsWhiteTo text from place
   pub ends : BeginsNoWhite (drop place text)
 
--- a dot at the byte `from` with all the white around it, and the byte behind them
+-- a dot at the byte `from` with all the white around it, and the byte after them
 pub record IsBehindDot (text : List ℕ) (from place : ℕ) : Type 0 where
   pub forward : from < place
   pub boundary : IsCharBoundary text place
@@ -55,7 +55,7 @@ pub record IsBehindDot (text : List ℕ) (from place : ℕ) : Type 0 where
 abbrev pub BeginsNoDot : List ℕ → Type 0
 BeginsNoDot text = (rest : List ℕ) → ¬ BeginsDot text rest
 
--- a name at the byte `from`, and the byte behind it
+-- a name at the byte `from`, and the byte after it
 pub record IsNameAt (text : List ℕ) (from : ℕ) (name : List ℕ) (place : ℕ) : Type 0 where
   pub forward : from < place
   pub boundary : IsCharBoundary text place
@@ -77,7 +77,7 @@ abbrev pub ReadsName : List ℕ → ℕ → Found → Type 0
 ReadsName text from (Name name place) = IsNameAt text from name place
 ReadsName text from (Stops byte) = NameStops text from byte
 
--- a dot with white around it and a name at the byte `from`, and the byte behind them
+-- a dot with white around it and a name at the byte `from`, and the byte after them
 pub record IsNextAt (text : List ℕ) (from : ℕ) (name : List ℕ) (place : ℕ) : Type 0 where
   pub forward : from < place
   pub boundary : IsCharBoundary text place

@@ -13,7 +13,7 @@ pub record BeginsName (name text rest : List ℕ) : Type 0 where
   pub parts : text ≡ bracketed name ++ rest
   pub ends : (others : List ℕ) → rest ≢ 93 ∷ others
 
--- the text begins with a dot, with white before and behind it, and `rest` follows
+-- the text begins with a dot, with white before and after it, and `rest` follows
 pub record BeginsDot (text rest : List ℕ) : Type 0 where
   pub before : List ℕ
   pub behind : List ℕ
@@ -30,7 +30,7 @@ pub data BeginsPath : List (List ℕ) → List ℕ → List ℕ → Type 0 where
       → BeginsName name text behind → BeginsDot behind next → BeginsPath names next rest
       → BeginsPath (name ∷ names) text rest
 
--- the longest path that begins at the byte `from`, and the byte behind it, where the text may be cut
+-- the longest path that begins at the byte `from`, and the byte after it, where the text may be cut
 pub record IsPathAt (text : List ℕ) (from : ℕ) (path : List (List ℕ)) (place : ℕ) : Type 0 where
   pub forward : from < place
   pub boundary : IsCharBoundary text place
@@ -49,7 +49,7 @@ pub record PathStops (text : List ℕ) (from byte : ℕ) : Type 0 where
   pub no_further : byte < length text → (more : List ℕ) (path : List (List ℕ)) (rest : List ℕ)
       → ¬ BeginsPath path (take (suc byte - from) (drop from text) ++ more) rest
 
--- the longest path and the byte behind it; or the byte at which its first name stops; or a want of memory
+-- the longest path and the byte after it; or the byte at which its first name stops; or a want of memory
 abbrev pub ReadsPath : List ℕ → ℕ → Result (List (List ℕ) × ℕ) PathFault → Type 0
 ReadsPath text from (Ok found) = IsPathAt text from found.0 found.1
 ReadsPath text from (Err (Stop byte)) = PathStops text from byte

@@ -21,7 +21,7 @@ use Rattle.mdx_reader.specs.declared.place.Place.TheVariants as place
 use Rattle.query_meaning.specs.Tree.{Set, Sets, Braces, Cross, Tuple, Picked, more, before}
 use Rattle.query_meaning.specs.Grammar.{Key, Dots, Path, MorePaths, Suffix, IsSet, Items, MoreSets, IsAxis, Either, Slices, IsSlicer, IsFrom, AreRows, IsQuery}
 
--- what is still to come behind an axis: the rows behind the columns, the cube and the slicer
+-- what is still to come after an axis: the rows after the columns, the cube and the slicer
 abbrev pub Tail : Which → Type 0
 Tail which.Columns = Option AxisText × List ℕ × List (List (List ℕ))
 Tail (which.Rows columns) = List ℕ × List (List (List ℕ))
@@ -33,7 +33,7 @@ query_of which.Columns tail axis =
 query_of (which.Rows columns) tail axis =
     record { columns = columns; rows = Some axis; cube = tail.0; slicer = tail.1 }
 
--- the tokens behind an axis and ON
+-- the tokens after an axis and ON
 abbrev pub BehindOn : (w : Which) → Tail w → Tokens
 BehindOn which.Columns tail ts =
     Either keyword.Columns keyword.Zero (AreRows tail.0 (IsFrom tail.1 tail.2)) ts
@@ -52,13 +52,13 @@ around_set (frame.Braces at left front) gap set = Braces at (before front (more 
 around_set (frame.First at left) gap set = Cross at set gap
 around_set (frame.Second at first) gap set = Cross at first set
 
--- the tokens behind a set, to the end of the open one around it
+-- the tokens after a set, to the end of the open one around it
 abbrev pub Behind : (f : Frame) → Gap f → Tokens → Tokens
 Behind (frame.Braces at left front) gap Then ts = MoreSets left gap Then ts
 Behind (frame.First at left) gap Then ts = Next (Sign 44) (IsSet left gap (Next (Sign 41) Then)) ts
 Behind (frame.Second at first) gap Then ts = Next (Sign 41) Then ts
 
--- what is still to come behind a set, in each open set and behind the axis
+-- what is still to come after a set, in each open set and after the axis
 abbrev pub Fill : Which → List Frame → Type 0
 Fill w [] = Tail w
 Fill w (f ∷ around) = Gap f × Fill w around
@@ -71,7 +71,7 @@ abbrev pub whole : (w : Which) → Bool → (around : List Frame) → Fill w aro
 whole w non_empty [] fill set = query_of w fill (axis_of non_empty set)
 whole w non_empty (f ∷ around) fill set = whole w non_empty around fill.1 (around_set f fill.0 set)
 
--- the tokens behind a set
+-- the tokens after a set
 abbrev pub After : (w : Which) → (around : List Frame) → Fill w around → Tokens
 After w [] fill ts = Key keyword.On (BehindOn w fill) ts
 After w (f ∷ around) fill ts = Behind f fill.0 (After w around fill.1) ts
@@ -84,7 +84,7 @@ pub record AnAxis (w : Which) (q : Query) (IsNext : AxisText → Tokens → Toke
   pub same : q ≡ query_of w tail axis
   pub goes : IsNext axis (Key keyword.On (BehindOn w tail)) ts
 
--- an axis behind NON
+-- an axis after NON
 abbrev pub Emptied : AxisText → Tokens → Tokens
 Emptied axis Then ts = (axis.non_empty ≡ true) × Key keyword.Empty (IsSet 15 axis.set Then) ts
 
@@ -115,7 +115,7 @@ pub record Done (head : Head) (around : List Frame) (set : Set) (q : Query) (ts 
   pub same : q ≡ whole head.which head.non_empty around fill set
   pub goes : After head.which around fill ts
 
--- what is still to come behind a path, besides what is open
+-- what is still to come after a path, besides what is open
 abbrev pub Other : PathOf → Type 0
 Other (path_of.Alone head around at) = Picks × Fill head.which around
 Other (path_of.InTuple head around at front) = List (List (List ℕ)) × Fill head.which around
@@ -136,7 +136,7 @@ query_by (path_of.InTuple head around at front) other path =
 query_by (path_of.Slicer base) other path = sliced base (path ∷ [])
 query_by (path_of.InSlicer base front) other path = sliced base (front ++ path ∷ other)
 
--- the tokens behind a path
+-- the tokens after a path
 abbrev pub BehindPath : (of : PathOf) → Other of → Tokens
 BehindPath (path_of.Alone head around at) other ts =
     Suffix other.0 (After head.which around other.1) ts
@@ -145,7 +145,7 @@ BehindPath (path_of.InTuple head around at front) other ts =
 BehindPath (path_of.Slicer base) other ts = End ts
 BehindPath (path_of.InSlicer base front) other ts = MorePaths other End ts
 
--- the tokens behind a path and a dot, where no name comes
+-- the tokens after a path and a dot, where no name comes
 abbrev pub Ending : Picks → Tokens → Tokens
 Ending picks.Itself Then ts = ⊥
 Ending picks.Members Then ts = Key keyword.Members Then ts
@@ -170,12 +170,12 @@ PathNext of names other ts = Path names (BehindPath of other) ts
 abbrev pub DotsNext : (of : PathOf) → List (List ℕ) → Other of → Tokens
 DotsNext of names other ts = Dots names (BehindPath of other) ts
 
--- behind a dot
+-- after a dot
 abbrev pub NameNext : (of : PathOf) → List (List ℕ) → Other of → Tokens
 NameNext of [] other ts = BehindDot of other ts
 NameNext of (name ∷ names) other ts = Next (Name name) (Dots names (BehindPath of other)) ts
 
--- behind an axis and its number
+-- after an axis and its number
 pub record RowsNext (columns : AxisText) (q : Query) (ts : List Placed) : Type 0 where
   pub tail : Tail which.Columns
   pub same : q ≡ query_of which.Columns tail columns
@@ -199,7 +199,7 @@ abbrev pub Slicing : List (List (List ℕ)) → Tokens
 Slicing [] ts = ⊥
 Slicing (path ∷ paths) ts = Slices path paths ts
 
--- behind ON
+-- after ON
 pub record OnNext (w : Which) (axis : AxisText) (q : Query) (ts : List Placed) : Type 0 where
   pub tail : Tail w
   pub same : q ≡ query_of w tail axis
@@ -224,7 +224,7 @@ rest_of (place.AfterCube base) ts q = SlicerNext base q IsSlicer ts
 rest_of (place.ASlicer base) ts q = SlicerNext base q Slicing ts
 rest_of (place.Done query) ts q = (q ≡ query) × End ts
 
--- behind Crossjoin, a part may stand in it
+-- after Crossjoin, a part may stand in it
 abbrev pub stands : Place → Type 0
 stands (place.Crossing head around at left) = 0 < left
 stands _ = Unit {0}

@@ -1,10 +1,10 @@
--- What is taken before, in and behind a set.
+-- What is taken before, in and after a set.
 use Rattle.std.proofs.Common.{◌≡◌, ◌≢◌, ℕ, zero, suc, List, [], ◌∷◌, refl, sym, ap, ◌∙◌, arith, Option, Some, None}
 use Rattle.query_meaning.specs.declared.token.Token.{Token}
 use Rattle.query_meaning.specs.declared.token.Token.TheVariants.{Word, Sign, Name}
 use Rattle.query_meaning.specs.Tokens.{Placed, At}
 use Rattle.query_meaning.specs.Next.{Tokens}
-use Rattle.tokens.specs.Grammars.{Took}
+use Rattle.text_forms.specs.Grammars.{Took}
 use Rattle.query_meaning.specs.declared.query.Query.{Query}
 use Rattle.query_meaning.specs.declared.keyword.Keyword.TheVariants as keyword
 use Rattle.mdx_reader.specs.declared.place.Head.{Head}
@@ -18,7 +18,7 @@ use Rattle.query_meaning.specs.Tree.{Set, Sets, Braces, Cross, Tuple, Picked, no
 use Rattle.query_meaning.specs.Codes.{before_assoc}
 use Rattle.query_meaning.specs.Grammar.{IsSet, MoreSets}
 use Rattle.mdx_reader.specs.Places.{Fill, axis_of, whole, After, ASet, Opened, Crossed, Done, Names, PathNext, DotsNext, rest_of}
-use Rattle.tokens.specs.Kinds.{same_sign, sign_no_word, sign_no_name, word_no_name, same_name}
+use Rattle.text_forms.specs.Kinds.{same_sign, sign_no_word, sign_no_name, word_no_name, same_name}
 use Rattle.mdx_reader.specs.Tellings.{took_alike}
 use Rattle.mdx_reader.specs.Begins.{BeginsSet, set_begins, no_set_sign, Follows, after_begins}
 
@@ -114,7 +114,7 @@ closed_down head around from at q fill ts left (Braces place none) f h = record 
 closed_down head around from at q fill ts zero (Braces place (more set sets)) f h = absurd h.1
 closed_down head around from at q fill ts (suc left) (Braces place (more set sets)) f h = absurd (no_set_sign left 125 (λ e. absurd (omega arith)) (λ e. absurd (omega arith)) (set_begins left set _ at (Sign 125) ts h.1))
 
--- behind "{"
+-- after "{"
 pub item_closed : (head : Head) (around : List Frame) (from left at : ℕ) → Took rest_of (rest_of (place.AnItem head around from left)) (At at (Sign 125)) (Some (place.AfterSet head around (Braces from none)))
 item_closed head around from left at = λ ts q. (
   (λ h. closed_down head around from at q h.fill ts left h.set h.same h.goes),
@@ -144,7 +144,7 @@ item_too_deep from at k (Braces place (more set sets)) Then ts n h = h.1
 pub item_refused : (head : Head) (around : List Frame) (from at : ℕ) (k : Token) → k ≢ Sign 125 → Took rest_of (rest_of (place.AnItem head around from zero)) (At at k) None
 item_refused head around from at k n = λ ts q h. item_too_deep from at k h.set (After head.which around h.fill) ts n h.goes
 
--- behind Crossjoin
+-- after Crossjoin
 crossing_down : (head : Head) (around : List Frame) (from less at : ℕ) (set : Set) (q : Query) (fill : Fill head.which around) (ts : List Placed) → q ≡ whole head.which head.non_empty around fill set → Crossed from (suc less) set (After head.which around fill) (At at (Sign 40) ∷ ts) → ASet head (frame.First from less ∷ around) q (IsSet less) ts
 crossing_down head around from less at (Picked place path picks) q fill ts f h = absurd h
 crossing_down head around from less at (Tuple place paths) q fill ts f h = absurd h
@@ -170,7 +170,7 @@ crossing_begins from (suc left) at k (Cross place first second) Then ts h = h.1.
 pub crossing_refused : (head : Head) (around : List Frame) (from left at : ℕ) (k : Token) → k ≢ Sign 40 → Took rest_of (rest_of (place.Crossing head around from left)) (At at k) None
 crossing_refused head around from left at k n = λ ts q h. n (crossing_begins from left at k h.set (After head.which around h.fill) ts h.goes)
 
--- behind a set
+-- after a set
 pub after_refused : (head : Head) (around : List Frame) (set : Set) (at : ℕ) (k : Token) → ¬ Follows around k → Took rest_of (rest_of (place.AfterSet head around set)) (At at k) None
 after_refused head around set at k n = λ ts q h. n (after_begins head.which around h.fill at k ts h.goes)
 

@@ -1,7 +1,7 @@
 -- Places that go on alike with a token take and refuse it alike.
 use Rattle.std.proofs.Common.{◌↔◌, List, ◌∷◌, Option, Some, None}
 use Rattle.query_meaning.specs.Tokens.{Placed}
-use Rattle.tokens.specs.Grammars.{Took}
+use Rattle.text_forms.specs.Grammars.{Took}
 use Rattle.query_meaning.specs.declared.query.Query.{Query}
 use Rattle.mdx_reader.specs.declared.place.Place.{Place}
 use Rattle.mdx_reader.specs.Places.{rest_of}

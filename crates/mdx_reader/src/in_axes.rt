@@ -1,7 +1,7 @@
 //! Tokens around the axes.
 ghost use Rattle.std.specs.Prelude.{◌≡◌, ℕ, IfOk, IfSome};
 ghost use Rattle.query_meaning.specs.Tokens.{At};
-ghost use Rattle.tokens.specs.Grammars.{Took};
+ghost use Rattle.text_forms.specs.Grammars.{Took};
 ghost use Rattle.mdx_reader.specs.Places.{rest_of, stands};
 ghost use Rattle.mdx_reader.specs.declared.place.Place.TheVariants.{Start, AnAxis, Non, APath, On, AfterColumns, AfterRows, ACube, AfterCube, ASlicer};
 
@@ -11,7 +11,7 @@ use crate::place::{Base, Head, PathOf, Place, Which};
 use olap_meaning::{List, OutOfMemory};
 use query_meaning::{AxisText, Keyword, Token};
 use std::alloc::Global;
-use tokens::{Stack, is_sign, is_word, name_of};
+use text_forms::{Stack, is_sign, is_word, name_of};
 
 // SELECT.
 pub(crate) fn begin(token: Token) -> Option<Place>
@@ -59,7 +59,7 @@ pub(crate) fn begin_empty(alloc: Global, which: Which, token: Token) -> Option<P
     None
 }
 
-// A token behind ON.
+// A token after ON.
 pub(crate) fn end_axis(which: Which, axis: Kept<AxisText>, token: Token) -> Option<Place>
     ensures kept { IfSome result stands }
     ensures takes { (at : ℕ) → Took rest_of (rest_of (On which axis)) (At at token) result }
@@ -86,7 +86,7 @@ pub(crate) fn end_axis(which: Which, axis: Kept<AxisText>, token: Token) -> Opti
     }
 }
 
-// A token behind the columns.
+// A token after the columns.
 pub(crate) fn end_columns(columns: Kept<AxisText>, token: Token) -> Option<Place>
     ensures kept { IfSome result stands }
     ensures takes { (at : ℕ) → Took rest_of (rest_of (AfterColumns columns)) (At at token) result }
@@ -100,7 +100,7 @@ pub(crate) fn end_columns(columns: Kept<AxisText>, token: Token) -> Option<Place
     None
 }
 
-// A token behind the rows.
+// A token after the rows.
 pub(crate) fn end_rows(columns: Kept<AxisText>, rows: Kept<AxisText>, token: Token) -> Option<Place>
     ensures kept { IfSome result stands }
     ensures takes { (at : ℕ) →
@@ -112,7 +112,7 @@ pub(crate) fn end_rows(columns: Kept<AxisText>, rows: Kept<AxisText>, token: Tok
     None
 }
 
-// A token behind FROM.
+// A token after FROM.
 pub(crate) fn begin_cube(
     columns: Kept<AxisText>,
     rows: Option<Kept<AxisText>>,
@@ -131,7 +131,7 @@ pub(crate) fn begin_cube(
     }))
 }
 
-// A token behind the cube.
+// A token after the cube.
 pub(crate) fn end_cube(base: Base, token: Token) -> Option<Place>
     ensures kept { IfSome result stands }
     ensures takes { (at : ℕ) → Took rest_of (rest_of (AfterCube base)) (At at token) result }
@@ -142,7 +142,7 @@ pub(crate) fn end_cube(base: Base, token: Token) -> Option<Place>
     None
 }
 
-// A token behind WHERE.
+// A token after WHERE.
 pub(crate) fn begin_slicer(
     alloc: Global,
     base: Base,

@@ -1,7 +1,7 @@
 //! Tokens in a path.
 ghost use Rattle.std.specs.Prelude.{◌≡◌, ℕ, IfOk, IfSome};
 ghost use Rattle.query_meaning.specs.Tokens.{At};
-ghost use Rattle.tokens.specs.Grammars.{Took};
+ghost use Rattle.text_forms.specs.Grammars.{Took};
 ghost use Rattle.query_meaning.specs.declared.token.Token.TheVariants.{Word, Sign};
 ghost use Rattle.query_meaning.specs.Keywords.{keyword_text};
 ghost use Rattle.mdx_reader.specs.Words.{suffix_key};
@@ -15,9 +15,9 @@ use crate::place::{Base, Frame, Head, PathOf, Place};
 use olap_meaning::{List, OutOfMemory, Text};
 use query_meaning::{Keyword, Picks, Query, SetText, Token};
 use std::alloc::Global;
-use tokens::{Stack, is_sign, is_word, name_of};
+use text_forms::{Stack, is_sign, is_word, name_of};
 
-// A token behind a name of a path in a tuple, which is no dot.
+// A token after a name of a path in a tuple, which is no dot.
 fn end_in_tuple(
     head: Head,
     around: Stack<Frame>,
@@ -44,7 +44,7 @@ fn end_in_tuple(
     Ok(None)
 }
 
-// A token behind a name of a path in the slicer's tuple, which is no dot.
+// A token after a name of a path in the slicer's tuple, which is no dot.
 fn end_in_slicer(
     alloc: Global,
     base: Base,
@@ -69,7 +69,7 @@ fn end_in_slicer(
     Ok(None)
 }
 
-// A token behind a name of a path.
+// A token after a name of a path.
 pub(crate) fn end_name(
     alloc: Global,
     of: PathOf,
@@ -117,7 +117,7 @@ pub(crate) fn query_by(base: Base, slicer: List<List<Text>>) -> Query
     }
 }
 
-// MEMBERS or CHILDREN behind a dot of a path.
+// MEMBERS or CHILDREN after a dot of a path.
 fn end_picked(of: PathOf, path: List<Text>, children: bool) -> Option<Place>
     ensures kept { IfSome result stands }
     ensures takes { (at : ℕ) →
@@ -141,7 +141,7 @@ fn end_picked(of: PathOf, path: List<Text>, children: bool) -> Option<Place>
     }
 }
 
-// A token behind a dot of a path.
+// A token after a dot of a path.
 pub(crate) fn end_dot(
     of: PathOf,
     mut path: List<Text>,

@@ -1,7 +1,7 @@
-//! Tokens before, in and behind a set.
+//! Tokens before, in and after a set.
 ghost use Rattle.std.specs.Prelude.{◌≡◌, ◌<◌, ℕ, ◌∷◌, [], IfOk, IfSome};
 ghost use Rattle.query_meaning.specs.Tokens.{At};
-ghost use Rattle.tokens.specs.Grammars.{Took};
+ghost use Rattle.text_forms.specs.Grammars.{Took};
 ghost use Rattle.mdx_reader.specs.Places.{rest_of, stands};
 ghost use Rattle.mdx_reader.specs.declared.place.Place.TheVariants.{ASet, AnItem, Crossing, AfterSet};
 ghost use Rattle.mdx_reader.specs.declared.place.Frame.TheVariants.{Braces, First, Second};
@@ -11,7 +11,7 @@ use crate::place::{Frame, Head, PathOf, Place};
 use olap_meaning::{List, OutOfMemory, Text};
 use query_meaning::{AxisText, Keyword, SetText, SetTexts, Token};
 use std::alloc::Global;
-use tokens::{Stack, is_sign, is_word, name_of};
+use text_forms::{Stack, is_sign, is_word, name_of};
 
 // A path of one name.
 pub(crate) fn one_name(alloc: Global, name: Text) -> Result<List<Text>, OutOfMemory>
@@ -54,7 +54,7 @@ pub(crate) fn begin_set(
     Ok(Some(Place::AfterName(PathOf::Alone(head, around, at), path)))
 }
 
-// A token behind "{".
+// A token after "{".
 pub(crate) fn begin_item(
     alloc: Global,
     head: Head,
@@ -78,7 +78,7 @@ pub(crate) fn begin_item(
     begin_set(alloc, head, around, left - 1, at, token)
 }
 
-// A token behind Crossjoin.
+// A token after Crossjoin.
 pub(crate) fn begin_cross(
     head: Head,
     mut around: Stack<Frame>,
@@ -98,7 +98,7 @@ pub(crate) fn begin_cross(
     Ok(None)
 }
 
-// A token behind the set of an axis.
+// A token after the set of an axis.
 fn end_whole(
     alloc: Global,
     head: Head,
@@ -117,7 +117,7 @@ fn end_whole(
     Ok(None)
 }
 
-// A token behind an item in braces.
+// A token after an item in braces.
 fn end_item(
     head: Head,
     mut around: Stack<Frame>,
@@ -145,7 +145,7 @@ fn end_item(
     Ok(None)
 }
 
-// A token behind the first part of a Crossjoin.
+// A token after the first part of a Crossjoin.
 fn end_first(
     head: Head,
     mut around: Stack<Frame>,
@@ -167,7 +167,7 @@ fn end_first(
     Ok(None)
 }
 
-// A token behind the second part of a Crossjoin.
+// A token after the second part of a Crossjoin.
 fn end_second(
     alloc: Global,
     head: Head,
@@ -190,7 +190,7 @@ fn end_second(
     Ok(None)
 }
 
-// A token behind a set.
+// A token after a set.
 pub(crate) fn end_set(
     alloc: Global,
     head: Head,

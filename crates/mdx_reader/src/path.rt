@@ -25,7 +25,7 @@ impl From<OutOfMemory> for PathFault {
     }
 }
 
-// A name and the byte behind it, or the byte at which no name goes on.
+// A name and the byte after it, or the byte at which no name goes on.
 #[derive(Drop)]
 enum Found {
     Name(Text, usize),
@@ -56,7 +56,7 @@ fn char_at(text: &str, at: usize) -> Option<char>
     text[at..].chars().next()
 }
 
-// The byte behind the white at a place.
+// The byte after the white at a place.
 fn behind_white(text: &str, from: usize) -> usize
     requires { IsCharBoundary text.now from }
     ensures { IsBehindWhite text.now from result }
@@ -68,7 +68,7 @@ fn behind_white(text: &str, from: usize) -> usize
     at
 }
 
-// The byte behind a dot at a place, and behind the white around it.
+// The byte after a dot at a place, and after the white around it.
 fn behind_dot(text: &str, from: usize) -> Option<usize>
     requires { IsCharBoundary text.now from }
     ensures { MatchOption result
@@ -126,7 +126,7 @@ fn read_next(alloc: Global, text: &str, from: usize) -> Result<Option<(Text, usi
     }
 }
 
-/// Reads the longest path that begins at the byte `from`, and gives the byte behind it. No white behind the path is
+/// Reads the longest path that begins at the byte `from`, and gives the byte after it. No white after the path is
 /// taken, and no name ends where another `]` follows.
 ///
 /// ```text

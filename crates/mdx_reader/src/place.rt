@@ -3,7 +3,7 @@
 use crate::kept::Kept;
 use olap_meaning::{List, Text};
 use query_meaning::{AxisText, Query, SetText, SetTexts};
-use tokens::Stack;
+use text_forms::Stack;
 
 /// Which axis it is, and the columns where it is the rows.
 #[derive(Drop)]
@@ -26,7 +26,7 @@ pub enum Frame {
     Braces(u32, u8, SetTexts),
     /// The first part of a Crossjoin: how many sets may stand around one another in a part.
     First(u32, u8),
-    /// The second part of a Crossjoin, behind the first.
+    /// The second part of a Crossjoin, after the first.
     Second(u32, SetText),
 }
 
@@ -43,11 +43,11 @@ pub struct Base {
 pub enum PathOf {
     /// Of a set that begins with it.
     Alone(Head, Stack<Frame>, u32),
-    /// Of a set that is a tuple, behind these paths.
+    /// Of a set that is a tuple, after these paths.
     InTuple(Head, Stack<Frame>, u32, List<List<Text>>),
     /// Of the slicer.
     Slicer(Base),
-    /// Of the slicer's tuple, behind these paths.
+    /// Of the slicer's tuple, after these paths.
     InSlicer(Base, List<List<Text>>),
 }
 
@@ -58,34 +58,34 @@ pub enum Place {
     Start,
     /// Before an axis.
     AnAxis(Which),
-    /// Behind NON.
+    /// After NON.
     Non(Which),
-    /// Before a set in which so many others may stand around one another.
+    /// Before a set in which this many others may stand around one another.
     ASet(Head, Stack<Frame>, u8),
-    /// Behind the "{" at this byte, of a set in which so many others may stand around one another.
+    /// After the "{" at this byte, of a set in which this many others may stand around one another.
     AnItem(Head, Stack<Frame>, u32, u8),
-    /// Behind the Crossjoin at this byte, of a set in which so many others may stand around one another.
+    /// After the Crossjoin at this byte, of a set in which this many others may stand around one another.
     Crossing(Head, Stack<Frame>, u32, u8),
     /// Before a path.
     APath(PathOf),
-    /// In a path, behind these names.
+    /// In a path, after these names.
     AfterName(PathOf, List<Text>),
-    /// In a path, behind these names and a dot.
+    /// In a path, after these names and a dot.
     AfterDot(PathOf, List<Text>),
-    /// Behind a set.
+    /// After a set.
     AfterSet(Head, Stack<Frame>, SetText),
-    /// Behind an axis and ON.
+    /// After an axis and ON.
     On(Which, Kept<AxisText>),
-    /// Behind the columns.
+    /// After the columns.
     AfterColumns(Kept<AxisText>),
-    /// Behind the rows.
+    /// After the rows.
     AfterRows(Kept<AxisText>, Kept<AxisText>),
-    /// Behind FROM.
+    /// After FROM.
     ACube(Kept<AxisText>, Option<Kept<AxisText>>),
-    /// Behind the cube.
+    /// After the cube.
     AfterCube(Base),
-    /// Behind WHERE.
+    /// After WHERE.
     ASlicer(Base),
-    /// Behind the slicer's tuple.
+    /// After the slicer's tuple.
     Done(Kept<Query>),
 }

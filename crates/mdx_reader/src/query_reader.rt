@@ -2,7 +2,7 @@
 ghost use Rattle.std.specs.Prelude.{◌≡◌, ◌<◌, ◌^◌, ◌∷◌, [], IfOk, IfSome, length, option_map};
 ghost use Rattle.text_forms.specs.Forms.{Finishes};
 ghost use Rattle.query_meaning.specs.Tokens.{At};
-ghost use Rattle.tokens.specs.Grammars.{Took};
+ghost use Rattle.text_forms.specs.Grammars.{Took};
 ghost use Rattle.mdx_reader.specs.Places.{IsAroundAxes, IsOutsideSets, rest_of, stands};
 ghost use Rattle.mdx_reader.specs.declared.place.Place.TheVariants.{AfterName};
 ghost use Rattle.mdx_reader.specs.QueryTexts.{ReadsQuery};
@@ -17,8 +17,7 @@ use crate::place::{PathOf, Place, Which};
 use olap_meaning::{List, OutOfMemory, Text};
 use query_meaning::{Keyword, Query, Token};
 use std::alloc::Global;
-use text_forms::ReadFault;
-use tokens::{Grammar, begins_either, begins_keyword, read_tokens};
+use text_forms::{Grammar, ReadFault, begins_either, begins_keyword, read_tokens};
 
 // A slicer of one path.
 fn one_path(alloc: Global, path: List<Text>) -> Result<List<List<Text>>, OutOfMemory>
@@ -85,7 +84,7 @@ fn take_around_axes(
         Place::ACube(columns, rows) => Ok(begin_cube(columns, rows, token)),
         Place::AfterCube(base) => Ok(end_cube(base, token)),
         Place::ASlicer(base) => begin_slicer(alloc, base, token),
-        // Behind a whole query, since it stands in no set and no path.
+        // After a whole query, since it stands in no set and no path.
         other => {
             drop(other);
             Ok(None)

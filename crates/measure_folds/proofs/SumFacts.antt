@@ -1,13 +1,10 @@
 -- Sums of lists side by side, and their bounds.
-use Rattle.std.proofs.Common.{◌≡◌, ◌∙◌, ◌++◌, ◌∷◌, [], ◌+◌, ℕ, ℤ, pos, ◌+ℤ◌, List, fold, refl, arith, length-append, SFits, w64}
+use Rattle.std.proofs.Common.{◌≡◌, ◌∙◌, ◌++◌, ◌∷◌, [], ◌+◌, ℕ, ℤ, pos, ◌+ℤ◌, List, refl, arith, length-append, SFits, w64}
 use Rattle.std.proofs.lemmas.Int.{ints}
 use Rattle.std.proofs.lemmas.List.Sums.{fold-append}
 use Rattle.olap_meaning.specs.Values.{total}
+use Rattle.olap_meaning.proofs.Orders.{total-from}
 use Rattle.measure_folds.specs.Kept.{AreSummed}
-
-total-from : (s : ℤ) (ns : List ℤ) → fold (λ sum n. sum +ℤ n) s ns ≡ s +ℤ total ns
-total-from s [] = omega (arith, ints)
-total-from s (n ∷ ns) = omega (arith, ints, total-from (s +ℤ n) ns, total-from (pos 0 +ℤ n) ns)
 
 total-joined : (ns ms : List ℤ) → total (ns ++ ms) ≡ total ns +ℤ total ms
 total-joined ns ms = fold-append (λ sum n. sum +ℤ n) (pos 0) ns ms ∙ total-from (total ns) ms

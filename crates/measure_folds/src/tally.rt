@@ -10,7 +10,7 @@ use std::marker::Model;
 use traces::Trace;
 
 /// One measure over fact rows: what its aggregator needs of them, in an amount of memory that does not grow with
-/// the rows, but for a distinct count, which keeps each of its values once.
+/// the rows, except for a distinct count, which keeps each of its values once.
 #[derive(Drop)]
 pub struct Tally {
     rows: u32,
@@ -72,7 +72,7 @@ impl Tally {
         Ok(())
     }
 
-    /// Adds the rows of another tally, behind its own. It takes no memory.
+    /// Adds the rows of another tally, after its own. It takes no memory.
     pub fn merge(&mut self, other: &Tally)
         requires one_aggregator { self.old.aggregator ≡ other.now.aggregator }
         requires no_distinct_count { self.old.aggregator ≢ Aggregator.DistinctCount }

@@ -6,6 +6,7 @@ use Rattle.std.proofs.lemmas.List.Elements.{All-head, All-tail, All-weaker, filt
 use Rattle.std.proofs.lemmas.Slice.Eq.{bytes_eq-Decides}
 use Rattle.olap_meaning.specs.Catalog.{first_appearances}
 use Rattle.olap_meaning.specs.Catalog.{below, at_depth}
+use Rattle.olap_meaning.proofs.Lists.{appearances_le, filter_le}
 use Rattle.member_trees.specs.Nodes.{last_value}
 use Rattle.member_trees.proofs.Below.{begins, front_of, begins_from, shape, cut, is_next, long_below}
 
@@ -17,14 +18,6 @@ fronts leaf paths = length (filter (begins leaf) paths)
 abbrev pub all_fronts : List (List ℕ) → List (List ℕ) → ℕ
 all_fronts [] paths = 0
 all_fronts (leaf ∷ leaves) paths = fronts leaf paths + all_fronts leaves paths
-
-filter-le : {A : Type 0} (p : A → Bool) (xs : List A) → length (filter p xs) ≤ length xs
-filter-le p [] = omega arith
-filter-le {A} p (x ∷ xs) = by (p x) (filter-le p xs)
-  where
-    by : (b : Bool) → length (filter p xs) ≤ length xs → length (cond b (x ∷ filter p xs) (filter p xs)) ≤ suc (length xs)
-    by true h = omega arith
-    by false h = omega arith
 
 -- a test that is met where another is meets at most as many
 filter-fewer : {A : Type 0} (p q : A → Bool) (xs : List A) → All (λ x. p x ≡ true → q x ≡ true) xs → length (filter p xs) ≤ length (filter q xs)
@@ -123,7 +116,7 @@ fronts-flat leaves leaf (path ∷ paths) =
     omega (arith, rest, here, cons, parts)
 
 one_front : (leaves : List (List ℕ)) (leaf : List ℕ) (depth : ℕ) → fronts leaf (at_depth leaves depth) ≤ 1
-one_front leaves leaf zero = filter-le (begins leaf) ([] ∷ [])
+one_front leaves leaf zero = filter_le (begins leaf) ([] ∷ [])
 one_front leaves leaf (suc depth) = let up = one_front leaves leaf depth in let le = fronts-flat leaves leaf (at_depth leaves depth) in omega (arith, up, le)
 
 all-one : (leaves : List (List ℕ)) (paths : List (List ℕ)) → ((leaf : List ℕ) → fronts leaf paths ≤ 1) → all_fronts leaves paths ≤ length leaves
@@ -146,15 +139,11 @@ all-cons (leaf ∷ leaves) path paths =
     by true = omega arith
     by false = omega arith
 
-appearances-le : (xs : List (List ℕ)) → length (first_appearances xs) ≤ length xs
-appearances-le [] = omega arith
-appearances-le (x ∷ xs) = let rest = appearances-le xs in let le = filter-le (λ other. not (bytes_eq x other)) (first_appearances xs) in omega (arith, rest, le)
-
 below-le : (leaves : List (List ℕ)) (path : List ℕ) → length (below leaves path) ≤ leaves_of leaves path
 below-le leaves path =
     let kept : List (List ℕ) = filter (λ leaf. begins leaf path) leaves in
-    let a = appearances-le (filter (is_next path) (map (cut path) kept)) in
-    let b = filter-le (is_next path) (map (cut path) kept) in
+    let a = appearances_le (filter (is_next path) (map (cut path) kept)) in
+    let b = filter_le (is_next path) (map (cut path) kept) in
     let c = length-map kept (cut path) in
     omega (arith, a, b, c)
 

@@ -1,5 +1,6 @@
 -- Paths by first appearance: that they differ, their numbers, and those that go on from one.
 use Rattle.std.proofs.Common.{◌≡◌, refl, sym, ◌∙◌, ap, ℕ, zero, suc, ◌+◌, ◌==◌, ◌≤◌, List, [], ◌∷◌, length, take, Bool, true, false, cond, not, ◌||◌, filter, map, bytes_eq, nat_eq, inl, inr, arith}
+use Rattle.std.proofs.lemmas.Bool.{eq-eqb, not-false, not-true}
 use Rattle.std.specs.List.{AllByRecursion as Each, Contains, enumerate_from, list_any, starts_with}
 use Rattle.std.proofs.lemmas.List.{length-take-le, take-take, take_all}
 use Rattle.std.proofs.lemmas.List.Elements.{All-contains_itself, All-weaker, recursion_from_All, filter_agree}
@@ -13,8 +14,9 @@ use Rattle.olap_meaning.specs.Catalog.{first_appearances}
 use Rattle.member_trees.specs.Nodes.{last_value}
 use Rattle.member_trees.specs.Numbered.{fronts, number_in, members_below, children_of}
 use Rattle.olap_meaning.specs.Catalog.{below}
+use Rattle.olap_meaning.proofs.Lists.{filter-map, filter_le, filter_turned, text_self, text_turned}
 use Rattle.member_trees.specs.Trees.{AreWhole}
-use Rattle.member_trees.proofs.Lists.{Each-all, Each-weaker, Each-filter, Each-filter_passes, Each-map, map_same, filter_all, filter_none, filter-map, filter_comm, filter_within, length_filter_le, enumerate-map}
+use Rattle.member_trees.proofs.Lists.{Each-all, Each-weaker, Each-filter, Each-filter_passes, Each-map, map_same, filter_all, filter_none, filter_within, enumerate-map}
 
 -- each path but once
 abbrev pub Distinct : List (List ℕ) → Type 0
@@ -29,18 +31,10 @@ Distinct-filter p (x ∷ xs) h = by (p x) (Distinct-filter p xs h.1)
     by true rest = (Each-filter (λ y. bytes_eq x y ≡ false) p xs h.0, rest)
     by false rest = rest
 
-turned : (b : Bool) → not b ≡ true → b ≡ false
-turned true e = sym e
-turned false e = refl
-
-turned_back : (b : Bool) → not b ≡ false → b ≡ true
-turned_back true e = refl
-turned_back false e = sym e
-
 pub appearances_distinct : (xs : List (List ℕ)) → Distinct (first_appearances xs)
 appearances_distinct [] = tt
 appearances_distinct (x ∷ xs) =
-    (Each-weaker (λ y. not (bytes_eq x y) ≡ true) (λ y. bytes_eq x y ≡ false) (λ y e. turned (bytes_eq x y) e) (filter others (first_appearances xs)) (Each-filter_passes others (first_appearances xs)), Distinct-filter others (first_appearances xs) (appearances_distinct xs))
+    (Each-weaker (λ y. not (bytes_eq x y) ≡ true) (λ y. bytes_eq x y ≡ false) (λ y e. not-true (bytes_eq x y) e) (filter others (first_appearances xs)) (Each-filter_passes others (first_appearances xs)), Distinct-filter others (first_appearances xs) (appearances_distinct xs))
   where
     others : List ℕ → Bool
     others other = not (bytes_eq x other)
@@ -48,13 +42,6 @@ appearances_distinct (x ∷ xs) =
 pub Each-appearances : (P : List ℕ → Type 0) (xs : List (List ℕ)) → Each P xs → Each P (first_appearances xs)
 Each-appearances P [] e = tt
 Each-appearances P (x ∷ xs) e = (e.0, Each-filter P (λ other. not (bytes_eq x other)) (first_appearances xs) (Each-appearances P xs e.1))
-
-pub few_appearances : (xs : List (List ℕ)) → length (first_appearances xs) ≤ length xs
-few_appearances [] = omega arith
-few_appearances (x ∷ xs) =
-    let h = few_appearances xs in
-    let f = length_filter_le (λ other. not (bytes_eq x other)) (first_appearances xs) in
-    omega (arith, h, f)
 
 -- the first appearances of what passes a test are what passes among the first appearances
 pub appearances-filter : (p : List ℕ → Bool) (xs : List (List ℕ)) → first_appearances (filter p xs) ≡ filter p (first_appearances xs)
@@ -65,18 +52,12 @@ appearances-filter p (x ∷ xs) = by (p x) refl (appearances-filter p xs)
     others other = not (bytes_eq x other)
 
     fails : p x ≡ false → (y : List ℕ) → others y ≡ false → p y ≡ false
-    fails e y equal = ap p (sym ((bytes_eq-Decides x y).0 (turned_back (bytes_eq x y) equal))) ∙ e
+    fails e y equal = ap p (sym ((bytes_eq-Decides x y).0 (not-false (bytes_eq x y) equal))) ∙ e
 
     by : (b : Bool) → p x ≡ b → first_appearances (filter p xs) ≡ filter p (first_appearances xs)
         → first_appearances (cond b (x ∷ filter p xs) (filter p xs)) ≡ cond b (x ∷ filter p (filter others (first_appearances xs))) (filter p (filter others (first_appearances xs)))
-    by true e h = ap (λ ys. x ∷ filter others ys) h ∙ ap (λ ys. x ∷ ys) (filter_comm others p (first_appearances xs))
+    by true e h = ap (λ ys. x ∷ filter others ys) h ∙ ap (λ ys. x ∷ ys) (filter_turned others p (first_appearances xs))
     by false e h = h ∙ sym (filter_within p others (first_appearances xs) (fails e))
-
-pub equal_self : (x : List ℕ) → bytes_eq x x ≡ true
-equal_self x = (bytes_eq-Decides x x).1 refl
-
-pub equal_turned : (x y : List ℕ) → bytes_eq x y ≡ bytes_eq y x
-equal_turned x y = nat_list_eq_equiv.symm x y
 
 -- each path is among them all
 pub Each-among : (xs : List (List ℕ)) → Each (λ x. list_any (bytes_eq x) xs ≡ true) xs
@@ -85,10 +66,10 @@ Each-among xs =
     (All-weaker (Contains xs) (λ x. list_any (bytes_eq x) xs ≡ true) (λ x c. list_any-from_Contains nat_list_eq_equiv x xs c) xs (All-contains_itself xs))
 
 number_later : (x q : List ℕ) (xs : List (List ℕ)) → bytes_eq x q ≡ false → number_in (x ∷ xs) q ≡ 1 + number_in xs q
-number_later x q xs e = ap (λ b. cond (not b) (1 + number_in xs q) 0) (equal_turned q x ∙ e)
+number_later x q xs e = ap (λ b. cond (not b) (1 + number_in xs q) 0) (text_turned q x ∙ e)
 
 number_first : (x : List ℕ) (xs : List (List ℕ)) → number_in (x ∷ xs) x ≡ 0
-number_first x xs = ap (λ b. cond (not b) (1 + number_in xs x) 0) (equal_self x)
+number_first x xs = ap (λ b. cond (not b) (1 + number_in xs x) 0) (text_self x)
 
 numbered_from : (a : ℕ) (xs : List (List ℕ)) → Distinct xs → enumerate_from a xs ≡ map (λ q. (a + number_in xs q, q)) xs
 numbered_from a [] h = refl
@@ -112,15 +93,12 @@ pub numbered : (xs : List (List ℕ)) → Distinct xs → enumerate_from 0 xs �
 numbered xs h =
     numbered_from 0 xs h ∙ map_same (λ q. (0 + number_in xs q, q)) (λ q. (number_in xs q, q)) xs (Each-all (λ q. let one : ℕ × List ℕ = (0 + number_in xs q, q) in one ≡ (number_in xs q, q)) (λ q. let e : 0 + number_in xs q ≡ number_in xs q = omega arith in ap (λ k. (k, q)) e) xs)
 
-nat_eq_true : (a b : ℕ) → a ≡ b → nat_eq a b ≡ true
-nat_eq_true a b e = elim (eqb_tells a b) [ inl t ↦ t.0 | inr t ↦ absurd (t.1 e) ]
-
 nat_eq_false : (a b : ℕ) → (a ≡ b → ⊥) → nat_eq a b ≡ false
 nat_eq_false a b e = elim (eqb_tells a b) [ inl t ↦ absurd (e t.1) | inr t ↦ t.0 ]
 
 nat_eq_more : (a b : ℕ) → nat_eq (1 + a) (1 + b) ≡ nat_eq a b
 nat_eq_more a b = elim (eqb_tells a b) [
-  | inl t ↦ nat_eq_true (1 + a) (1 + b) (ap (λ n. 1 + n) t.1) ∙ sym t.0
+  | inl t ↦ eq-eqb (1 + a) (1 + b) (ap (λ n. 1 + n) t.1) ∙ sym t.0
   | inr t ↦ nat_eq_false (1 + a) (1 + b) (λ e. t.1 (omega (arith, e))) ∙ sym t.0
 ]
 
@@ -140,8 +118,8 @@ same_number (y ∷ ys) x p found = by (bytes_eq x y) (bytes_eq p y) refl refl fo
 
     by : (b c : Bool) → bytes_eq x y ≡ b → bytes_eq p y ≡ c → (c || list_any (bytes_eq p) ys) ≡ true → (list_any (bytes_eq p) ys ≡ true → nat_eq n m ≡ bytes_eq x p)
         → nat_eq (cond (not b) (1 + n) 0) (cond (not c) (1 + m) 0) ≡ bytes_eq x p
-    by true true e f found h = nat_eq_true 0 0 refl ∙ sym ((bytes_eq-Decides x p).1 (is x y e ∙ sym (is p y f)))
-    by true false e f found h = nat_eq_false 0 (1 + m) (λ z. omega (arith, z)) ∙ sym (ap (λ z. bytes_eq z p) (is x y e) ∙ equal_turned y p ∙ f)
+    by true true e f found h = eq-eqb 0 0 refl ∙ sym ((bytes_eq-Decides x p).1 (is x y e ∙ sym (is p y f)))
+    by true false e f found h = nat_eq_false 0 (1 + m) (λ z. omega (arith, z)) ∙ sym (ap (λ z. bytes_eq z p) (is x y e) ∙ text_turned y p ∙ f)
     by false true e f found h = nat_eq_false (1 + n) 0 (λ z. omega (arith, z)) ∙ sym (ap (λ z. bytes_eq x z) (is p y f) ∙ e)
     by false false e f found h = nat_eq_more n m ∙ h found
 
@@ -188,13 +166,13 @@ below_is n leaves p whole h =
     agree : (leaf : List ℕ) → begins (cut leaf) ≡ goes_on leaf
     agree leaf =
         let le : length p ≤ depth = omega arith in
-        ap (λ q. bytes_eq q p) (take-take (length p) depth leaf le) ∙ equal_turned (take (length p) leaf) p
+        ap (λ q. bytes_eq q p) (take-take (length p) depth leaf le) ∙ text_turned (take (length p) leaf) p
 
     longs : Each (λ q. long q ≡ true) (map cut (filter goes_on leaves))
     longs =
         Each-map (λ q. long q ≡ true) cut (filter goes_on leaves)
         (Each-filter (λ leaf. long (cut leaf) ≡ true) goes_on leaves
-        (Each-weaker (λ leaf. length leaf ≡ n) (λ leaf. long (cut leaf) ≡ true) (λ leaf e. nat_eq_true (length (cut leaf)) depth (cut_length n depth leaf h e)) leaves (Each-whole n leaves whole)))
+        (Each-weaker (λ leaf. length leaf ≡ n) (λ leaf. long (cut leaf) ≡ true) (λ leaf e. eq-eqb (length (cut leaf)) depth (cut_length n depth leaf h e)) leaves (Each-whole n leaves whole)))
 
 -- no path is below a leaf
 pub below_none : (n : ℕ) (leaves : List (List ℕ)) (p : List ℕ) → AreWhole n leaves → length p ≡ n → below leaves p ≡ []

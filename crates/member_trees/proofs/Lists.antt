@@ -1,7 +1,7 @@
 -- Lists: what maps, filters and joins give where their functions agree at each element.
-use Rattle.std.proofs.Common.{◌≡◌, refl, sym, ◌∙◌, ap, ℕ, zero, suc, ◌+◌, ◌<◌, ◌≤◌, List, [], ◌∷◌, ◌++◌, length, take, Bool, true, false, cond, not, ◌||◌, filter, map, flat_map, arith, length-append}
+use Rattle.std.proofs.Common.{◌≡◌, refl, sym, ◌∙◌, ap, ℕ, zero, suc, ◌+◌, ◌≤◌, List, [], ◌∷◌, ◌++◌, length, take, Bool, true, false, cond, not, ◌||◌, filter, map, flat_map, arith, length-append}
 use Rattle.std.specs.List.{AllByRecursion as Each, enumerate_from, position_or_len, list_any}
-use Rattle.std.proofs.lemmas.List.{map-append, take-map}
+use Rattle.std.proofs.lemmas.List.{take-map}
 use Rattle.std.proofs.lemmas.List.Elements.{filter-append}
 use Rattle.std.proofs.lemmas.List.Folds.{flat_map-map}
 
@@ -67,28 +67,6 @@ pub filter_none : {X : Type 0} (p : X → Bool) (xs : List X) → Each (λ x. p 
 filter_none p [] e = refl
 filter_none p (x ∷ xs) e = ap (λ b. cond b (x ∷ filter p xs) (filter p xs)) e.0 ∙ filter_none p xs e.1
 
-pub map-flat_map : {X A B : Type 0} (g : A → B) (f : X → List A) (xs : List X) → map g (flat_map f xs) ≡ flat_map (λ x. map g (f x)) xs
-map-flat_map g f [] = refl
-map-flat_map g f (x ∷ xs) = map-append g (f x) (flat_map f xs) ∙ ap (λ ys. map g (f x) ++ ys) (map-flat_map g f xs)
-
-pub filter-map : {X Y : Type 0} (p : Y → Bool) (f : X → Y) (xs : List X) → filter p (map f xs) ≡ map f (filter (λ x. p (f x)) xs)
-filter-map p f [] = refl
-filter-map {X} p f (x ∷ xs) = by (p (f x)) (filter-map p f xs)
-  where
-    by : (b : Bool) → filter p (map f xs) ≡ map f (filter (λ y. p (f y)) xs) → cond b (f x ∷ filter p (map f xs)) (filter p (map f xs)) ≡ map f (cond b (x ∷ filter (λ y. p (f y)) xs) (filter (λ y. p (f y)) xs))
-    by true h = ap (λ ys. f x ∷ ys) h
-    by false h = h
-
-pub filter_comm : {X : Type 0} (p q : X → Bool) (xs : List X) → filter p (filter q xs) ≡ filter q (filter p xs)
-filter_comm p q [] = refl
-filter_comm {X} p q (x ∷ xs) = by (p x) (q x) refl refl (filter_comm p q xs)
-  where
-    by : (b c : Bool) → p x ≡ b → q x ≡ c → filter p (filter q xs) ≡ filter q (filter p xs) → filter p (cond c (x ∷ filter q xs) (filter q xs)) ≡ filter q (cond b (x ∷ filter p xs) (filter p xs))
-    by true true e f h = ap (λ b. cond b (x ∷ filter p (filter q xs)) (filter p (filter q xs))) e ∙ ap (λ ys. x ∷ ys) h ∙ sym (ap (λ c. cond c (x ∷ filter q (filter p xs)) (filter q (filter p xs))) f)
-    by true false e f h = h ∙ sym (ap (λ c. cond c (x ∷ filter q (filter p xs)) (filter q (filter p xs))) f)
-    by false true e f h = ap (λ b. cond b (x ∷ filter p (filter q xs)) (filter p (filter q xs))) e ∙ h
-    by false false e f h = h
-
 -- leaving out what fails a test first changes nothing where the other test fails it too
 pub filter_within : {X : Type 0} (p q : X → Bool) (xs : List X) → ((x : X) → q x ≡ false → p x ≡ false) → filter p (filter q xs) ≡ filter p xs
 filter_within p q [] h = refl
@@ -97,14 +75,6 @@ filter_within {X} p q (x ∷ xs) h = by (q x) refl (filter_within p q xs h)
     by : (b : Bool) → q x ≡ b → filter p (filter q xs) ≡ filter p xs → filter p (cond b (x ∷ filter q xs) (filter q xs)) ≡ cond (p x) (x ∷ filter p xs) (filter p xs)
     by true e rest = ap (λ ys. cond (p x) (x ∷ ys) ys) rest
     by false e rest = rest ∙ sym (ap (λ b. cond b (x ∷ filter p xs) (filter p xs)) (h x e))
-
-pub length_filter_le : {X : Type 0} (p : X → Bool) (xs : List X) → length (filter p xs) ≤ length xs
-length_filter_le p [] = omega arith
-length_filter_le {X} p (x ∷ xs) = by (p x) (length_filter_le p xs)
-  where
-    by : (b : Bool) → length (filter p xs) ≤ length xs → length (cond b (x ∷ filter p xs) (filter p xs)) ≤ length (x ∷ xs)
-    by true h = omega (arith, h)
-    by false h = omega (arith, h)
 
 pub enumerate-map : {X Y : Type 0} (f : X → Y) (a : ℕ) (xs : List X) → enumerate_from a (map f xs) ≡ map (λ e. (e.0, f e.1)) (enumerate_from a xs)
 enumerate-map f a [] = refl
@@ -177,15 +147,6 @@ joined_once {X} {A} r T xs (a ∷ as') once = by (T a) (joined_more r T a as' xs
         → length (filter T (flat_map (λ x. filter (r x) (a ∷ as')) xs)) ≤ length (cond b (a ∷ filter T as') (filter T as'))
     by true e h o = omega (arith, e, h, o)
     by false e h o = omega (arith, e, h)
-
--- a place that is found is within the list
-pub position_within : {X : Type 0} (p : X → Bool) (xs : List X) → list_any p xs ≡ true → position_or_len p xs < length xs
-position_within p [] found = absurd (cc (found))
-position_within {X} p (x ∷ xs) found = by (p x) found (position_within p xs)
-  where
-    by : (b : Bool) → (b || list_any p xs) ≡ true → (list_any p xs ≡ true → position_or_len p xs < length xs) → cond (not b) (1 + position_or_len p xs) 0 < suc (length xs)
-    by true f h = omega arith
-    by false f h = let l = h f in omega (arith, l)
 
 pub position_same : {X Y : Type 0} (p : X → Bool) (q : Y → Bool) (f : X → Y) (xs : List X) → Each (λ x. q (f x) ≡ p x) xs → position_or_len q (map f xs) ≡ position_or_len p xs
 position_same p q f [] e = refl

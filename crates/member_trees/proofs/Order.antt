@@ -5,9 +5,10 @@ use Rattle.std.proofs.lemmas.List.{length-map}
 use Rattle.member_trees.specs.Nodes.{last_value}
 use Rattle.member_trees.specs.Numbered.{fronts, number_in, members_below, children_of}
 use Rattle.olap_meaning.specs.Catalog.{below, at_depth}
+use Rattle.olap_meaning.proofs.Lists.{appearances_le}
 use Rattle.member_trees.specs.Trees.{AreWhole}
 use Rattle.member_trees.proofs.Lists.{Each-all, Each-weaker, Each-filter, Each-flat_map, flat_map_same, filter_all, filter_none, joined_once}
-use Rattle.member_trees.proofs.Fronts.{Distinct, Each-among, few_appearances, fronts_distinct, front_lengths, below_is, below_none, children_are}
+use Rattle.member_trees.proofs.Fronts.{Distinct, Each-among, fronts_distinct, front_lengths, below_is, below_none, children_are}
 use Rattle.std.proofs.lemmas.Slice.Eq.{bytes_eq-Decides}
 
 -- a path of a depth that is among those by first appearance
@@ -82,7 +83,7 @@ order_few n d leaves whole h =
     let joined : length (at_depth leaves (suc d)) ≡ length (filter (λ _. true) (flat_map (λ p. filter (λ r. bytes_eq (take d r) p) (fronts leaves (suc d))) (at_depth leaves d))) = ap length (order_joined n d leaves whole h) ∙ ap length (sym (all_kept (flat_map (λ p. filter (λ r. bytes_eq (take d r) p) (fronts leaves (suc d))) (at_depth leaves d)))) in
     let few = joined_once (λ p r. bytes_eq (take d r) p) (λ _. true) (at_depth leaves d) (fronts leaves (suc d)) (λ r. order_once n d leaves whole (omega (arith, h)) (take d r)) in
     let all : length (filter (λ _. true) (fronts leaves (suc d))) ≡ length (fronts leaves (suc d)) = ap length (all_kept (fronts leaves (suc d))) in
-    let cuts = few_appearances (map (take (suc d)) leaves) in
+    let cuts = appearances_le (map (take (suc d)) leaves) in
     let leaves' : length (map (take (suc d)) leaves) ≡ length leaves = length-map leaves (take (suc d)) in
     omega (arith, joined, few, all, cuts, leaves')
 

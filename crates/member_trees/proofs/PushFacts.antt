@@ -10,11 +10,12 @@ use Rattle.indexmap.specs.IndexSet.{insert_key}
 use Rattle.olap_meaning.proofs.Appearances.{appearances_push, any-same, first_at, none_at}
 use Rattle.olap_meaning.specs.Catalog.{first_appearances}
 use Rattle.olap_meaning.specs.declared.schema.TheConstants.{LEVEL_LIMIT, RECORD_LIMIT}
+use Rattle.olap_meaning.proofs.Lists.{text_self}
 use Rattle.member_trees.specs.Nodes.{last_value}
 use Rattle.member_trees.specs.Numbered.{AreNumbered, pair_eq, fronts, number_in, members_below}
 use Rattle.member_trees.specs.Trees.{AreWhole}
 use Rattle.member_trees.proofs.Lists.{Each-weaker, map_same, any_same, position_same, position_kept}
-use Rattle.member_trees.proofs.Fronts.{equal_self, same_number, front_lengths, fronts_above, cut_length}
+use Rattle.member_trees.proofs.Fronts.{same_number, front_lengths, fronts_above, cut_length}
 use Rattle.member_trees.proofs.RowFacts.{members_few}
 
 -- one path more by first appearance: where it is not there yet
@@ -64,7 +65,7 @@ number-with paths path = by (list_any (bytes_eq path) paths) refl
   where
     by : (b : Bool) → list_any (bytes_eq path) paths ≡ b → position_or_len (bytes_eq path) paths ≡ position_or_len (bytes_eq path) (paths ++ cond b [] (path ∷ []))
     by true e = sym (position_kept (bytes_eq path) paths [] e)
-    by false e = none_at (bytes_eq path) paths e ∙ sym (first_at (bytes_eq path) paths [] path e (equal_self path))
+    by false e = none_at (bytes_eq path) paths e ∙ sym (first_at (bytes_eq path) paths [] path e (text_self path))
 
 number-kept : (paths : List (List ℕ)) (path q : List ℕ) → list_any (bytes_eq q) paths ≡ true → number_in paths q ≡ number_in (with_path paths path) q
 number-kept paths path q found = sym (position_kept (bytes_eq q) paths (cond (list_any (bytes_eq path) paths) [] (path ∷ [])) found)

@@ -12,9 +12,10 @@ use Rattle.member_trees.specs.declared.rows.Placed.{Placed}
 use Rattle.member_trees.specs.Nodes.{last_value, places_below, first_below, nodes_below}
 use Rattle.member_trees.specs.Numbered.{fronts, number_in, members_below, children_of, placed_child, placed_children, listed_nodes}
 use Rattle.olap_meaning.specs.Catalog.{below, at_depth}
+use Rattle.olap_meaning.proofs.Lists.{appearances_le, map-flat_map, placed as position_within}
 use Rattle.member_trees.specs.Trees.{AreWhole}
-use Rattle.member_trees.proofs.Lists.{Each-all, Each-weaker, Each-map, Each-enumerate, map_same, flat_map_same, map-flat_map, enumerate-map, flat_map-enumerate, length_joined, position_within}
-use Rattle.member_trees.proofs.Fronts.{few_appearances, below_none, fronts_above}
+use Rattle.member_trees.proofs.Lists.{Each-all, Each-weaker, Each-map, Each-enumerate, map_same, flat_map_same, enumerate-map, flat_map-enumerate, length_joined}
+use Rattle.member_trees.proofs.Fronts.{below_none, fronts_above}
 use Rattle.member_trees.proofs.Order.{IsFront, order_known, order_few, order_end, children_below}
 
 -- a path one level below a depth, under the parent at a place
@@ -183,6 +184,6 @@ members_count leaves d = length-map (fronts leaves (suc d)) (λ q. (number_in (f
 pub members_few : (leaves : List (List ℕ)) (d : ℕ) → length (members_below leaves d) ≤ length leaves
 members_few leaves d =
     let a = members_count leaves d in
-    let b = few_appearances (map (take (suc d)) leaves) in
+    let b = appearances_le (map (take (suc d)) leaves) in
     let c : length (map (take (suc d)) leaves) ≡ length leaves = length-map leaves (take (suc d)) in
     omega (arith, a, b, c)

@@ -2,11 +2,12 @@
 -- below them begin.
 use Rattle.std.proofs.Common.{◌≡◌, refl, sym, ◌∙◌, ap, ℕ, suc, ◌+◌, ◌<◌, List, [], ◌∷◌, ◌++◌, length, map, get_or, flat_map, All, arith, append_assoc}
 use Rattle.std.specs.List.{enumerate_from}
-use Rattle.std.proofs.lemmas.List.{length-map, map-append, get_or-map, get_or_at, length_push}
+use Rattle.std.proofs.lemmas.List.{length-map, get_or-map, get_or_at, length_push}
 use Rattle.std.proofs.lemmas.List.FromFn.{length-enumerate_from, get_or-enumerate_from}
 use Rattle.std.proofs.lemmas.List.Elements.{All-head, All-tail, All-nil, All-cons, All-append, All-weaker, All-map}
 use Rattle.member_trees.specs.declared.node.Node.{Node}
 use Rattle.olap_meaning.specs.Catalog.{at_depth, below}
+use Rattle.olap_meaning.proofs.Lists.{flat_map_agree, map-flat_map}
 use Rattle.member_trees.specs.Nodes.{last_value, places_below, first_below, nodes_below}
 use Rattle.member_trees.specs.Spans.{values, firsts}
 use Rattle.member_trees.proofs.Below.{shape}
@@ -20,25 +21,17 @@ pub map-map : {A B C : Type 0} (f : A → B) (g : B → C) (xs : List A) → map
 map-map f g [] = refl
 map-map f g (x ∷ xs) = ap (λ ys. g (f x) ∷ ys) (map-map f g xs)
 
-map-flat : {A B C : Type 0} (f : B → C) (g : A → List B) (xs : List A) → map f (flat_map g xs) ≡ flat_map (λ x. map f (g x)) xs
-map-flat f g [] = refl
-map-flat f g (x ∷ xs) = map-append f (g x) (flat_map g xs) ∙ ap (λ ys. map f (g x) ++ ys) (map-flat f g xs)
-
 flat-items : {A B : Type 0} (f : A → List B) (n : ℕ) (xs : List A) → flat_map (λ (one : ℕ × A). f one.1) (enumerate_from n xs) ≡ flat_map f xs
 flat-items f n [] = refl
 flat-items f n (x ∷ xs) = ap (λ ys. f x ++ ys) (flat-items f (n + 1) xs)
 
-flat-same : {A B : Type 0} (f g : A → List B) → ((x : A) → f x ≡ g x) → (xs : List A) → flat_map f xs ≡ flat_map g xs
-flat-same f g same [] = refl
-flat-same f g same (x ∷ xs) = ap (λ ys. ys ++ flat_map f xs) (same x) ∙ ap (λ ys. g x ++ ys) (flat-same f g same xs)
-
 -- of the places below, the values
 places-values : (leaves : List (List ℕ)) (depth : ℕ) → map (λ (one : ℕ × ℕ). one.1) (places_below leaves depth) ≡ map last_value (at_depth leaves (suc depth))
 places-values leaves depth =
-    map-flat (λ (one : ℕ × ℕ). one.1) (λ (parent : ℕ × List ℕ). map (λ path. (parent.0, last_value path)) (below leaves parent.1)) (enumerate_from 0 (at_depth leaves depth))
-    ∙ flat-same (λ (parent : ℕ × List ℕ). map (λ (one : ℕ × ℕ). one.1) (map (λ path. (parent.0, last_value path)) (below leaves parent.1))) (λ (parent : ℕ × List ℕ). map last_value (below leaves parent.1)) (λ parent. map-map (λ path. (parent.0, last_value path)) (λ (one : ℕ × ℕ). one.1) (below leaves parent.1)) (enumerate_from 0 (at_depth leaves depth))
+    map-flat_map (λ (one : ℕ × ℕ). one.1) (λ (parent : ℕ × List ℕ). map (λ path. (parent.0, last_value path)) (below leaves parent.1)) (enumerate_from 0 (at_depth leaves depth))
+    ∙ flat_map_agree (λ (parent : ℕ × List ℕ). map (λ (one : ℕ × ℕ). one.1) (map (λ path. (parent.0, last_value path)) (below leaves parent.1))) (λ (parent : ℕ × List ℕ). map last_value (below leaves parent.1)) (λ parent. map-map (λ path. (parent.0, last_value path)) (λ (one : ℕ × ℕ). one.1) (below leaves parent.1)) (enumerate_from 0 (at_depth leaves depth))
     ∙ flat-items (λ path. map last_value (below leaves path)) 0 (at_depth leaves depth)
-    ∙ sym (map-flat last_value (below leaves) (at_depth leaves depth))
+    ∙ sym (map-flat_map last_value (below leaves) (at_depth leaves depth))
 
 -- a row has the last values of its depth's paths
 pub values-are : (leaves : List (List ℕ)) (depth : ℕ) → values (nodes_below leaves depth) ≡ map last_value (at_depth leaves (suc depth))
@@ -86,8 +79,8 @@ pub by-parents : (leaves : List (List ℕ)) (depth : ℕ) → map (λ (node : No
 by-parents leaves depth =
     map-map node (λ (one : Node). get_or above one.parent [] ++ one.value ∷ []) (enumerate_from 0 (places_below leaves depth))
     ∙ map-items (λ (one : ℕ × ℕ). get_or above one.0 [] ++ one.1 ∷ []) 0 (places_below leaves depth)
-    ∙ map-flat (λ (one : ℕ × ℕ). get_or above one.0 [] ++ one.1 ∷ []) (λ (parent : ℕ × List ℕ). map (λ path. (parent.0, last_value path)) (below leaves parent.1)) (enumerate_from 0 above)
-    ∙ flat-same (λ (parent : ℕ × List ℕ). map (λ (one : ℕ × ℕ). get_or above one.0 [] ++ one.1 ∷ []) (map (λ path. (parent.0, last_value path)) (below leaves parent.1))) (λ (parent : ℕ × List ℕ). map (λ path. get_or above parent.0 [] ++ last_value path ∷ []) (below leaves parent.1)) (λ parent. map-map (λ path. (parent.0, last_value path)) (λ (one : ℕ × ℕ). get_or above one.0 [] ++ one.1 ∷ []) (below leaves parent.1)) (enumerate_from 0 above)
+    ∙ map-flat_map (λ (one : ℕ × ℕ). get_or above one.0 [] ++ one.1 ∷ []) (λ (parent : ℕ × List ℕ). map (λ path. (parent.0, last_value path)) (below leaves parent.1)) (enumerate_from 0 above)
+    ∙ flat_map_agree (λ (parent : ℕ × List ℕ). map (λ (one : ℕ × ℕ). get_or above one.0 [] ++ one.1 ∷ []) (map (λ path. (parent.0, last_value path)) (below leaves parent.1))) (λ (parent : ℕ × List ℕ). map (λ path. get_or above parent.0 [] ++ last_value path ∷ []) (below leaves parent.1)) (λ parent. map-map (λ path. (parent.0, last_value path)) (λ (one : ℕ × ℕ). get_or above one.0 [] ++ one.1 ∷ []) (below leaves parent.1)) (enumerate_from 0 above)
     ∙ rebuilt leaves above [] above 0 refl refl
   where
     above : List (List ℕ)

@@ -32,7 +32,7 @@ impl Model for TreeBuilder {
 }
 
 impl TreeBuilder {
-    /// The tree of no leaf, of so many levels.
+    /// The tree of no leaf, of this many levels.
     pub fn new(alloc: Global, levels: u32) -> Result<TreeBuilder, OutOfMemory>
         requires { levels ≤ LEVEL_LIMIT }
         ensures { IfOk result (λ b. b ≡ record { levels = levels; leaves = [] }) }
@@ -75,7 +75,7 @@ impl TreeBuilder {
     }
 }
 
-/// So many levels with no member.
+/// This many levels with no member.
 fn empty_levels(alloc: Global, count: u32) -> Result<Vec<Level>, OutOfMemory>
     ensures { IfOk result (λ levels. levels.items ≡ replicate count []) }
 {

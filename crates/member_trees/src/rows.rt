@@ -19,7 +19,7 @@ pub(crate) struct Placed {
     value: u32,
 }
 
-/// So many empty lists.
+/// This many empty lists.
 fn empty_lists(alloc: Global, count: usize) -> Result<Vec<List<(u32, u32)>>, OutOfMemory>
     ensures { IfOk result (λ lists. lists.items ≡ replicate count []) }
 {

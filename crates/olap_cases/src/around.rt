@@ -20,7 +20,7 @@ pub(crate) struct Limits {
     pub write: Option<u64>,
 }
 
-/// The limits of a case, where one read gives so many bytes at most, 0 for no limit.
+/// The limits of a case, where one read gives this many bytes at most, 0 for no limit.
 pub(crate) fn limits_of(object: &Value, most: u64) -> Result<Limits> {
     Ok(Limits {
         most: if most == 0 { None } else { Some(most as usize) },
@@ -120,7 +120,7 @@ fn source(alloc: Global, bytes: Vec<u8>, limits: Limits) -> Result<MemorySource,
 // The most bytes that a sink takes for which no number is given: more than any case writes.
 const ROOM: usize = 1_000_000;
 
-// A sink with room for so many bytes, where a number is given.
+// A sink with room for this many bytes, where a number is given.
 fn sink(alloc: Global, limits: Limits) -> Result<MemorySink, OutOfMemory> {
     let room = match limits.room {
         Some(room) => (room as usize).min(ROOM),

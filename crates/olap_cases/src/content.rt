@@ -1,7 +1,7 @@
 //! The bytes that a case file says.
 //!
-//! A content is a text, or a list of parts one behind the other. A part is a text, the bytes of a file beside the case
-//! file, `{"file": NAME}`, or a block, `{"times": N, "of": [ITEM ..]}`: its items one behind the other, so many times. An
+//! A content is a text, or a list of parts one after the other. A part is a text, the bytes of a file beside the case
+//! file, `{"file": NAME}`, or a block, `{"times": N, "of": [ITEM ..]}`: its items one after the other, this many times. An
 //! item is a text, or `{"from": A, "count": C}`: a number that counts from A on, C numbers again and again. With
 //! `"old": TEXT, "new": TEXT` beside the name of a file, the first OLD in it is exchanged.
 //!
@@ -26,7 +26,7 @@ fn digit(byte: u8) -> Option<u8>
     }
 }
 
-// Adds what stands behind a mark: the byte of two digits, and then a text.
+// Adds what stands after a mark: the byte of two digits, and then a text.
 fn add_marked(bytes: &mut Vec<u8>, piece: &[u8]) -> Result<()> {
     let [high, low, rest @ ..] = piece else {
         bail!("two digits are wanted");
@@ -92,7 +92,7 @@ fn items_of<'a>(alloc: Global, list: &'a [Value]) -> Result<Vec<Item<'a>>> {
     Ok(items)
 }
 
-// Adds items one behind the other, so many times.
+// Adds items one after the other, this many times.
 fn add_items(alloc: Global, bytes: &mut Vec<u8>, items: &[Item<'_>], times: u64) -> Result<()> {
     for time in 0..times {
         for item in items {

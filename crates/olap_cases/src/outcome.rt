@@ -3,7 +3,7 @@ use history_core::{Entry, History};
 use olap_meaning::{CubeId, Version};
 use olap_server::Ended;
 
-/// How a run ended. Where a cache was opened, its history has so many entries, and the versions of its Starts have so
+/// How a run ended. Where a cache was opened, its history has this many entries, and the versions of its Starts have so
 /// many rows.
 #[derive(Clone, Copy, PartialEq, Eq)]
 pub(crate) struct Outcome {

@@ -56,7 +56,7 @@ fn difference_over(
     compared(rt, case.object, outcome, link.link().output().taken())
 }
 
-// Carries a case out, where one read gives so many bytes at most, and says what differs.
+// Carries a case out, where one read gives this many bytes at most, and says what differs.
 fn difference_at(
     rt: &(impl Files + AllocGlobal + Threads + Sync),
     tools: &Tools,

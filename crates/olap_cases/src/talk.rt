@@ -1,5 +1,5 @@
 //! What passes of a run at whose link one call fails, held against the plain definition of a conversation: nothing is waited
-//! for before all replies to the lines that came are sent, nothing is sent that is not due, and nothing passes behind the end.
+//! for before all replies to the lines that came are sent, nothing is sent that is not due, and nothing passes after the end.
 use crate::around::{Limits, depot, link};
 use crate::case::Case;
 use crate::content::bytes_of;
@@ -49,7 +49,7 @@ pub(crate) fn turns_of(rt: &(impl Files + AllocGlobal), script: &Value) -> Resul
     Ok(turns)
 }
 
-// How many bytes of replies are due once so many bytes were given, and whether the session has ended by then.
+// How many bytes of replies are due once this many bytes were given, and whether the session has ended by then.
 fn due(turns: &[Turn], given: usize) -> (usize, bool) {
     let mut lines = 0_usize;
     let mut replies = 0_usize;
@@ -69,7 +69,7 @@ fn may_wait(turns: &[Turn], heard: &Heard) -> bool {
     heard.taken == replies && !ended && !heard.failed
 }
 
-// Whether an event may come after what was heard. Behind a failed receive stands the line of the status, behind a failed send
+// Whether an event may come after what was heard. After a failed receive stands the line of the status, after a failed send
 // nothing.
 fn may_come(turns: &[Turn], heard: &Heard, event: Passed) -> bool {
     match event {

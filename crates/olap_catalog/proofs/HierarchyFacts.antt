@@ -1,5 +1,6 @@
 -- What a catalog's parts say of its hierarchies.
-use Rattle.std.proofs.Common.{◌≡◌, ◌∙◌, ℕ, Bool, true, List, [], ◌∷◌, Some, refl, ap, slice_get, length, nat_lt, nat_eq, arith}
+use Rattle.std.proofs.Common.{◌≡◌, ◌∙◌, ℕ, true, Some, ap, slice_get, length, nat_lt, nat_eq, arith}
+use Rattle.std.proofs.lemmas.Bool.{and_parts}
 use Rattle.std.specs.List.{list_all}
 use Rattle.std.specs.Option.{option_map_or}
 use Rattle.std.proofs.lemmas.Bool.Decides.{nat_tests}
@@ -9,15 +10,11 @@ use Rattle.olap_meaning.specs.declared.tables.Hierarchy.{Hierarchy}
 use Rattle.olap_meaning.specs.declared.tables.Catalog.{Catalog}
 use Rattle.olap_meaning.specs.Catalog.{records}
 use Rattle.olap_meaning.proofs.Loads.{some_and}
+use Rattle.olap_meaning.proofs.Lists.{all_weaker, passes_at}
 use Rattle.olap_catalog.specs.Parts.{is_level, has_levels}
 use Rattle.olap_catalog.specs.Columns.{column_leaves}
 use Rattle.olap_catalog.specs.Members.{is_there, HasLevels}
 use Rattle.olap_catalog.proofs.PartFacts.{both}
-use Rattle.olap_catalog.proofs.ValueFacts.{all_at, and_both}
-
-pub all_weaker : {A : Type 0} (p q : A → Bool) (xs : List A) → ((x : A) → p x ≡ true → q x ≡ true) → list_all p xs ≡ true → list_all q xs ≡ true
-all_weaker p q [] weaker all = refl
-all_weaker p q (x ∷ xs) weaker all = let h = and_both (p x) (list_all p xs) all in both _ _ true true (weaker x h.0) (all_weaker p q xs weaker h.1)
 
 -- each level of a hierarchy has a value for each leaf
 pub levels_hold : (catalog : Catalog) (hierarchy : Hierarchy) → has_levels catalog.columns hierarchy ≡ true → HasLevels catalog hierarchy
@@ -39,4 +36,4 @@ levels_hold catalog hierarchy own leaf within =
         both _ _ true true (grind (arith, nat_tests)) (leaf_lt (column_leaves catalog c) count)
 
 pub levels_there : (catalog : Catalog) (h : ℕ) (hierarchy : Hierarchy) → list_all (has_levels catalog.columns) catalog.hierarchies ≡ true → slice_get catalog.hierarchies h ≡ Some hierarchy → HasLevels catalog hierarchy
-levels_there catalog h hierarchy all at = levels_hold catalog hierarchy (all_at (has_levels catalog.columns) catalog.hierarchies h hierarchy all at)
+levels_there catalog h hierarchy all at = levels_hold catalog hierarchy (passes_at (has_levels catalog.columns) catalog.hierarchies h hierarchy all at)

@@ -1,5 +1,5 @@
 -- The columns of a schema's dimensions, one hierarchy after another.
-use Rattle.std.proofs.Common.{min, length-drop, ◌≡◌, ◌∙◌, ◌+◌, ◌<◌, ◌≤◌, ◌++◌, ℕ, suc, List, [], ◌∷◌, refl, sym, ap, drop, length, flat_map, get_or, arith, add-one, drop-cons}
+use Rattle.std.proofs.Common.{min, length-drop, ◌≡◌, ◌∙◌, ◌+◌, ◌<◌, ◌≤◌, ◌++◌, ℕ, suc, List, [], ◌∷◌, refl, sym, ap, drop, length, flat_map, get_or, arith}
 use Rattle.std.specs.List.{zip}
 use Rattle.std.proofs.lemmas.List.{append-nil, append_assoc, length-append}
 use Rattle.olap_meaning.specs.declared.schema.SchemaDimension.{SchemaDimension}
@@ -8,16 +8,14 @@ use Rattle.olap_meaning.specs.declared.schema.SchemaLevel.{SchemaLevel}
 use Rattle.olap_meaning.specs.declared.tables.Column.{Column}
 use Rattle.olap_meaning.specs.declared.tables.Hierarchy.{Hierarchy}
 use Rattle.olap_meaning.specs.Schema.{columns_from, all_columns, levels_of, hierarchies_from, numbers_from, all_name}
+use Rattle.olap_meaning.proofs.Lists.{drop_step}
 
 plus_one : (n : ℕ) → n + 1 ≡ suc n
 plus_one n = omega arith
 
-pub drop_here : {A : Type 0} (xs : List A) (i : ℕ) (x : A) → i < length xs → x ≡ get_or xs i x → drop i xs ≡ x ∷ drop (i + 1) xs
-drop_here xs i x within at = rw add-one (drop-cons xs i x within ∙ ap (λ y. y ∷ drop (suc i) xs) (sym at))
-
 -- what a list's items give, from one on
 pub flat_here : {A B : Type 0} (f : A → List B) (xs : List A) (i : ℕ) (x : A) → i < length xs → x ≡ get_or xs i x → flat_map f (drop i xs) ≡ f x ++ flat_map f (drop (i + 1) xs)
-flat_here f xs i x within at = ap (flat_map f) (drop_here xs i x within at)
+flat_here f xs i x within at = ap (flat_map f) (drop_step xs i x within at)
 
 pub flat_length : {A B : Type 0} (f : A → List B) (xs : List A) (i : ℕ) (x : A) → i < length xs → x ≡ get_or xs i x → length (flat_map f (drop i xs)) ≡ length (f x) + length (flat_map f (drop (i + 1) xs))
 flat_length f xs i x within at = ap length (flat_here f xs i x within at) ∙ length-append (f x) (flat_map f (drop (i + 1) xs))
@@ -55,7 +53,7 @@ schema_step columns after whole ds i d within at rest added =
     ap (λ xs. xs ++ all_columns (i + 1) (drop (i + 1) ds)) added
     ∙ append_assoc columns (columns_from i 0 (levels_of d)) (all_columns (i + 1) (drop (i + 1) ds))
     ∙ ap (λ n. columns ++ (columns_from i 0 (levels_of d) ++ all_columns n (drop (i + 1) ds))) (plus_one i)
-    ∙ ap (λ xs. columns ++ all_columns i xs) (sym (drop_here ds i d within at))
+    ∙ ap (λ xs. columns ++ all_columns i xs) (sym (drop_step ds i d within at))
     ∙ rest
 
 -- one hierarchy more of those of a dimension
@@ -68,7 +66,7 @@ hierarchies_step built after whole d column count hs i h within at rest added co
     ap (λ xs. xs ++ hierarchies_from d (column + count) later) added
     ∙ ap (λ n. (built ++ own ∷ []) ++ hierarchies_from d (column + n) later) counted
     ∙ append_assoc built (own ∷ []) (hierarchies_from d (column + length h.levels) later)
-    ∙ ap (λ xs. built ++ hierarchies_from d column xs) (sym (drop_here hs i h within at))
+    ∙ ap (λ xs. built ++ hierarchies_from d column xs) (sym (drop_step hs i h within at))
     ∙ rest
 
 -- the room that is left after one item more
@@ -81,7 +79,7 @@ pub zip_step : {A B : Type 0} (pairs after : List (A × B)) (whole : List (A × 
     → after ≡ pairs ++ (x, y) ∷ [] → pairs ++ zip (drop i xs) (drop i ys) ≡ whole → after ++ zip (drop (i + 1) xs) (drop (i + 1) ys) ≡ whole
 zip_step pairs after whole xs ys i x y in_xs in_ys at_x at_y added rest =
     ap (λ ps. ps ++ zip (drop (i + 1) xs) (drop (i + 1) ys)) added ∙ append_assoc pairs ((x, y) ∷ []) (zip (drop (i + 1) xs) (drop (i + 1) ys))
-    ∙ ap (λ zs. pairs ++ zip zs (y ∷ drop (i + 1) ys)) (sym (drop_here xs i x in_xs at_x)) ∙ ap (λ zs. pairs ++ zip (drop i xs) zs) (sym (drop_here ys i y in_ys at_y)) ∙ rest
+    ∙ ap (λ zs. pairs ++ zip zs (y ∷ drop (i + 1) ys)) (sym (drop_step xs i x in_xs at_x)) ∙ ap (λ zs. pairs ++ zip (drop i xs) zs) (sym (drop_step ys i y in_ys at_y)) ∙ rest
 
 -- no pair is left past the shorter of them
 pub zip_end : {A B : Type 0} (pairs whole : List (A × B)) (xs : List A) (ys : List B) (i : ℕ) → min (length xs) (length ys) ≤ i → pairs ++ zip (drop i xs) (drop i ys) ≡ whole → pairs ≡ whole

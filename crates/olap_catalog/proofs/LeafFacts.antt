@@ -13,8 +13,8 @@ use Rattle.olap_meaning.specs.declared.schema.Schema.{Schema}
 use Rattle.olap_meaning.specs.Catalog.{first_appearances, leaf_value, records, values}
 use Rattle.olap_meaning.specs.History.{is_some_and}
 use Rattle.olap_meaning.proofs.Appearances.{any-same}
+use Rattle.olap_meaning.proofs.Lists.{placed}
 use Rattle.catalog_tables.specs.Tables.{TableOf, have_fields, number_of}
-use Rattle.member_trees.proofs.Lists.{position_within as place_within}
 use Rattle.olap_catalog.specs.Columns.{column_leaves, column_texts}
 use Rattle.olap_catalog.specs.Parts.{is_column, plain}
 use Rattle.olap_catalog.proofs.ValueFacts.{column_known, leaf_is, leaves_are, value_within}
@@ -30,7 +30,7 @@ member_found (t ∷ ts) (suc i) text at =
 number_known : (texts : List (List ℕ)) (i : ℕ) (text : List ℕ) → slice_get texts i ≡ Some text → (n : ℕ) × (number_of texts text ≡ Some n)
 number_known texts i text at =
     let found = any-same (bytes_eq text) texts ∙ member_found texts i text at in
-    let within = place_within (bytes_eq text) (first_appearances texts) found in
+    let within = placed (bytes_eq text) (first_appearances texts) found in
     (position_or_len (bytes_eq text) (first_appearances texts), ap (λ (b : Bool). if b then Some (position_or_len (bytes_eq text) (first_appearances texts)) else None) (lt-ltb (position_or_len (bytes_eq text) (first_appearances texts)) (length (first_appearances texts)) within))
 
 known_column : (catalog : Catalog) (column leaf : ℕ) → leaf < column_leaves catalog column → column < length catalog.columns

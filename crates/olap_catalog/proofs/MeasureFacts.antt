@@ -12,14 +12,13 @@ use Rattle.olap_meaning.specs.declared.tables.Measure.{Measure}
 use Rattle.olap_meaning.specs.declared.cells.Member.TheVariants as member
 use Rattle.olap_meaning.specs.declared.cells.LevelRef.TheVariants.{Measures}
 use Rattle.olap_meaning.specs.Catalog.{named_below, children, measure_members, and_then, member_name, match_of}
+use Rattle.olap_meaning.proofs.Lists.{drop_step, passes_at}
 use Rattle.olap_catalog.specs.declared.fault.NameFault.{NameFault}
 use Rattle.olap_catalog.specs.declared.fault.NameFault.TheVariants.{UnknownMember, OutOfMemory}
 use Rattle.olap_catalog.specs.Parts.{has_few_measures}
 use Rattle.olap_catalog.specs.Roots.{measure_names}
 use Rattle.olap_catalog.specs.Members.{or_fault, from_root_or_fault}
-use Rattle.olap_catalog.proofs.LayoutFacts.{drop_here}
 use Rattle.olap_catalog.proofs.PartFacts.{item_behind, length_snoc}
-use Rattle.olap_catalog.proofs.ValueFacts.{all_at}
 use Rattle.olap_catalog.proofs.WalkFacts.{drop_past}
 
 -- a cube's names of measures, as a catalog keeps them
@@ -85,7 +84,7 @@ names_are catalog cube names has =
 
 start : (catalog : Catalog) (cube : ℕ) (path : List (List ℕ)) (name : List ℕ) → 0 < length path → name ≡ get_or path 0 name
     → from_root_or_fault catalog cube Measures path ≡ or_fault (and_then (named_below catalog cube (drop 1 path) (measure_members catalog cube)) (ok_or (slice_get (measure_members catalog cube) 0) name))
-start catalog cube path name some at = ap (from_root_or_fault catalog cube Measures) (drop_here path 0 name some at)
+start catalog cube path name some at = ap (from_root_or_fault catalog cube Measures) (drop_step path 0 name some at)
 
 pub without_measures : (catalog : Catalog) (cube : ℕ) (path : List (List ℕ)) (name : List ℕ) (fault : NameFault) (names : List (List ℕ)) (has : HasMeasures catalog cube names) → 0 < length path → name ≡ get_or path 0 name → nat_eq (length names) 0 ≡ true
     → (fault ≡ OutOfMemory) ⊎ (fault ≡ UnknownMember name) → (fault ≡ OutOfMemory) ⊎ (from_root_or_fault catalog cube Measures path ≡ Err fault)
@@ -129,7 +128,7 @@ second : (catalog : Catalog) (cube : ℕ) (path : List (List ℕ)) (name : List 
     → from_root_or_fault catalog cube Measures path ≡ or_fault (and_then (λ next. named_below catalog cube (drop 2 path) (children catalog next) next) (ok_or (option_and_then (slice_get (measure_members catalog cube)) found) name))
 second catalog cube path name names has found filled within at is =
     begun catalog cube path names has (omega arith) filled
-    ∙ ap (λ ns. or_fault (named_below catalog cube ns (measure_members catalog cube) (member.Measure 0))) (drop_here path 1 name within at)
+    ∙ ap (λ ns. or_fault (named_below catalog cube ns (measure_members catalog cube) (member.Measure 0))) (drop_step path 1 name within at)
     ∙ ap (λ ns. or_fault (and_then (λ next. named_below catalog cube (drop 2 path) (children catalog next) next) (ok_or (option_and_then (slice_get (measure_members catalog cube)) (match_of name ns)) name))) (names_are catalog cube names has)
     ∙ ap (λ o. or_fault (and_then (λ next. named_below catalog cube (drop 2 path) (children catalog next) next) (ok_or (option_and_then (slice_get (measure_members catalog cube)) o) name))) (sym is)
 
@@ -156,13 +155,13 @@ pub below_measure : (catalog : Catalog) (cube : ℕ) (path : List (List ℕ)) (n
     → found ≡ match_of name names → found ≡ Some i → i < length names → 2 < length path → last ≡ get_or path 2 last → (fault ≡ OutOfMemory) ⊎ (fault ≡ UnknownMember last) → (fault ≡ OutOfMemory) ⊎ (from_root_or_fault catalog cube Measures path ≡ Err fault)
 below_measure catalog cube path name last fault names has found i filled at is there inside long last_at (inl memory) = inl memory
 below_measure catalog cube path name last fault names has found i filled at is there inside long last_at (inr unknown) =
-    inr (third catalog cube path name names has found i filled (omega arith) at is there inside ∙ ap (λ ns. or_fault (named_below catalog cube ns [] (member.Measure i))) (drop_here path 2 last long last_at) ∙ ap (λ f. Err f) (sym unknown))
+    inr (third catalog cube path name names has found i filled (omega arith) at is there inside ∙ ap (λ ns. or_fault (named_below catalog cube ns [] (member.Measure i))) (drop_step path 2 last long last_at) ∙ ap (λ f. Err f) (sym unknown))
 
 -- the number of a measure is one of 16 bits
 pub measure_fits : (catalog : Catalog) (cube : ℕ) (names : List (List ℕ)) (has : HasMeasures catalog cube names) (i : ℕ) → list_all has_few_measures catalog.cubes ≡ true → i < length names → i < 2 ^ 16
 measure_fits catalog cube names has i few inside =
     let count : length names ≡ length has.own.measures = ap length has.named ∙ length-map has.own.measures (λ (m : Measure). m.name) in
-    let most : length has.own.measures ≤ MEASURE_LIMIT = le (length has.own.measures) (all_at has_few_measures catalog.cubes cube has.own few has.at) in
+    let most : length has.own.measures ≤ MEASURE_LIMIT = le (length has.own.measures) (passes_at has_few_measures catalog.cubes cube has.own few has.at) in
     omega arith
   where
     le : (n : ℕ) → nat_le n MEASURE_LIMIT ≡ true → n ≤ MEASURE_LIMIT

@@ -1,5 +1,6 @@
 -- The children of a path, by the nodes of its hierarchy's tree.
 use Rattle.std.proofs.Common.{◌≡◌, ◌∙◌, ◌<◌, ◌++◌, ℕ, true, List, [], ◌∷◌, Option, Some, None, All, refl, sym, ap, subst, map, option_map, option_and_then, unwrap_or, slice_get, length, get_or, nat_lt, arith}
+use Rattle.std.proofs.lemmas.Bool.{and_parts}
 use Rattle.std.specs.List.{AllByRecursion as Each}
 use Rattle.std.specs.Option.{option_map_or}
 use Rattle.std.proofs.lemmas.Bool.Decides.{nat_tests}
@@ -18,7 +19,6 @@ use Rattle.olap_catalog.specs.Members.{child_text, child_values}
 use Rattle.olap_catalog.specs.Parts.{tree_of}
 use Rattle.olap_catalog.proofs.OwnFacts.{IsWhole, children_own, each_all}
 use Rattle.olap_catalog.proofs.TreeFacts.{with_tree}
-use Rattle.olap_catalog.proofs.ValueFacts.{and_both}
 
 -- the paths of some nodes below a path
 abbrev pub paths_of : List ℕ → List Node → List (List ℕ)
@@ -64,13 +64,13 @@ path_within : (catalog : Catalog) (levels path : List ℕ) (v : ℕ) → is_path
 path_within catalog [] [] v own = absurd (cc own)
 path_within catalog [] (x ∷ xs) v own = absurd (cc own)
 path_within catalog (c ∷ levels) [] v own =
-    let parts = and_both (nat_lt v (length (values catalog c))) true own in
+    let parts = and_parts (nat_lt v (length (values catalog c))) true own in
     (omega arith, λ (column : ℕ) at. let same : c ≡ column = cc at in subst (λ k. v < length (values catalog k)) same (less (length (values catalog c)) parts.0))
   where
     less : (n : ℕ) → nat_lt v n ≡ true → v < n
     less n e = grind (arith, nat_tests)
 path_within catalog (c ∷ levels) (x ∷ xs) v own =
-    let rest = path_within catalog levels xs v (and_both (nat_lt x (length (values catalog c))) (is_path catalog levels (xs ++ v ∷ [])) own).1 in
+    let rest = path_within catalog levels xs v (and_parts (nat_lt x (length (values catalog c))) (is_path catalog levels (xs ++ v ∷ [])) own).1 in
     let within = rest.0 in
     (omega (arith, within), rest.1)
 

@@ -1,5 +1,6 @@
 -- No name in a catalog is empty, where its schema is whole and no field of its tables is empty.
-use Rattle.std.proofs.Common.{◌≡◌, ◌≢◌, ◌∙◌, ◌+◌, ◌<◌, ◌||◌, ◌++◌, ℕ, zero, suc, Bool, true, false, not, List, [], ◌∷◌, Option, Some, None, refl, sym, ap, subst, map, filter, option_and_then, slice_get, length, cond, codes, bytes_eq, arith, if◌then◌else◌}
+use Rattle.std.proofs.Common.{◌≡◌, ◌≢◌, ◌∙◌, ◌+◌, ◌<◌, ◌||◌, ◌++◌, ℕ, zero, suc, Bool, true, false, not, List, [], ◌∷◌, Option, Some, None, refl, sym, ap, subst, map, option_and_then, slice_get, length, codes, bytes_eq, arith, if◌then◌else◌}
+use Rattle.std.proofs.lemmas.Bool.{and_parts}
 use Rattle.std.specs.List.{list_all, list_any, cons_option, AllByRecursion as Each}
 use Rattle.std.specs.Option.{option_map_or}
 use Rattle.std.proofs.lemmas.List.Elements.{recursion_from_All}
@@ -18,29 +19,19 @@ use Rattle.olap_meaning.specs.FullNames.{joined_name}
 use Rattle.olap_meaning.specs.Records.{is_null}
 use Rattle.olap_meaning.specs.Schema.{all_hierarchies, all_name, cube_over, hierarchies_from, levels_of}
 use Rattle.olap_meaning.specs.Whole.{IsNamedCube, IsNamedDimension, IsNamedHierarchy}
+use Rattle.olap_meaning.proofs.Lists.{passes_at}
 use Rattle.catalog_tables.specs.Tables.{TableOf, are_filled}
 use Rattle.member_trees.specs.Trees.{TreeOf}
+use Rattle.member_trees.proofs.Lists.{Each-append, Each-filter}
 use Rattle.olap_catalog.specs.Named.{HasNames}
 use Rattle.olap_catalog.specs.Parts.{AreParts, Names, plain}
 use Rattle.olap_catalog.proofs.RootFacts.{full_names_same}
-use Rattle.olap_catalog.proofs.ValueFacts.{all_at, and_both, records_here, records_none}
+use Rattle.olap_catalog.proofs.ValueFacts.{records_here, records_none}
 
 each_at : {A : Type 0} (P : A → Type 0) (xs : List A) (i : ℕ) (x : A) → Each P xs → slice_get xs i ≡ Some x → P x
 each_at P [] i x each at = absurd (cc at)
 each_at P (y ∷ ys) zero x each at = let same : y ≡ x = cc at in subst P same each.0
 each_at P (y ∷ ys) (suc i) x each at = each_at P ys i x each.1 at
-
-each_append : {A : Type 0} (P : A → Type 0) (xs ys : List A) → Each P xs → Each P ys → Each P (xs ++ ys)
-each_append P [] ys each more = more
-each_append P (x ∷ xs) ys each more = (each.0, each_append P xs ys each.1 more)
-
-each_filter : {A : Type 0} (P : A → Type 0) (p : A → Bool) (xs : List A) → Each P xs → Each P (filter p xs)
-each_filter P p [] each = tt
-each_filter P p (x ∷ xs) each = by (p x) (each_filter P p xs each.1)
-  where
-    by : (b : Bool) → Each P (filter p xs) → Each P (cond b (x ∷ filter p xs) (filter p xs))
-    by true rest = (each.0, rest)
-    by false rest = rest
 
 -- a text of these is not empty
 abbrev Full : List ℕ → Type 0
@@ -62,7 +53,7 @@ full_fields (x ∷ xs) h = let parts = not_or (is_null x) (list_any is_null xs) 
 full_texts : (field : ℕ) (rs : List Record) → are_filled rs ≡ true → Each Full (field_texts field rs)
 full_texts field [] h = tt
 full_texts field (r ∷ rs) h =
-    let parts : (not (list_any is_null r.fields) ≡ true) × (are_filled rs ≡ true) = and_both (not (list_any is_null r.fields)) (are_filled rs) h in
+    let parts : (not (list_any is_null r.fields) ≡ true) × (are_filled rs ≡ true) = and_parts (not (list_any is_null r.fields)) (are_filled rs) h in
     by (full_fields r.fields parts.0) (slice_get r.fields field) refl (full_texts field rs parts.1)
   where
     by : Each Full r.fields → (o : Option (List ℕ)) → slice_get r.fields field ≡ o → Each Full (field_texts field rs) → Each Full (cons_option o (field_texts field rs))
@@ -71,7 +62,7 @@ full_texts field (r ∷ rs) h =
 
 full_values : (texts : List (List ℕ)) → Each Full texts → Each Full (first_appearances texts)
 full_values [] each = tt
-full_values (x ∷ xs) each = (each.0, each_filter Full (λ other. not (bytes_eq x other)) (first_appearances xs) (full_values xs each.1))
+full_values (x ∷ xs) each = (each.0, Each-filter Full (λ other. not (bytes_eq x other)) (first_appearances xs) (full_values xs each.1))
 
 -- the records of each dimension are filled
 filled_records : (schema : Schema) (tables : List TableOf) (columns : List Column) (hierarchies : List Hierarchy) (cubes : List Cube) (d : ℕ) → length tables ≡ length schema.dimensions → list_all (λ t. are_filled t.records) tables ≡ true
@@ -80,7 +71,7 @@ filled_records schema tables columns hierarchies cubes d paired filled = by (sli
   where
     by : (o : Option TableOf) → slice_get tables d ≡ o → are_filled (records (plain schema tables columns hierarchies cubes) d) ≡ true
     by None at = ap are_filled (records_none schema tables columns hierarchies cubes d at)
-    by (Some t) at = ap are_filled (records_here schema tables columns hierarchies cubes d t paired at) ∙ all_at (λ (x : TableOf). are_filled x.records) tables d t filled at
+    by (Some t) at = ap are_filled (records_here schema tables columns hierarchies cubes d t paired at) ∙ passes_at (λ (x : TableOf). are_filled x.records) tables d t filled at
 
 -- no name of a hierarchy of a catalog is empty: its own, and its all member's
 record HasOwnNames (hierarchy : Hierarchy) : Type 0 where
@@ -101,7 +92,7 @@ full_some d column (h ∷ hs) each = (record { own = each.0.own; all_member = fu
 full_hierarchies : (place column : ℕ) (ds : List SchemaDimension) → Each IsNamedDimension ds → Each HasOwnNames (all_hierarchies place column ds)
 full_hierarchies place column [] each = tt
 full_hierarchies place column (d ∷ ds) each =
-    each_append HasOwnNames (hierarchies_from place column d.hierarchies) (all_hierarchies (suc place) (column + length (levels_of d)) ds)
+    Each-append HasOwnNames (hierarchies_from place column d.hierarchies) (all_hierarchies (suc place) (column + length (levels_of d)) ds)
     (full_some place column d.hierarchies (recursion_from_All IsNamedHierarchy d.hierarchies each.0.hierarchies))
     (full_hierarchies (suc place) (column + length (levels_of d)) ds each.1)
 

@@ -1,8 +1,8 @@
 -- The members that a catalog's names lead to are its own.
-use Rattle.std.proofs.Common.{All, flat_map, inl, inr, ◌≡◌, ◌∙◌, ◌+◌, ◌<◌, ◌≤◌, ◌||◌, ◌++◌, ℕ, zero, suc, Bool, true, false, List, [], ◌∷◌, Option, Some, None, Result, Ok, Err, refl, sym, ap, map, take, filter, filter_map, position, option_and_then, slice_get, length, cond, not, ok_or, nat_lt, nat_eq, bytes_eq, arith, subst}
-use Rattle.std.specs.List.{list_all, list_any, position_or_len, starts_with, enumerate_from, cons_option, AllByRecursion as Each}
+use Rattle.std.proofs.Common.{All, flat_map, inl, inr, ◌≡◌, ◌∙◌, ◌+◌, ◌<◌, ◌≤◌, ◌||◌, ℕ, zero, suc, Bool, true, false, List, [], ◌∷◌, Option, Some, None, Result, Ok, Err, refl, sym, ap, map, take, filter, filter_map, option_and_then, slice_get, length, not, ok_or, nat_lt, nat_eq, bytes_eq, arith, subst}
+use Rattle.std.specs.List.{list_all, list_any, starts_with, enumerate_from, cons_option, AllByRecursion as Each}
 use Rattle.std.specs.Option.{option_map_or, IsSome}
-use Rattle.std.proofs.lemmas.Bool.{lt-ltb}
+use Rattle.std.proofs.lemmas.Bool.{and_parts, lt-ltb}
 use Rattle.std.proofs.lemmas.List.Folds.{list_all-append}
 use Rattle.std.proofs.lemmas.Bool.Decides.{nat_tests}
 use Rattle.std.proofs.lemmas.Option.{slice_get_cases, slice_get_within}
@@ -23,12 +23,14 @@ use Rattle.olap_meaning.proofs.Appearances.{any-same}
 use Rattle.catalog_tables.specs.Tables.{TableOf, have_fields, number_of}
 use Rattle.olap_catalog.specs.Columns.{column_texts, column_leaves}
 use Rattle.member_trees.specs.Trees.{TreeOf}
+use Rattle.member_trees.proofs.Lists.{Each-append}
 use Rattle.olap_catalog.specs.Parts.{plain, is_column, has_levels, AreParts, Names}
 use Rattle.olap_meaning.specs.Catalog.{all_text}
 use Rattle.olap_catalog.specs.Members.{is_there, HasLevels, from_root_or_fault, or_fault}
 use Rattle.olap_meaning.specs.MemberOf.{IsMemberOf, is_path, measure_count}
+use Rattle.olap_meaning.proofs.Lists.{all_filter, position_there}
 use Rattle.olap_catalog.proofs.PartFacts.{both}
-use Rattle.olap_catalog.proofs.ValueFacts.{and_both, column_known, leaf_is, leaves_are, value_within}
+use Rattle.olap_catalog.proofs.ValueFacts.{column_known, leaf_is, leaves_are, value_within}
 use Rattle.olap_catalog.proofs.HierarchyFacts.{levels_there}
 
 -- a column has a value for each of its leaves
@@ -46,23 +48,12 @@ any_at (x ∷ texts) (suc i) text at = by (bytes_eq text x) (any_at texts i text
     by true rest = refl
     by false rest = rest
 
-placed : {A : Type 0} (p : A → Bool) (xs : List A) → list_any p xs ≡ true → position_or_len p xs < length xs
-placed p [] any = absurd (cc any)
-placed {A} p (x ∷ xs) any = by (p x) any (placed p xs)
-  where
-    by : (b : Bool) → (b || list_any p xs) ≡ true → (list_any p xs ≡ true → position_or_len p xs < length xs) → cond (not b) (1 + position_or_len p xs) 0 < length (x ∷ xs)
-    by true e rest = omega arith
-    by false e rest = let h = rest e in omega arith
-
-found : {A : Type 0} (p : A → Bool) (xs : List A) → list_any p xs ≡ true → (i : ℕ) × (position p xs ≡ Some i)
-found p xs any = (position_or_len p xs, ap (λ b. cond b (Some (position_or_len p xs)) None) (lt-ltb (position_or_len p xs) (length xs) (placed p xs any)))
-
 -- each text of some has a number
 numbered : (texts : List (List ℕ)) (leaf : ℕ) → leaf < length texts → (n : ℕ) × (option_and_then (number_of texts) (slice_get texts leaf) ≡ Some n)
 numbered texts leaf within =
     elim ((slice_get_cases texts leaf).1) [
       | inl here ↦
-          let place = found (bytes_eq here.0) (first_appearances texts) (any-same (bytes_eq here.0) texts ∙ any_at texts leaf here.0 here.2) in
+          let place = position_there (bytes_eq here.0) (first_appearances texts) (any-same (bytes_eq here.0) texts ∙ any_at texts leaf here.0 here.2) in
           (place.0, ap (option_and_then (number_of texts)) here.2 ∙ place.1)
       | inr past ↦ absurd (omega (arith, past.0, within))
     ]
@@ -80,8 +71,8 @@ has_values schema tables columns hierarchies cubes paired even columned column l
 leaf_path : (catalog : Catalog) (leaf : ℕ) (levels : List ℕ) → HasValues catalog → list_all (is_there catalog leaf) levels ≡ true → is_path catalog levels (filter_map (λ column. leaf_value catalog column leaf) levels) ≡ true
 leaf_path catalog leaf [] has there = refl
 leaf_path catalog leaf (c ∷ levels) has there =
-    let parts = and_both (is_there catalog leaf c) (list_all (is_there catalog leaf) levels) there in
-    let known = and_both (nat_lt c (length catalog.columns)) (nat_lt leaf (column_leaves catalog c)) parts.0 in
+    let parts = and_parts (is_there catalog leaf c) (list_all (is_there catalog leaf) levels) there in
+    let known = and_parts (nat_lt c (length catalog.columns)) (nat_lt leaf (column_leaves catalog c)) parts.0 in
     let value = has c leaf (less c (length catalog.columns) known.0) (less leaf (column_leaves catalog c) known.1) in
     let within = value_within catalog c leaf value.0 (sym value.1) in
     ap (λ o. is_path catalog (c ∷ levels) (cons_option o (filter_map (λ column. leaf_value catalog column leaf) levels))) value.1
@@ -95,27 +86,19 @@ path_take catalog levels path zero own = refl
 path_take catalog levels [] (suc n) own = refl
 path_take catalog [] (v ∷ path) (suc n) own = absurd (cc own)
 path_take catalog (c ∷ levels) (v ∷ path) (suc n) own =
-    let parts = and_both (nat_lt v (length (values catalog c))) (is_path catalog levels path) own in
+    let parts = and_parts (nat_lt v (length (values catalog c))) (is_path catalog levels path) own in
     both _ _ true true parts.0 (path_take catalog levels path n parts.1)
-
-all_filter : {A : Type 0} (p q : A → Bool) (xs : List A) → list_all p xs ≡ true → list_all p (filter q xs) ≡ true
-all_filter p q [] all = refl
-all_filter {A} p q (x ∷ xs) all = by (q x) (all_filter p q xs (and_both (p x) (list_all p xs) all).1)
-  where
-    by : (b : Bool) → list_all p (filter q xs) ≡ true → list_all p (cond b (x ∷ filter q xs) (filter q xs)) ≡ true
-    by true rest = both _ _ true true (and_both (p x) (list_all p xs) all).0 rest
-    by false rest = rest
 
 all_first : (p : List ℕ → Bool) (xs : List (List ℕ)) → list_all p xs ≡ true → list_all p (first_appearances xs) ≡ true
 all_first p [] all = refl
 all_first p (x ∷ xs) all =
-    let parts = and_both (p x) (list_all p xs) all in
+    let parts = and_parts (p x) (list_all p xs) all in
     both _ _ true true parts.0 (all_filter p (λ other. not (bytes_eq x other)) (first_appearances xs) (all_first p xs parts.1))
 
 all_taken : (catalog : Catalog) (levels : List ℕ) (n : ℕ) (xs : List (List ℕ)) → list_all (is_path catalog levels) xs ≡ true → list_all (is_path catalog levels) (map (take n) xs) ≡ true
 all_taken catalog levels n [] all = refl
 all_taken catalog levels n (x ∷ xs) all =
-    let parts = and_both (is_path catalog levels x) (list_all (is_path catalog levels) xs) all in
+    let parts = and_parts (is_path catalog levels x) (list_all (is_path catalog levels) xs) all in
     both _ _ true true (path_take catalog levels x n parts.0) (all_taken catalog levels n xs parts.1)
 
 -- the paths of a hierarchy are paths of its levels
@@ -148,10 +131,6 @@ pub parts_whole : {schema : Schema} {tables : List TableOf} {columns : List Colu
     → AreParts schema tables columns hierarchies cubes trees full_names roots names → IsWhole (plain schema tables columns hierarchies cubes)
 parts_whole {schema} {tables} {columns} {hierarchies} {cubes} parts = whole_parts schema tables columns hierarchies cubes parts.paired parts.even parts.columned parts.leveled
 
-each_append : {A : Type 0} (P : A → Type 0) (xs ys : List A) → Each P xs → Each P ys → Each P (xs ++ ys)
-each_append P [] ys own more = more
-each_append P (x ∷ xs) ys own more = (own.0, each_append P xs ys own.1 more)
-
 each_at : {A : Type 0} (P : A → Type 0) (xs : List A) (i : ℕ) (x : A) → Each P xs → slice_get xs i ≡ Some x → P x
 each_at P [] i x own at = absurd (cc at)
 each_at P (y ∷ xs) zero x own at = let same : y ≡ x = cc at in subst P same own.0
@@ -165,7 +144,7 @@ with_own catalog cube h paths_in whole own = by (slice_get catalog.hierarchies h
     at_paths : (hierarchy : Hierarchy) → slice_get catalog.hierarchies h ≡ Some hierarchy → (ps : List (List ℕ)) → list_all (is_path catalog hierarchy.levels) ps ≡ true → Each (IsMemberOf catalog cube) (map (member.At h) ps)
     at_paths hierarchy there [] all = tt
     at_paths hierarchy there (p ∷ ps) all =
-        let parts = and_both (is_path catalog hierarchy.levels p) (list_all (is_path catalog hierarchy.levels) ps) all in
+        let parts = and_parts (is_path catalog hierarchy.levels p) (list_all (is_path catalog hierarchy.levels) ps) all in
         ((slice_get_within catalog.hierarchies h hierarchy there, ap (λ o. is_path catalog (option_map_or (λ (x : Hierarchy). x.levels) o []) p) there ∙ parts.0), at_paths hierarchy there ps parts.1)
 
     by : (o : Option Hierarchy) → slice_get catalog.hierarchies h ≡ o → Each (IsMemberOf catalog cube) (map (member.At h) (option_map_or paths_in o []))
@@ -178,7 +157,7 @@ below_own catalog cube h path whole = with_own catalog cube h (λ hierarchy. pat
 all_flat : (p : List ℕ → Bool) (f : List ℕ → List (List ℕ)) (xs : List (List ℕ)) → list_all p xs ≡ true → ((x : List ℕ) → p x ≡ true → list_all p (f x) ≡ true) → list_all p (flat_map f xs) ≡ true
 all_flat p f [] all each = refl
 all_flat p f (x ∷ xs) all each =
-    let parts = and_both (p x) (list_all p xs) all in
+    let parts = and_parts (p x) (list_all p xs) all in
     list_all-append p (f x) (flat_map f xs) ∙ both _ _ true true (each x parts.0) (all_flat p f xs parts.1 each)
 
 -- the paths of a depth are paths of the levels
@@ -230,7 +209,7 @@ pub level_own : (catalog : Catalog) (cube : ℕ) (level : LevelRef) → IsWhole 
 level_own catalog cube Measures whole = measures_own catalog cube
 level_own catalog cube (Whole h) whole =
     let under = λ (hierarchy : Hierarchy). paths_under catalog hierarchy (length hierarchy.levels) [] in
-    each_append (IsMemberOf catalog cube) (all_member catalog h) (members_with catalog h under) (all_own catalog cube h) (with_own catalog cube h under whole (λ hierarchy levels. all_under catalog hierarchy (length hierarchy.levels) [] whole.has levels))
+    Each-append (IsMemberOf catalog cube) (all_member catalog h) (members_with catalog h under) (all_own catalog cube h) (with_own catalog cube h under whole (λ hierarchy levels. all_under catalog hierarchy (length hierarchy.levels) [] whole.has levels))
 level_own catalog cube (One h level) whole = with_own catalog cube h (λ hierarchy. paths_at catalog hierarchy (suc level)) whole (λ hierarchy levels. all_at_depth catalog hierarchy (suc level) whole.has levels)
 
 -- what holds of each item, item by item
@@ -241,10 +220,10 @@ each_all P (x ∷ xs) each (suc k) e h = each_all P xs each.1 k e (omega (arith,
 
 first_own : (catalog : Catalog) (cube : ℕ) (root : LevelRef) → IsWhole catalog → Each (IsMemberOf catalog cube) (first_members catalog cube root)
 first_own catalog cube Measures whole = measures_own catalog cube
-first_own catalog cube (Whole h) whole = each_append (IsMemberOf catalog cube) (all_member catalog h) (children catalog (member.All h)) (all_own catalog cube h) (children_own catalog cube (member.All h) whole)
+first_own catalog cube (Whole h) whole = Each-append (IsMemberOf catalog cube) (all_member catalog h) (children catalog (member.All h)) (all_own catalog cube h) (children_own catalog cube (member.All h) whole)
 first_own catalog cube (One h level) whole = tt
 
--- a member that was found among some
+-- a member that was position_there among some
 among : (P : Member → Type 0) (o : Option ℕ) (members : List Member) (name : List ℕ) (m : Member) → Each P members → ok_or (option_and_then (slice_get members) o) name ≡ Ok m → P m
 among P None members name m own is = absurd (cc is)
 among P (Some i) members name m own is = by (slice_get members i) refl is

@@ -29,7 +29,7 @@ use Rattle.olap_catalog.proofs.LayoutFacts.{columns_append, length_columns}
 pub both : (a b c d : Bool) → a ≡ c → b ≡ d → (a && b) ≡ (c && d)
 both a b c d e f = ap (λ x. x && b) e ∙ ap (λ x. c && x) f
 
--- the item behind some others
+-- the item after some others
 pub item_behind : {A : Type 0} (xs ys : List A) (y : A) → slice_get (xs ++ y ∷ ys) (length xs) ≡ Some y
 item_behind [] ys y = refl
 item_behind (x ∷ xs) ys y = item_behind xs ys y

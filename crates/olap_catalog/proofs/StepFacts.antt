@@ -19,6 +19,7 @@ use Rattle.olap_catalog.specs.declared.members.Below.{Below}
 use Rattle.olap_catalog.specs.declared.members.Below.TheVariants as below
 use Rattle.catalog_tables.specs.Names.{is_but_case}
 use Rattle.olap_meaning.specs.Catalog.{all_text}
+use Rattle.olap_meaning.proofs.Lists.{find-map}
 use Rattle.olap_catalog.specs.Members.{child_values, child_text, all_by, below_by, members_below, spot, onward}
 use Rattle.catalog_tables.proofs.SeenFacts.{position-map}
 use Rattle.catalog_tables.proofs.FieldFacts.{position_within}
@@ -28,14 +29,6 @@ use Rattle.olap_catalog.proofs.PartFacts.{item_behind, length_snoc}
 abbrev pub below_member : ℕ → List ℕ → Below → Member
 below_member h path below.All = member.All h
 below_member h path (below.Child value) = member.At h (path ++ value ∷ [])
-
-pub find-map : {A B : Type 0} (t : B → Bool) (f : A → B) (xs : List A) → find t (map f xs) ≡ option_map f (find (λ x. t (f x)) xs)
-find-map t f [] = refl
-find-map {A} {B} t f (x ∷ xs) = by (t (f x)) (find-map t f xs)
-  where
-    by : (b : Bool) → find t (map f xs) ≡ option_map f (find (λ y. t (f y)) xs) → cond b (Some (f x)) (find t (map f xs)) ≡ option_map f (cond b (Some x) (find (λ y. t (f y)) xs))
-    by true rest = refl
-    by false rest = rest
 
 -- the paths below a path are the path with each of their last values
 lasts_are : (leaves : List (List ℕ)) (path : List ℕ) → below leaves path ≡ map (λ v. path ++ v ∷ []) (map last_value (below leaves path))
@@ -119,7 +112,7 @@ at_first {A} p f xs =
         past : (a b : ℕ) → nat_lt a b ≡ false → b ≤ a
         past a b h = grind (arith, nat_tests)
 
--- a name among members: the first with exactly this name, or else the first with it but for case
+-- a name among members: the first with exactly this name, or else the first with it except for case
 pub named_is : (catalog : Catalog) (cube : ℕ) (members : List Member) (name : List ℕ) →
     named catalog cube members name ≡ ok_or (option_or (find (λ m. bytes_eq name (member_name catalog cube m)) members) (find (λ m. is_but_case name (member_name catalog cube m)) members)) name
 named_is catalog cube members name =

@@ -11,9 +11,9 @@ use Rattle.olap_meaning.specs.declared.tables.Catalog.{Catalog}
 use Rattle.olap_meaning.specs.declared.schema.TheConstants.{MEASURE_LIMIT}
 use Rattle.olap_meaning.specs.declared.cells.Member.TheVariants as member
 use Rattle.olap_meaning.specs.Catalog.{records, path_of, paths, members_with, measure_members}
+use Rattle.olap_meaning.proofs.Lists.{passes_at}
 use Rattle.member_trees.specs.Trees.{TreeOf}
 use Rattle.olap_catalog.specs.Parts.{tree_of, has_few_measures}
-use Rattle.olap_catalog.proofs.ValueFacts.{all_at}
 
 by_number : {A B : Type 0} (f : ℕ → B) (k : ℕ) (xs : List A) → map f (range_with_len k (length xs)) ≡ map (λ (x : ℕ × A). f x.0) (enumerate_from k xs)
 by_number f k [] = refl
@@ -31,7 +31,7 @@ measures_counted catalog cube own at = sym (length-map-range_with_len member.Mea
 
 -- they are few
 pub measures_few : (catalog : Catalog) (cube : ℕ) (own : Cube) → slice_get catalog.cubes cube ≡ Some own → list_all has_few_measures catalog.cubes ≡ true → length own.measures ≤ MEASURE_LIMIT
-measures_few catalog cube own at few = let e = all_at has_few_measures catalog.cubes cube own few at in grind (arith, nat_tests)
+measures_few catalog cube own at few = let e = passes_at has_few_measures catalog.cubes cube own few at in grind (arith, nat_tests)
 
 -- the paths of a hierarchy are those of its leaves' numbers
 pub paths_by_number : (catalog : Catalog) (hierarchy : Hierarchy) (count : ℕ) → count ≡ length (records catalog hierarchy.dimension) → map (path_of catalog hierarchy) (range_with_len 0 count) ≡ paths catalog hierarchy

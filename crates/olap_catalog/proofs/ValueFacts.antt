@@ -1,10 +1,10 @@
 -- What a catalog's parts say of its columns.
-use Rattle.std.proofs.Common.{inl, inr, if◌then◌else◌, ◌≡◌, ◌∙◌, ◌<◌, ◌≤◌, ◌&&◌, ℕ, zero, suc, Bool, true, false, List, [], ◌∷◌, Option, Some, None, refl, sym, ap, option_map, option_and_then, slice_get, get_or, length, nat_lt, nat_eq, arith, position, bytes_eq}
+use Rattle.std.proofs.Common.{inl, inr, if◌then◌else◌, ◌≡◌, ◌∙◌, ◌<◌, ◌≤◌, ℕ, zero, suc, true, List, [], ◌∷◌, Option, Some, None, refl, sym, ap, option_map, option_and_then, slice_get, get_or, length, nat_lt, nat_eq, arith, position, bytes_eq}
+use Rattle.std.proofs.lemmas.Bool.{and_parts}
 use Rattle.std.specs.List.{list_all, zip, cons_option}
 use Rattle.std.specs.Option.{option_map_or, IfSome}
 use Rattle.catalog_tables.proofs.FieldFacts.{position_within}
-use Rattle.std.proofs.lemmas.List.Sums.{AllPass-from_list_all}
-use Rattle.std.proofs.lemmas.Option.{slice_get-map, slice_get-get_or, slice_get_within, slice_get_cases, get_or_from_slice_get}
+use Rattle.std.proofs.lemmas.Option.{slice_get-map, slice_get_within, slice_get_cases, get_or_from_slice_get}
 use Rattle.std.proofs.lemmas.Bool.Decides.{nat_tests}
 use Rattle.olap_meaning.specs.declared.tables.Record.{Record}
 use Rattle.olap_meaning.specs.declared.tables.Column.{Column}
@@ -15,13 +15,10 @@ use Rattle.olap_meaning.specs.declared.schema.Schema.{Schema}
 use Rattle.olap_meaning.specs.Schema.{dimension_with}
 use Rattle.olap_meaning.specs.Catalog.{first_appearances, values, leaf_text, leaf_value, value_number, records, field_texts, find_leaf}
 use Rattle.olap_meaning.proofs.Loads.{some_and}
+use Rattle.olap_meaning.proofs.Lists.{passes_at}
 use Rattle.catalog_tables.specs.Tables.{TableOf, have_fields, number_of, column_of}
 use Rattle.olap_catalog.specs.Columns.{column_texts, column_leaves}
 use Rattle.olap_catalog.specs.Parts.{plain, records_in, is_column}
-
-pub and_both : (a b : Bool) → (a && b) ≡ true → (a ≡ true) × (b ≡ true)
-and_both true b h = (refl, h)
-and_both false b h = absurd (cc h)
 
 -- the values of a column are its texts by first appearance
 pub values_are : (catalog : Catalog) (column : ℕ) → values catalog column ≡ first_appearances (column_texts catalog column)
@@ -58,12 +55,6 @@ pub record ColumnKnown (tables : List TableOf) (columns : List Column) (column :
   pub field : nat_lt own.field table.levels ≡ true
   pub even : have_fields table.levels table.records ≡ true
 
-pub all_at : {A : Type 0} (p : A → Bool) (xs : List A) (i : ℕ) (x : A) → list_all p xs ≡ true → slice_get xs i ≡ Some x → p x ≡ true
-all_at p xs i x all at =
-    let within = slice_get_within xs i x at in
-    let own : get_or xs i x ≡ x = let e : Some (get_or xs i x) ≡ Some x = sym (slice_get-get_or xs i x within) ∙ at in cc e in
-    ap p (sym own) ∙ AllPass-from_list_all p xs all i x within
-
 -- a column of a catalog is a field of a table whose records have it
 pub column_known : (tables : List TableOf) (columns : List Column) (column : ℕ) → list_all (λ t. have_fields t.levels t.records) tables ≡ true → list_all (is_column tables) columns ≡ true → column < length columns
     → ColumnKnown tables columns column
@@ -71,14 +62,14 @@ column_known tables columns column even all within =
     elim ((slice_get_cases columns column).1) [
       | inl here ↦
           let c = here.0 in
-          let found : (t : TableOf) × (slice_get tables c.dimension ≡ Some t) × (nat_lt c.field t.levels ≡ true) = some_and (λ (t : TableOf). nat_lt c.field t.levels) (slice_get tables c.dimension) (all_at (is_column tables) columns column c all here.2) in
-          record { own = c; at = here.2; table = found.0; there = found.1; field = found.2; even = all_at (λ (t : TableOf). have_fields t.levels t.records) tables c.dimension found.0 even found.1 }
+          let found : (t : TableOf) × (slice_get tables c.dimension ≡ Some t) × (nat_lt c.field t.levels ≡ true) = some_and (λ (t : TableOf). nat_lt c.field t.levels) (slice_get tables c.dimension) (passes_at (is_column tables) columns column c all here.2) in
+          record { own = c; at = here.2; table = found.0; there = found.1; field = found.2; even = passes_at (λ (t : TableOf). have_fields t.levels t.records) tables c.dimension found.0 even found.1 }
       | inr past ↦ absurd (omega (arith, past.0))
     ]
 
 has_field : (levels field : ℕ) (r : Record) (rs : List Record) → nat_lt field levels ≡ true → have_fields levels (r ∷ rs) ≡ true → (t : List ℕ) × (slice_get r.fields field ≡ Some t) × (have_fields levels rs ≡ true)
 has_field levels field r rs less even =
-    let parts : (nat_eq (length r.fields) levels ≡ true) × (have_fields levels rs ≡ true) = and_both (nat_eq (length r.fields) levels) (have_fields levels rs) even in
+    let parts : (nat_eq (length r.fields) levels ≡ true) × (have_fields levels rs ≡ true) = and_parts (nat_eq (length r.fields) levels) (have_fields levels rs) even in
     elim ((slice_get_cases r.fields field).1) [
       | inl here ↦ (here.0, here.2, parts.1)
       | inr past ↦ absurd (contradiction (length r.fields) parts.0 past.0)

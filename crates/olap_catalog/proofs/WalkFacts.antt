@@ -5,11 +5,11 @@ use Rattle.olap_meaning.specs.declared.tables.Catalog.{Catalog}
 use Rattle.olap_meaning.specs.declared.cells.Member.{Member}
 use Rattle.olap_meaning.specs.declared.cells.LevelRef.TheVariants.{Whole}
 use Rattle.olap_meaning.specs.Catalog.{named, named_below, children, default_member, first_members, and_then}
+use Rattle.olap_meaning.proofs.Lists.{drop_step}
 use Rattle.olap_catalog.specs.declared.members.Below.{Below}
 use Rattle.olap_catalog.specs.declared.fault.NameFault.{NameFault}
 use Rattle.olap_catalog.specs.declared.fault.NameFault.TheVariants.{UnknownMember, OutOfMemory}
 use Rattle.olap_catalog.specs.Members.{below_by, members_below, spot, onward, or_fault, from_root_or_fault}
-use Rattle.olap_catalog.proofs.LayoutFacts.{drop_here}
 use Rattle.olap_catalog.proofs.StepFacts.{below_member, find_below, onward_spot}
 
 first_is : {A : Type 0} (xs : List A) → slice_get xs 0 ≡ find (λ x. true) xs
@@ -22,7 +22,7 @@ default_is catalog cube h = first_is (members_below catalog h true []) ∙ find_
 
 -- a path begins with its first name
 cons_is : (path : List (List ℕ)) (name : List ℕ) → 0 < length path → name ≡ get_or path 0 name → path ≡ name ∷ drop 1 path
-cons_is path name some at = drop_here path 0 name some at
+cons_is path name some at = drop_step path 0 name some at
 
 -- what a path means from the default member of its hierarchy on
 walk_is : (catalog : Catalog) (cube h : ℕ) (path : List (List ℕ)) (name : List ℕ) (first : Option Below) → 0 < length path → name ≡ get_or path 0 name → first ≡ below_by (λ n. true) catalog h true []
@@ -72,7 +72,7 @@ children_are catalog h (x ∷ xs) = refl
 pub walked : (catalog : Catalog) (cube h : ℕ) (members : List Member) (found : Member) (path : List (List ℕ)) (i : ℕ) (name : List ℕ) (longer : List ℕ) → i < length path → name ≡ get_or path i name → named catalog cube members name ≡ Ok (spot h longer)
     → named_below catalog cube (drop (i + 1) path) (children catalog (spot h longer)) (spot h longer) ≡ named_below catalog cube (drop i path) members found
 walked catalog cube h members found path i name longer within at is =
-    sym (ap (λ ns. named_below catalog cube ns members found) (drop_here path i name within at)
+    sym (ap (λ ns. named_below catalog cube ns members found) (drop_step path i name within at)
     ∙ ap (and_then (λ next. named_below catalog cube (drop (i + 1) path) (children catalog next) next)) is)
 
 pub walked_below : (catalog : Catalog) (cube h : ℕ) (values : List ℕ) (path : List (List ℕ)) (i : ℕ) (name : List ℕ) (longer : List ℕ) → i < length path → name ≡ get_or path i name → named catalog cube (members_below catalog h false values) name ≡ Ok (spot h longer)
@@ -84,7 +84,7 @@ walked_below catalog cube h values path i name longer within at is =
 stopped : (catalog : Catalog) (cube : ℕ) (members : List Member) (found : Member) (path : List (List ℕ)) (i : ℕ) (name : List ℕ) → i < length path → name ≡ get_or path i name → named catalog cube members name ≡ Err name
     → named_below catalog cube (drop i path) members found ≡ Err name
 stopped catalog cube members found path i name within at is =
-    ap (λ ns. named_below catalog cube ns members found) (drop_here path i name within at) ∙ ap (and_then (λ next. named_below catalog cube (drop (i + 1) path) (children catalog next) next)) is
+    ap (λ ns. named_below catalog cube ns members found) (drop_step path i name within at) ∙ ap (and_then (λ next. named_below catalog cube (drop (i + 1) path) (children catalog next) next)) is
 
 -- what the whole walk gives, where a default member is there
 whole : (catalog : Catalog) (cube h : ℕ) (path : List (List ℕ)) (name : List ℕ) (first : Option Below) (b : Below) → 0 < length path → name ≡ get_or path 0 name → first ≡ below_by (λ n. true) catalog h true [] → first ≡ Some b

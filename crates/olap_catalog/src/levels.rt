@@ -19,7 +19,7 @@ impl Catalog {
     /// The level that a path of names means in a cube: one name is a root, that is `Measures` or the full name of one of
     /// the cube's hierarchies; two are a hierarchy and one of its levels. Each name is found by its exact text first,
     /// and then by the first that differs in the case of ASCII letters alone. A path is refused with its first name
-    /// that has no match: a second name after `Measures` has none, nor has a third name. It takes no memory but for
+    /// that has no match: a second name after `Measures` has none, nor has a third name. It takes no memory except for
     /// the name of its fault.
     pub fn find_level(&self, cube: CubeId, path: &[Text]) -> Result<LevelRef, NameFault>
         requires known { cube < length self.now.cubes }

@@ -1,7 +1,7 @@
 -- Each text once, by first appearance: one more text, and the number of a text.
 use Rattle.std.proofs.Common.{◌≡◌, refl, sym, ◌∙◌, ap, ℕ, ◌+◌, List, [], ◌∷◌, ◌++◌, length, Bool, true, false, cond, not, ◌||◌, Some, None, bytes_eq, filter, position, nat_lt, is_some, arith}
 use Rattle.std.specs.List.{list_any, position_or_len, find}
-use Rattle.std.proofs.lemmas.Bool.{lt-ltb, le-ltb}
+use Rattle.std.proofs.lemmas.Bool.{le-ltb, lt-ltb, or_parts}
 use Rattle.std.proofs.lemmas.Map.Steps.{list_any_congr}
 use Rattle.std.proofs.lemmas.List.Elements.{filter-append}
 use Rattle.std.proofs.lemmas.List.{append-nil, append_assoc, length-append}
@@ -9,22 +9,18 @@ use Rattle.std.proofs.lemmas.Cmp.{nat_list_eq_equiv}
 use Rattle.std.proofs.lemmas.Slice.Eq.{bytes_eq-Decides}
 use Rattle.olap_meaning.specs.Catalog.{first_appearances}
 
-neither : (b c : Bool) → (b || c) ≡ false → (b ≡ false) × (c ≡ false)
-neither true c h = absurd (cc)
-neither false c h = (refl, h)
-
 any-filter : {A : Type 0} (p q : A → Bool) (xs : List A) → list_any p xs ≡ false → list_any p (filter q xs) ≡ false
 any-filter p q [] h = refl
-any-filter p q (x ∷ xs) h = by (q x) (any-filter p q xs (neither (p x) (list_any p xs) h).1)
+any-filter p q (x ∷ xs) h = by (q x) (any-filter p q xs (or_parts (p x) (list_any p xs) h).1)
   where
     by : (b : Bool) → list_any p (filter q xs) ≡ false → list_any p (cond b (x ∷ filter q xs) (filter q xs)) ≡ false
-    by true rest = ap (λ b. b || list_any p (filter q xs)) (neither (p x) (list_any p xs) h).0 ∙ rest
+    by true rest = ap (λ b. b || list_any p (filter q xs)) (or_parts (p x) (list_any p xs) h).0 ∙ rest
     by false rest = rest
 
 -- what is not among some texts is not among their first appearances
 pub any-appearances : (p : List ℕ → Bool) (xs : List (List ℕ)) → list_any p xs ≡ false → list_any p (first_appearances xs) ≡ false
 any-appearances p [] h = refl
-any-appearances p (x ∷ xs) h = ap (λ b. b || list_any p (filter others (first_appearances xs))) (neither (p x) (list_any p xs) h).0 ∙ any-filter p others (first_appearances xs) (any-appearances p xs (neither (p x) (list_any p xs) h).1)
+any-appearances p (x ∷ xs) h = ap (λ b. b || list_any p (filter others (first_appearances xs))) (or_parts (p x) (list_any p xs) h).0 ∙ any-filter p others (first_appearances xs) (any-appearances p xs (or_parts (p x) (list_any p xs) h).1)
   where
     others : List ℕ → Bool
     others other = not (bytes_eq x other)
@@ -67,16 +63,16 @@ more (y ∷ ys) xs =
 pub first_at : {A : Type 0} (p : A → Bool) (xs ys : List A) (y : A) → list_any p xs ≡ false → p y ≡ true → position_or_len p (xs ++ y ∷ ys) ≡ length xs
 first_at p [] ys y none t = ap (λ b. cond (not b) (1 + position_or_len p ys) 0) t
 first_at p (x ∷ xs) ys y none t =
-    ap (λ b. cond (not b) (1 + position_or_len p (xs ++ y ∷ ys)) 0) (neither (p x) (list_any p xs) none).0
-    ∙ ap (λ n. 1 + n) (first_at p xs ys y (neither (p x) (list_any p xs) none).1 t) ∙ omega arith
+    ap (λ b. cond (not b) (1 + position_or_len p (xs ++ y ∷ ys)) 0) (or_parts (p x) (list_any p xs) none).0
+    ∙ ap (λ n. 1 + n) (first_at p xs ys y (or_parts (p x) (list_any p xs) none).1 t) ∙ omega arith
 
 pub none_at : {A : Type 0} (p : A → Bool) (xs : List A) → list_any p xs ≡ false → position_or_len p xs ≡ length xs
 none_at p [] none = refl
 none_at p (x ∷ xs) none =
-    ap (λ b. cond (not b) (1 + position_or_len p xs) 0) (neither (p x) (list_any p xs) none).0
-    ∙ ap (λ n. 1 + n) (none_at p xs (neither (p x) (list_any p xs) none).1) ∙ omega arith
+    ap (λ b. cond (not b) (1 + position_or_len p xs) 0) (or_parts (p x) (list_any p xs) none).0
+    ∙ ap (λ n. 1 + n) (none_at p xs (or_parts (p x) (list_any p xs) none).1) ∙ omega arith
 
--- the position behind those that fail
+-- the position after those that fail
 pub position_at : {A : Type 0} (p : A → Bool) (xs ys : List A) (y : A) → list_any p xs ≡ false → p y ≡ true → position p (xs ++ y ∷ ys) ≡ Some (length xs)
 position_at p xs ys y none t =
     ap (λ n. cond (nat_lt n (length (xs ++ y ∷ ys))) (Some n) None) (first_at p xs ys y none t)

@@ -15,3 +15,8 @@ pub mod Appearances
 pub mod Shutting
 pub mod Rolling
 pub mod RolledSources
+pub mod Lists
+pub mod Numerals
+pub mod Orders
+pub mod Characters
+pub mod Each

@@ -54,7 +54,7 @@ adds_up_from Max other = refl
 adds_up_from Avg other = refl
 adds_up_from DistinctCount other = absurd (other refl)
 
--- a column that is opened but for the split, and is not the split
+-- a column that is opened except for the split, and is not the split
 pub open_told : (cell : Cell) (split column : ℕ) (header : Header) → is_open_but cell split header ≡ true → names_column cell column ≡ false → split ≢ column → is_open_in header column ≡ true
 open_told cell split column header opened lacked other = member_all (λ own. not (own.0 == column) || is_any own.1) header.columns at_own
   where

@@ -33,7 +33,7 @@ module _ (setting : Setting) (history : List Entry) (load : Load) (cell : Cell) 
       none : list_any (delivers (suc (length history))) history ≡ false
       none = false_from_ne_true _ (λ d. both_ways _ (unended setting history legal) (any_weaker (delivers (suc (length history))) (ends (suc (length history))) (delivery_ends (suc (length history))) history d))
 
-  -- a load that is live behind the Start stands before it
+  -- a load that is live after the Start stands before it
   before_start : (j : ℕ) → live after j cell ≡ true → j ≤ length history
   before_start j lives =
       elim (cases_eq j (suc (length history))) [

@@ -1,5 +1,6 @@
 -- One more entry, and the loads that are live or awaited.
 use Rattle.std.proofs.Common.{◌≡◌, refl, sym, ◌∙◌, ap, ℕ, zero, suc, ◌+◌, ◌<◌, ◌≤◌, List, [], ◌∷◌, ◌++◌, length, take, drop, Bool, true, false, cond, not, ◌&&◌, ◌||◌, ◌==◌, ◌⊎◌, inl, inr, Option, Some, None, nat_lt, arith, is_some, le_antisymm, le_of_eq, zero-le, option_and_then}
+use Rattle.std.proofs.Math.Bool.{and-true}
 use Rattle.std.specs.List.{list_any}
 use Rattle.std.proofs.lemmas.Bool.{both_ways, and_parts, and_from, or_cases, or_left, or_right, or_from, eqb-true, eq-eqb, ltb-true, ltb-false, not-true, false_from_ne_true}
 use Rattle.std.proofs.lemmas.List.{drop-append-le, length_push}
@@ -17,14 +18,14 @@ use Rattle.olap_meaning.proofs.Steps.{ended_flew, none_evicted}
 use Rattle.olap_meaning.proofs.ReachUp.{any_weaker}
 
 -- the latest position that passes, by its two facts
-latest_is : (n : ℕ) (test : ℕ → Bool) (k : ℕ) → test k ≡ true → 1 ≤ k → k ≤ n → ((i : ℕ) → i ≤ n → test i ≡ true → i ≤ k) → latest n test ≡ Some k
+pub latest_is : (n : ℕ) (test : ℕ → Bool) (k : ℕ) → test k ≡ true → 1 ≤ k → k ≤ n → ((i : ℕ) → i ≤ n → test i ≡ true → i ≤ k) → latest n test ≡ Some k
 latest_is n test k t one l most =
     let b : (m : ℕ) × (latest n test ≡ Some m) × (k ≤ m) = latest_bounds n test k t one l in
     let found : (test b.0 ≡ true) × (1 ≤ b.0) × (b.0 ≤ n) = latest_found n test b.0 b.1 in
     b.1 ∙ ap Some (le_antisymm (most b.0 found.2 found.0) b.2)
 
 -- there is none where none passes
-none_latest : (n : ℕ) (test : ℕ → Bool) → ((k : ℕ) → k ≤ n → test k ≡ false) → latest n test ≡ None
+pub none_latest : (n : ℕ) (test : ℕ → Bool) → ((k : ℕ) → k ≤ n → test k ≡ false) → latest n test ≡ None
 none_latest zero test none = refl
 none_latest (suc n) test none = ap (λ b. cond b (Some (suc n)) (latest n test)) (none (suc n) (omega arith)) ∙ none_latest n test (λ k l. none k (omega (arith, l)))
 
@@ -93,10 +94,6 @@ awaited_parts_grow ld en x jus flu = grind arith
 and_with : (a b c : Bool) → ((a && b) && c) ≡ (a && b && c)
 and_with true b c = refl
 and_with false b c = refl
-
-and_true : (b : Bool) → (b && true) ≡ b
-and_true true = refl
-and_true false = refl
 
 pub delivery_ends : (j : ℕ) (e : Entry) → delivers j e ≡ true → ends j e ≡ true
 delivery_ends j (Append w c v r) h = absurd (cc)
@@ -246,28 +243,28 @@ unserved_last setting history entry cell legal = false_from_ne_true _ (no_load e
     no_load (Answer w cs) last h = unloaded (Answer w cs) last h
     no_load (Saw w) last h = unloaded (Saw w) last h
 
--- the loads that serve a cell behind an entry, by what it delivers and evicts
+-- the loads that serve a cell after an entry, by what it delivers and evicts
 abbrev serving : List Entry → Entry → Cell → ℕ → Bool
 serving history e cell k = ((delivers k e && open_for history e cell k) || serves history e cell history k) && not (evicts k e)
 
 -- what an entry delivers or evicts, among the loads that serve a cell
 served_among : (history : List Entry) (e : Entry) (cell : Cell) → latest (length history) (serving history e cell) ≡ greater (delivered_for history cell e) (left_for history cell e)
-served_among history (Append w c v r) cell = latest_agree (length history) _ _ (λ k l. and_true _)
-served_among history (Agg w t v) cell = latest_agree (length history) _ _ (λ k l. and_true _)
-served_among history (Flush w r) cell = latest_agree (length history) _ _ (λ k l. and_true _)
-served_among history (Start l) cell = latest_agree (length history) _ _ (λ k l. and_true _)
+served_among history (Append w c v r) cell = latest_agree (length history) _ _ (λ k l. and-true _)
+served_among history (Agg w t v) cell = latest_agree (length history) _ _ (λ k l. and-true _)
+served_among history (Flush w r) cell = latest_agree (length history) _ _ (λ k l. and-true _)
+served_among history (Start l) cell = latest_agree (length history) _ _ (λ k l. and-true _)
 served_among history (Done w j) cell =
-    latest_agree (length history) (serving history (Done w j) cell) (λ k. ((j == k) && open_for history (Done w j) cell k) || serves history (Done w j) cell history k) (λ k l. and_true _)
+    latest_agree (length history) (serving history (Done w j) cell) (λ k. ((j == k) && open_for history (Done w j) cell k) || serves history (Done w j) cell history k) (λ k l. and-true _)
     ∙ latest_with (length history) (serves history (Done w j) cell history) (open_for history (Done w j) cell) j within
   where
     within : open_for history (Done w j) cell j ≡ true → (1 ≤ j) × (j ≤ length history)
     within o =
         let load : (load : Load) × (load_at history j ≡ Some load) × (just_covers load.header cell ≡ true) = some_and (λ load. just_covers load.header cell) (load_at history j) (and_parts _ _ (and_parts _ _ o).0).0 in
         entry_within history j (Start load.0) (load_start history j load.0 load.1)
-served_among history (Drop w j) cell = latest_agree (length history) _ _ (λ k l. and_true _)
+served_among history (Drop w j) cell = latest_agree (length history) _ _ (λ k l. and-true _)
 served_among history (Evict j) cell = latest_agree (length history) _ _ (λ k l. and_with (live history k cell) (load_just_covers history k cell) (not (j == k)))
-served_among history (Answer w cs) cell = latest_agree (length history) _ _ (λ k l. and_true _)
-served_among history (Saw w) cell = latest_agree (length history) _ _ (λ k l. and_true _)
+served_among history (Answer w cs) cell = latest_agree (length history) _ _ (λ k l. and-true _)
+served_among history (Saw w) cell = latest_agree (length history) _ _ (λ k l. and-true _)
 
 pub exact_source_grows : ExactSourceGrows
 exact_source_grows setting history entry cell legal = by (flushes cell entry) refl
@@ -301,7 +298,7 @@ awaited_last setting history entry cell legal =
     by_entry (Append w c v r) = refl
     by_entry (Agg w t v) = refl
     by_entry (Flush w r) = refl
-    by_entry (Start l) = and_true (just_covers l.header cell)
+    by_entry (Start l) = and-true (just_covers l.header cell)
     by_entry (Done w j) = refl
     by_entry (Drop w j) = refl
     by_entry (Evict j) = refl

@@ -28,7 +28,7 @@ pairs_of [] = Some []
 pairs_of (word ∷ []) = None
 pairs_of (first ∷ second ∷ words) = option_map (λ pairs. (first, second) ∷ pairs) (pairs_of words)
 
--- the command that stands behind `cell`: FILE COLUMN AGGREGATOR { COLUMN VALUE }, each word by its place
+-- the command that stands after `cell`: FILE COLUMN AGGREGATOR { COLUMN VALUE }, each word by its place
 abbrev pub behind_cell : List ℕ → List ℕ → List ℕ → List (List ℕ) → Option CellCommand
 behind_cell file column name words = option_and_then (λ aggregator. option_map (λ pairs.
     record {
@@ -37,7 +37,7 @@ behind_cell file column name words = option_and_then (λ aggregator. option_map 
     })
     (pairs_of words)) (aggregator_named name)
 
--- the command of the words behind `cell`; None where one is wanting
+-- the command of the words after `cell`; None where one is wanting
 abbrev pub cell_command : List (List ℕ) → Option CellCommand
 cell_command [] = None
 cell_command (file ∷ []) = None

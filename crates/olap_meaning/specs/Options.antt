@@ -24,7 +24,7 @@ abbrev pub is_value : Text → Bool
 is_value [] = false
 is_value (byte ∷ bytes) = not (byte == 45)
 
--- what stands behind the two hyphens of a word; None where there are no two, or nothing stands behind them
+-- what stands after the two hyphens of a word; None where there are no two, or nothing stands after them
 abbrev pub behind_hyphens : Text → Option Text
 behind_hyphens (first ∷ second ∷ byte ∷ bytes) =
     if first == 45 && second == 45 then Some (byte ∷ bytes) else None
@@ -46,7 +46,7 @@ option_parts text =
 abbrev pub option_word : Text → Option (Text × Option Text)
 option_word word = option_and_then option_parts (behind_hyphens word)
 
--- what a word that should be an option makes of the words behind it
+-- what a word that should be an option makes of the words after it
 abbrev pub from_word : Option (Text × Option Text) → (Option Text → Option Given) → Option Given
 from_word None others = None
 from_word (Some (name, Some value)) others = option_map (λ given. (name, value) ∷ given) (others None)
@@ -99,6 +99,6 @@ value_of name given = option_map (λ option. option.1) (find (λ option. bytes_e
 abbrev pub run_known : Known
 run_known = (codes "schema", true) ∷ []
 
--- the schema's file of the words behind `run`, --schema FILE; None where they are no command line
+-- the schema's file of the words after `run`, --schema FILE; None where they are no command line
 abbrev pub run_file : List Text → Option Text
 run_file words = option_and_then (value_of (codes "schema")) (command_line run_known words)

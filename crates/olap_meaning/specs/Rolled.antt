@@ -56,7 +56,7 @@ pub record IsHeld (size : ℕ → ℕ) (cell : Cell) (columns : List ℕ) (offer
   pub every : (value : ℕ) → value < size split → IsTrue (some_allows offers split value)
 
 -- offers are rolled up to a cell: there is one; all have one version, and one list of columns, which has more than the
--- cell's; each covers the cell; in each column that the cell lacks, but for at most one, the split, any value is allowed;
+-- cell's; each covers the cell; in each column that the cell lacks, except for at most one, the split, any value is allowed;
 -- the offers hold every value of the split together; and the measure is no distinct count
 pub record IsRolled (aggregator : Aggregator) (size : ℕ → ℕ) (cell : Cell)
     (offers : List Offer) : Type 0 where
@@ -87,13 +87,13 @@ abbrev pub all_below : ℕ → (ℕ → Bool) → Bool
 all_below zero test = true
 all_below (suc n) test = all_below n test && test n
 
--- any value is allowed in each column of a header that a cell lacks, but for the split
+-- any value is allowed in each column of a header that a cell lacks, except for the split
 abbrev pub is_open_but : Cell → ℕ → Header → Bool
 is_open_but cell split header =
     list_all
     (λ own. (own.0 == split) || names_column cell own.0 || is_any own.1) header.columns
 
--- an offer fits another: it has its version and its columns, covers the cell, and is open but for the split
+-- an offer fits another: it has its version and its columns, covers the cell, and is open except for the split
 abbrev pub fits : Cell → ℕ → Offer → Offer → Bool
 fits cell split first other =
     (other.version == first.version)

@@ -85,7 +85,7 @@ pub record RolledCasesAreDecided : Type 0 where
   -- two lists of columns, each with one of the two values
   pub two_lists : can_roll Sum two whole
       (by_one (Set (0 ∷ [])) 1 ∷ by_both (Set (1 ∷ [])) Any ∷ []) ≡ false
-  -- the first offer is of another list, and those behind it fit
+  -- the first offer is of another list, and those after it fit
   pub behind_other : can_roll Sum two whole
       (by_both (Set (1 ∷ [])) (Set (0 ∷ [])) ∷ by_one (Set (0 ∷ [])) 1 ∷ by_one (Set (1 ∷ [])) 1 ∷
       []) ≡ true

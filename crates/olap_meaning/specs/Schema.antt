@@ -31,7 +31,7 @@ all_columns place [] = []
 all_columns place (dimension ∷ dimensions) =
     columns_from place 0 (levels_of dimension) ++ all_columns (suc place) dimensions
 
--- so many numbers, from one on
+-- this many numbers, from one on
 abbrev pub numbers_from : ℕ → List SchemaLevel → List ℕ
 numbers_from first [] = []
 numbers_from first (level ∷ levels) = first ∷ numbers_from (suc first) levels

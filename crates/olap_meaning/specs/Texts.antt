@@ -17,7 +17,7 @@ sign (negsuc n) = codes "-"
 abbrev pub two_digits : ℕ → List ℕ
 two_digits n = decimal (n / 10) ++ decimal (n % 10)
 
--- the plain text of a value: nothing for an empty cell; hundredths with two digits behind the dot
+-- the plain text of a value: nothing for an empty cell; hundredths with two digits after the dot
 abbrev pub plain_text : CellValue → List ℕ
 plain_text Empty = []
 plain_text (Whole n) = signed_decimal n
@@ -35,7 +35,7 @@ abbrev pub CanBeShown : CellValue → Type 0
 CanBeShown value = size value ≤ 2 ^ 100
 
 -- a character of a name, as its name text has it: a closing bracket twice; a backslash, a tab, a carriage return
--- and a line feed behind a backslash
+-- and a line feed after a backslash
 abbrev pub name_character : ℕ → List ℕ
 name_character c = if c == 93 then codes "]]" else if c == 92 then 92 ∷ 92 ∷ [] else if c == 9
     then 92 ∷ codes "t" else if c == 13 then 92 ∷ codes "r" else if c == 10 then 92 ∷ codes "n"

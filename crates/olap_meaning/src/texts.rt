@@ -5,7 +5,7 @@ ghost use Rattle.olap_meaning.specs.Texts.{plain_text, name_text, name_character
 use crate::{CellValue, OutOfMemory, Text};
 use std::alloc::{AllocError, Global};
 
-/// The plain text of a value: nothing for an empty cell, and a number of hundredths with two digits behind the dot.
+/// The plain text of a value: nothing for an empty cell, and a number of hundredths with two digits after the dot.
 pub fn plain_text(alloc: Global, value: &CellValue) -> Result<Text, OutOfMemory>
     ensures { IfOk result (λ t. t ≡ plain_text value.now) }
 {
@@ -37,7 +37,7 @@ fn sign(number: i128) -> &'static str
 }
 
 /// The name text of a name: in brackets, with a closing bracket doubled and each character that would end a line
-/// or a field behind a backslash.
+/// or a field after a backslash.
 pub fn name_text(alloc: Global, name: &str) -> Result<Text, OutOfMemory>
     ensures { IfOk result (λ t. t ≡ name_text name.now) }
 {

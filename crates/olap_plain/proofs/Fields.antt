@@ -1,7 +1,7 @@
 -- One field of some records, record by record.
 use Rattle.std.proofs.Common.{◌≡◌, refl, sym, ◌∙◌, ap, ℕ, ◌+◌, ◌<◌, ◌≤◌, List, [], ◌∷◌, ◌++◌, length, take, drop, Bool, true, false, cond, not, ◌||◌, Option, Some, None, bytes_eq, map, filter_map, slice_get, position, get_or, take_all, arith}
 use Rattle.std.specs.List.{list_any, cons_option}
-use Rattle.std.proofs.lemmas.List.{append-nil, append_assoc, take_more, take-append-drop}
+use Rattle.std.proofs.lemmas.List.{append-nil, append_assoc, take-append-drop}
 use Rattle.std.proofs.lemmas.List.Elements.{filter_map-append}
 use Rattle.olap_meaning.specs.declared.tables.Record.{Record}
 use Rattle.olap_meaning.specs.declared.tables.Measure.{Measure}
@@ -11,6 +11,7 @@ use Rattle.std.proofs.lemmas.List.Folds.{list_any-append}
 use Rattle.std.proofs.lemmas.Bool.{or_from}
 use Rattle.olap_meaning.proofs.Loads.{some_and}
 use Rattle.olap_meaning.proofs.Appearances.{count_push, number_here, number_none}
+use Rattle.olap_meaning.proofs.Lists.{take_step}
 
 -- a test of what a function gives, element by element
 pub any-filter_map : {A B : Type 0} (test : B → Bool) (h : A → Option B) (xs : List A) → list_any test (filter_map h xs) ≡ list_any (λ x. is_some_and test (h x)) xs
@@ -20,9 +21,6 @@ any-filter_map {A} {B} test h (x ∷ xs) = by (h x) (any-filter_map test h xs)
     by : (o : Option B) → list_any test (filter_map h xs) ≡ list_any (λ x. is_some_and test (h x)) xs → list_any test (cons_option o (filter_map h xs)) ≡ (is_some_and test o || list_any (λ x. is_some_and test (h x)) xs)
     by None rest = rest
     by (Some y) rest = ap (λ b. test y || b) rest
-
-take_step : {A : Type 0} (xs : List A) (i : ℕ) (x : A) → i < length xs → x ≡ get_or xs i x → take (i + 1) xs ≡ take i xs ++ x ∷ []
-take_step xs i x l at = take_more xs i x l ∙ ap (λ y. take i xs ++ y ∷ []) (sym at)
 
 split_at : {A : Type 0} (xs : List A) (i : ℕ) (x : A) → i < length xs → x ≡ get_or xs i x → xs ≡ take i xs ++ x ∷ drop (i + 1) xs
 split_at xs i x l at =
@@ -74,10 +72,6 @@ found_step f rs i r text l at none hits = ap (λ xs. position (bytes_eq text) (f
 -- a text that no record has
 pub none_in : (f : ℕ) (rs : List Record) (i : ℕ) (text : List ℕ) → length rs ≤ i → list_any (bytes_eq text) (field_texts f (take i rs)) ≡ false → position (bytes_eq text) (first_appearances (field_texts f rs)) ≡ None
 none_in f rs i text l none = number_none (field_texts f rs) text (ap (λ xs. list_any (bytes_eq text) (field_texts f xs)) (sym (take_all i rs l)) ∙ none)
-
-pub any-map : {A B : Type 0} (test : B → Bool) (h : A → B) (xs : List A) → list_any test (map h xs) ≡ list_any (λ x. test (h x)) xs
-any-map test h [] = refl
-any-map test h (x ∷ xs) = ap (λ b. test (h x) || b) (any-map test h xs)
 
 columns-push : (ms : List Measure) (m : Measure) → map (λ x. x.column) (ms ++ m ∷ []) ≡ map (λ x. x.column) ms ++ m.column ∷ []
 columns-push [] m = refl

@@ -288,7 +288,7 @@ pub fn table_cube(catalog: &Catalog, table: u32) -> Option<usize>
     }
 }
 
-/// The place of the name that a name means: its first exact match, or else its first match but for the case of
+/// The place of the name that a name means: its first exact match, or else its first match except for the case of
 /// ASCII letters.
 pub fn match_of(name: &str, names: &[Text]) -> Option<usize>
     ensures { result ≡ meaning.match_of name.now names.now }

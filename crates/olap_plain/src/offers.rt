@@ -26,7 +26,7 @@ fn is_any(allowed: &Allowed) -> bool
     }
 }
 
-/// Whether a header allows any value in each column that a cell lacks, but for the split.
+/// Whether a header allows any value in each column that a cell lacks, except for the split.
 pub fn is_open_but(cell: &Cell, split: ColumnId, header: &Header) -> bool
     ensures { result ≡ rolled.is_open_but cell.now split header.now }
 {

@@ -2,8 +2,9 @@
 use Rattle.std.proofs.Common.{◌≡◌, ◌<◌, ◌+◌, ℕ, zero, suc, Bool, true, false, List, [], ◌∷◌, Option, Some, map, length, slice_get, refl, ap, arith, bytes_eq, get_or, drop, take, ◌++◌, ◌&&◌, not}
 use Rattle.std.proofs.lemmas.List.{take_more, map-append}
 use Rattle.std.specs.List.{list_all}
-use Rattle.csv_records.proofs.PlaceFacts.{item_from, field_there}
+use Rattle.csv_records.proofs.PlaceFacts.{field_there}
 use Rattle.olap_meaning.specs.Records.{column_place, field_in}
+use Rattle.olap_meaning.proofs.Lists.{drop_step}
 
 -- places that were found one for each item
 pub place_of_item : {A : Type 0} (g : A → Option ℕ) (places : List ℕ) (items : List A) → map (λ place. Some place) places ≡ map g items
@@ -19,7 +20,7 @@ place_of_item g (x ∷ xs) (y ∷ ys) same (suc i) item h is =
 
 -- a test of each item from a place on is that of the item there and of the others
 pub all_from : {A : Type 0} (p : A → Bool) (items : List A) (i : ℕ) (item : A) → i < length items → item ≡ get_or items i item → list_all p (drop i items) ≡ p item && list_all p (drop (i + 1) items)
-all_from p items i item h is = ap (list_all p) (item_from items i item h is)
+all_from p items i item h is = ap (list_all p) (drop_step items i item h is)
 
 -- what a pair asks of a record is told by the field at its place
 pub asked_from : (header row : List (List ℕ)) (places : List ℕ) (pairs : List (List ℕ × List ℕ)) → map (λ place. Some place) places ≡ map (λ p. column_place p.0 header) pairs

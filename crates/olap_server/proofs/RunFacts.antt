@@ -1,17 +1,16 @@
 -- How a run ends, and what it tells.
 use Rattle.std.proofs.Common.{◌≡◌, ◌≢◌, refl, sym, ◌∙◌, ap, subst, ℕ, List, Option, Some, None, IsSome, inl, inr, [], append-nil}
-use Rattle.std.specs.Prelude.{Err, IfSome, All}
-use Rattle.std.proofs.lemmas.List.Elements.{All-nil}
+use Rattle.std.specs.Prelude.{Err, IfSome}
 use Rattle.olap_meaning.specs.declared.tables.Setting.{Setting}
 use Rattle.olap_meaning.specs.Commands.{Command, Cell, Run}
 use Rattle.olap_meaning.specs.History.{Entry}
 use Rattle.outside.specs.Fetched.{Fetched}
 use Rattle.outside.specs.Told.{Files}
 use Rattle.cache_opening.specs.Asking.{Asking, Leads, stopped}
-use Rattle.outside.specs.Told.{IsOf}
 use Rattle.cache_opening.specs.Opening.{opening_from}
 use Rattle.cache_opening.specs.declared.fault.OpenFault.{OpenFault}
 use Rattle.cache_opening.specs.declared.fault.OpenFault.TheVariants as fault
+use Rattle.cache_opening.proofs.LeadFacts.{none_theirs}
 use Rattle.history_core.specs.History.{HistoryOf}
 use Rattle.history_core.specs.Cache.{CacheOf}
 use Rattle.line_session.specs.Tools.{ToolsOf}
@@ -52,13 +51,9 @@ pub of_history : (o : Option HistoryOf) (P Q R : HistoryOf → Type 0) → ((his
 of_history None P Q R both first second = tt
 of_history (Some history) P Q R both first second = both history first second
 
-none_asked : (files : Option Files) → IfSome files (λ all. All (IsOf all) [])
-none_asked None = tt
-none_asked (Some all) = All-nil (IsOf all)
-
 -- nothing was asked for, since there was no memory
 leads_nowhere : {A : Type 0} (files : Option Files) (answers : List Fetched) (asking : Asking A) → Leads files answers answers asking (Err fault.OutOfMemory)
-leads_nowhere files answers asking = record { answers = []; added = sym (append-nil answers); comes = stopped; theirs = none_asked files }
+leads_nowhere files answers asking = record { answers = []; added = sym (append-nil answers); comes = stopped; theirs = none_theirs files }
 
 -- what is told of a fault of the opening has its cause
 opening_told : (file : List ℕ) (files : Option Files) (before after : List Fetched) (f : OpenFault) → Leads files before after (opening_from file) (Err f) → OpeningTells file files before after (told_opening f).status (told_opening f).text

@@ -19,12 +19,12 @@ IsAsked (words.Read given) command = command ≡ command_of (map string_bytes gi
 IsAsked words.NotText command = command ≡ None
 IsAsked words.OutOfMemory command = ⊥
 
--- words begin with `run`, and none of those behind it is one that can be no option and no value
+-- words begin with `run`, and none of those after it is one that can be no option and no value
 abbrev pub may_be_run : List (List ℕ) → Bool
 may_be_run [] = false
 may_be_run (first ∷ words) = bytes_eq first (codes "run") && not (list_any is_odd words)
 
--- memory may be wanting for words: they are a command line, or may be the command `run`, whose options take memory to read
+-- there may be no memory for words: they are a command line, or may be the command `run`, whose options take memory to read
 abbrev pub MayWant : List (List ℕ) → Type 0
 MayWant given = IsSome (command_of given) ⊎ (may_be_run given ≡ true)
 

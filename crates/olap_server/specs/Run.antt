@@ -198,7 +198,7 @@ IsLastLine last text before after status =
     ((status ≡ last) × (after ≡ before ++ took text ∷ []))
     ⊎ ((status ≡ Sink) × IsCut text before after)
 
--- the status of a run whose session ended so, and what has passed behind its conversation
+-- the status of a run whose session ended so, and what has passed after its conversation
 abbrev pub IsLast : SessionEnd → List Event → List Event → Status → Type 0
 IsLast end.Quit before after status = (status ≡ Done) × (after ≡ before)
 IsLast end.EndOfInput before after status = (status ≡ Done) × (after ≡ before)
@@ -218,7 +218,7 @@ dealing_over opened cache asked =
     record { before = desk_over opened; after = desk_over cache; asked = asked }
 
 -- a session was served over a cache, which was a conversation, and then the last was said; where the link tells what
--- is left, the lines that were handled in it are those of that. For these lines so many rows and groups were read
+-- is left, the lines that were handled in it are those of that. For these lines this many rows and groups were read
 pub record HasServed (tools : ToolsOf) (files : Option Files) (opened cache : CacheOf) (start finish : Around)
     (status : Status) (read : ℕ) : Type 0 where
   pub end : SessionEnd
@@ -247,21 +247,21 @@ pub record HasNotBegun (opened cache : CacheOf) (start finish : Around)
 abbrev pub cache_of : HistoryOf → CacheOf
 cache_of history = record { setting = history.setting; entries = history.entries }
 
--- a session over a cache was served, for which so many rows and groups were read, or could not begin
+-- a session over a cache was served, for which this many rows and groups were read, or could not begin
 abbrev pub ServesDesk : ToolsOf → Option Files → CacheOf → CacheOf → Around → Around → Status → ℕ
     → Type 0
 ServesDesk tools files opened cache start finish status read =
     HasServed tools files opened cache start finish status read
     ⊎ HasNotBegun opened cache start finish status read
 
--- a run ends over a cache that was opened: its session was served, for which so many rows and groups were read, or could not
+-- a run ends over a cache that was opened: its session was served, for which this many rows and groups were read, or could not
 -- begin
 abbrev pub EndsRun : ToolsOf → Option Files → CacheOf → HistoryOf → Around → Around → Status → ℕ
     → Type 0
 EndsRun tools files opened history start finish status read =
     ServesDesk tools files opened (cache_of history) start finish status read
 
--- the same time, but for what a depot was asked for
+-- the same time, except for what a depot was asked for
 abbrev pub with_answers : Around → List Fetched → Around
 with_answers around answers = record around { answers = answers }
 
@@ -273,7 +273,7 @@ AddsFew words files before after steps_before steps_after =
     ⊎ ((file : List ℕ) × IsAsked words (Some (Run file))
     × AddsFewSteps files before after file steps_before steps_after)
 
--- a run of the words opened a cache from their schema's file, by so many steps, and then served a session over it: the other
+-- a run of the words opened a cache from their schema's file, by this many steps, and then served a session over it: the other
 -- steps are what was read for its lines
 pub record RunsSession (tools : ToolsOf) (words : Words) (files : Option Files) (start finish : Around)
     (steps_before steps_after : ℕ) (history : HistoryOf) (status : Status) : Type 0 where

@@ -19,7 +19,7 @@ use std::thread::Threads;
 
 /// The aggregate of a column over the records of a CSV file whose fields equal the pairs, each a column and a field.
 ///
-/// The parts of a large file are read in several threads, but for a distinct count.
+/// The parts of a large file are read in several threads, except for a distinct count.
 pub fn cell_of_csv(
     rt: &(impl Threads + Sync),
     alloc: Global,
@@ -97,7 +97,7 @@ fn side_by_side(
     Some(whole.finish())
 }
 
-// What is kept of each part below the header, in order. None where a part has a fault, or memory is wanting.
+// What is kept of each part below the header, in order. None where a part has a fault, or there is no memory.
 fn fold_parts(
     rt: &(impl Threads + Sync),
     alloc: Global,

@@ -70,7 +70,7 @@ fn read_pairs(alloc: Global, words: &[String]) -> Result<List<(Text, Text)>, Out
     Ok(pairs)
 }
 
-/// The command of the words behind `cell`, read by their places; None where they are no such command.
+/// The command of the words after `cell`, read by their places; None where they are no such command.
 pub(crate) fn read_cell<'a>(
     alloc: Global,
     words: &'a [String],

@@ -65,7 +65,7 @@ impl CellFault {
         }
     }
 
-    /// What is told of the fault, behind the name of its file.
+    /// What is told of the fault, after the name of its file.
     pub(crate) fn text(&self, alloc: Global) -> Result<Text, OutOfMemory>
         ensures { IfOk result (λ t. t ≡ refusal_text self.now) }
     {

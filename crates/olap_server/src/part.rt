@@ -27,7 +27,7 @@ impl Model for Part {
 }
 
 impl Part {
-    /// The part of so many records, with the tally of those that are asked for.
+    /// The part of this many records, with the tally of those that are asked for.
     pub(crate) fn new(tally: Tally, count: u64) -> Part
         requires { IsWithinFile tally.values count }
         ensures { result
@@ -36,7 +36,7 @@ impl Part {
         Part { tally, count }
     }
 
-    /// Adds a part behind this one, where both together are not too large for a file, and says so.
+    /// Adds a part after this one, where both together are not too large for a file, and says so.
     fn join(&mut self, other: &Part) -> bool
         requires one_aggregator { self.old.aggregator ≡ other.now.aggregator }
         requires no_distinct_count { self.old.aggregator ≢ DistinctCount }

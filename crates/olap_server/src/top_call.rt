@@ -33,7 +33,7 @@ use std::alloc::Global;
 use std::sync::ledger::Ledger;
 use std::thread::Threads;
 
-/// Carries out a command line: its words are those behind the program's name. Where it opens a cache, it serves a session
+/// Carries out a command line: its words are those after the program's name. Where it opens a cache, it serves a session
 /// over it on a link with these tools, and gives the cache's history.
 ///
 /// It takes one link, and no input and output apart, since what is promised of the order of what is received and what is
@@ -70,7 +70,7 @@ pub fn run<D: Depot, K: Link, L: Ledger>(
         (around_of D.answers K.talk K.left depot.old link.old)
         (around_of D.answers K.talk K.left depot.new link.new) }
 
-    // Then no step was added, but for the rows over which an aggregate table's file is checked.
+    // Then no step was added, except for the rows over which an aggregate table's file is checked.
     ensures few { result.history ≡ None
         → AddsFew words.now (D.files depot.old) (D.answers depot.old) (D.answers depot.new)
         steps.old steps.new }

@@ -1,6 +1,6 @@
 //! The words of a command line.
 
-/// The words of a command line behind the program's name, as the system gave them.
+/// The words of a command line after the program's name, as the system gave them.
 #[derive(Drop)]
 pub enum Words {
     /// All of them.

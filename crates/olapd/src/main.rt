@@ -18,7 +18,7 @@ use std::rt::Env;
 use std::sync::ledger::Blank;
 use std::{env, io};
 
-// The words behind the program's name.
+// The words after the program's name.
 fn words(rt: &(impl Env + AllocGlobal)) -> io::Result<Vec<String>> {
     Ok(env::args(rt)?.skip(1).collect(rt.alloc())?)
 }

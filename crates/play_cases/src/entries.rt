@@ -266,7 +266,7 @@ fn short_entry(kind: &str, words: &[&str]) -> Result<PlainEntry, Wrong> {
     }
 }
 
-// The entry of a word and what stands behind it.
+// The entry of a word and what stands after it.
 fn entry_of(alloc: Global, words: &[&str]) -> Result<PlainEntry, Wrong> {
     let [kind, rest @ ..] = words else {
         return Err(Wrong::Words("no entry"));

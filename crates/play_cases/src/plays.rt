@@ -128,7 +128,7 @@ fn answered(alloc: Global, history: &History, asked: &str) -> Result<String, Wro
     }
 }
 
-// What is said of a line, where so many calls stand before it.
+// What is said of a line, where this many calls stand before it.
 fn said(alloc: Global, run: &Run, before: usize, asked: &str) -> Result<String, Wrong> {
     if is_question(asked) {
         return answered(alloc, run.manager.history(), asked);

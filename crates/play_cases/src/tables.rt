@@ -15,7 +15,7 @@ struct Table<'a> {
     lines: &'a str,
 }
 
-// A table of a part of a file, behind its first mark.
+// A table of a part of a file, after its first mark.
 fn table_of(part: &str) -> Table<'_> {
     let (head, lines) = part.split_once('\n').unwrap_or((part, ""));
     let (kind, name) = head.split_once(": ").unwrap_or((head, ""));

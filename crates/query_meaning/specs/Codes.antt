@@ -35,7 +35,7 @@ abbrev mutual
   all_items none = []
   all_items (more set sets) = items_of set ++ all_items sets
 
--- a set behind those of the innermost open one
+-- a set after those of the innermost open one
 abbrev pub added : Set → List Sets → List Sets
 added set [] = []
 added set (sets ∷ around) = pushed sets set ∷ around

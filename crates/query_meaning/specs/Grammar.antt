@@ -45,12 +45,12 @@ abbrev pub MorePaths : List (List (List ℕ)) → Tokens → Tokens
 MorePaths [] Then ts = Next (Sign 41) Then ts
 MorePaths (path ∷ paths) Then ts = Next (Sign 44) (Path path (MorePaths paths Then)) ts
 
--- the paths of a tuple, behind its "("
+-- the paths of a tuple, after its "("
 abbrev pub Paths : List (List (List ℕ)) → Tokens → Tokens
 Paths [] Then ts = ⊥
 Paths (path ∷ paths) Then ts = Path path (MorePaths paths Then) ts
 
--- what may stand behind the path of a set
+-- what may stand after the path of a set
 abbrev pub Suffix : Picks → Tokens → Tokens
 Suffix picks.Itself Then ts = Then ts
 Suffix picks.Members Then ts = Next (Sign 46) (Key keyword.Members Then) ts
@@ -76,7 +76,7 @@ abbrev mutual
       (Next (Sign 40) (IsSet left first
       (Next (Sign 44) (IsSet left second (Next (Sign 41) Then))))) ts
 
-  -- what stands behind the "{" of a set below which `left` depths are left
+  -- what stands after the "{" of a set below which `left` depths are left
   pub Items : ℕ → Sets → Tokens → Tokens
   Items left none Then ts = Next (Sign 125) Then ts
   Items zero (more set sets) Then ts = ⊥

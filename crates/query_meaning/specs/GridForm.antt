@@ -46,7 +46,7 @@ pub record IsGridText (shows : CellValue → List ℕ → Type 0) (grid : Grid)
       (head_text grid.position (length grid.columns) (length grid.rows)
       ∷ map column_text grid.columns ++ rows ++ codes "." ∷ [])
 
--- a row of so many columns: its title has the form of one, and each of its values can be shown
+-- a row of this many columns: its title has the form of one, and each of its values can be shown
 pub record IsRow (columns : ℕ) (row : GridRow) : Type 0 where
   pub title : IsTitle row.title
   pub count : length row.values ≡ columns

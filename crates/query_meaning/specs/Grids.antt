@@ -15,7 +15,7 @@ use Rattle.query_meaning.specs.Titles.{tuple_title}
 abbrev pub row_tuples : Axes → List (List Member)
 row_tuples axes = option_map_or (λ rows. rows.tuples) axes.rows ([] ∷ [])
 
--- the value of the cell in a row and a column. Cells are in order row by row, so many columns in each
+-- the value of the cell in a row and a column. Cells are in order row by row, this many columns in each
 abbrev pub value_at : ℕ → List CellValue → ℕ → ℕ → CellValue
 value_at columns values row column = slice_index_or values (row * columns + column) Empty
 

@@ -17,7 +17,7 @@ pub data IsBeforeLf : List ℕ → List ℕ → Type 0 where
   nothing_between : {line : List ℕ} → ((front : List ℕ) → line ≢ front ++ 13 ∷ [])
       → IsBeforeLf line []
 
--- what an input begins with: nothing, a line and the bytes behind it, or too many bytes without an LF
+-- what an input begins with: nothing, a line and the bytes after it, or too many bytes without an LF
 pub data Front : Type 0 where
   Nothing : Front
   FirstLine : List ℕ → List ℕ → Front

@@ -33,7 +33,7 @@ abbrev mutual
   all_items none = []
   all_items (more part parts) = items_of part ++ all_items parts
 
--- a region behind those of the innermost parts
+-- a region after those of the innermost parts
 abbrev pub added : RegionTree → List RegionTrees → List RegionTrees
 added part [] = []
 added part (parts ∷ around) = pushed parts part ∷ around

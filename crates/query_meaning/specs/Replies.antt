@@ -1,4 +1,4 @@
--- The replies to lines, but for grids. Numbers are in decimal.
+-- The replies to lines, except for grids. Numbers are in decimal.
 use Rattle.std.specs.Prelude.{ℕ, ◌++◌, List, codes}
 use Rattle.std.specs.Fmt.{decimal}
 use Rattle.olap_meaning.specs.Texts.{line, named_line}
@@ -49,7 +49,7 @@ source_reply name = named_line (codes "ERR 11 SOURCE") name
 abbrev pub refused_batch_reply : List ℕ → List ℕ
 refused_batch_reply told = line (codes "ERR 12 BATCH " ++ told)
 
--- the reply where a cache does not have so many entries yet, but those of this front
+-- the reply where a cache does not have this many entries yet, but those of this front
 abbrev pub not_yet_reply : ℕ → ℕ → List ℕ
 not_yet_reply asked front =
     line (codes "ERR 14 NOT YET " ++ decimal asked ++ codes " " ++ decimal front)

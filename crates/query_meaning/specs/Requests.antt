@@ -25,13 +25,13 @@ first_word text = take (position_or_len (λ c. not (is_letter c)) text) text
 abbrev pub behind_word : List ℕ → List ℕ
 behind_word text = drop (position_or_len (λ c. not (is_letter c)) text) text
 
--- the argument of a command, by what stands behind its word: nothing, or what stands behind one white character
+-- the argument of a command, by what stands after its word: nothing, or what stands after one white character
 abbrev pub argument_behind : List ℕ → Option (List ℕ)
 argument_behind [] = Some []
 argument_behind (c ∷ text) = if is_white c then Some text else None
 
 -- the argument of a command in a line, by the command's word in capital letters; None where the line has another
--- word, or no white behind it
+-- word, or no white after it
 abbrev pub argument_of : List ℕ → List ℕ → Option (List ℕ)
 argument_of word line =
     if bytes_eq (in_capitals (first_word (after_white line))) word

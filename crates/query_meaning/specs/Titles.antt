@@ -46,11 +46,11 @@ abbrev pub mark : Bool → List ℕ
 mark true = codes ", "
 mark false = codes "."
 
--- a name text behind its mark
+-- a name text after its mark
 abbrev pub marked_name : TitleName → List ℕ
 marked_name one = mark one.begins ++ name_text one.name
 
--- name texts in a row, each behind its mark but the first
+-- name texts in a row, each after its mark but the first
 abbrev pub names_text : List TitleName → List ℕ
 names_text [] = []
 names_text (first ∷ others) = name_text first.name ++ flat_map marked_name others

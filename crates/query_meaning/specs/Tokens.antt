@@ -69,7 +69,7 @@ pub data Spells : Bool → ℕ → List Placed → List ℕ → Type 0 where
       → class c ≡ class_is.Letter → AreLetters more → text ≡ more ++ rest
       → Spells true (at + len_utf8 c + size more) tokens rest
       → Spells false at (At at (token.Word (in_capitals (c ∷ more))) ∷ tokens) (c ∷ text)
-  -- a name of one or more characters, in its brackets. No "]" comes behind them, since no token begins with one.
+  -- a name of one or more characters, in its brackets. No "]" comes after them, since no token begins with one.
   name : {after : Bool} {at c : ℕ} {tokens : List Placed} {text : List ℕ} (more rest : List ℕ)
       → class c ≡ class_is.Open → encode_utf8_all more ≢ [] → text ≡ escaped more ++ 93 ∷ rest
       → Spells false (at + len_utf8 c + size (escaped more) + 1) tokens rest

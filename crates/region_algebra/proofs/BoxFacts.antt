@@ -2,7 +2,7 @@
 use Rattle.std.proofs.Common.{◌≡◌, ◌∙◌, ◌+◌, ◌*◌, ◌<◌, ◌≤◌, ◌++◌, ◌⊎◌, inl, inr, ℕ, suc, Bool, true, false, ◌&&◌, ◌||◌, List, [], ◌∷◌, None, All, refl, sym, ap, subst, arith, flat_map, get_or, length, map, nat_le, nat_lt, take, if◌then◌else◌}
 use Rattle.std.specs.List.{fold, list_all, list_any}
 use Rattle.std.specs.Option.{option_or}
-use Rattle.std.proofs.lemmas.Bool.{and_parts}
+use Rattle.std.proofs.lemmas.Bool.{and_from, and_parts, leb-false, leb-true, or_left, or_right}
 use Rattle.std.proofs.lemmas.Grind.{flat_map-append}
 use Rattle.std.proofs.lemmas.List.{append-nil, length-append, length-map, map-append, take_more}
 use Rattle.std.proofs.lemmas.List.Elements.{All-append, All-head, All-map, All-nil, All-tail, All-weaker}
@@ -15,7 +15,6 @@ use Rattle.olap_meaning.specs.Legal.{is_box, is_measures, is_value}
 use Rattle.query_meaning.specs.declared.TheConstants.{BOX_LIMIT}
 use Rattle.query_meaning.specs.RegionMeaning.{all_crossed, all_dims, box_counts, crossed_boxes, many_crossed, many_united, together, too_many_boxes, whole_box}
 use Rattle.region_algebra.specs.Regions.{IsBounded}
-use Rattle.region_algebra.proofs.BoolFacts.{and_true, false_le, or_true, true_le, true_or}
 use Rattle.region_algebra.proofs.Counts.{many}
 
 -- the boxes of one more
@@ -75,9 +74,9 @@ crossed_few (part ∷ parts) boxes few none = by (crossed_few parts (crossed_box
         → (if b then many_crossed (length boxes * length part.boxes) (box_counts parts) else too_many_boxes (length boxes * length part.boxes)) ≡ None
         → length (fold crossed_boxes (crossed_boxes boxes part.boxes) (boxes_in parts)) ≤ BOX_LIMIT
     by rest true is later =
-        rest (subst (λ n. n ≤ BOX_LIMIT) (sym (length_crossed boxes part.boxes)) (true_le _ _ is))
+        rest (subst (λ n. n ≤ BOX_LIMIT) (sym (length_crossed boxes part.boxes)) (leb-true _ _ is))
         (ap (λ n. many_crossed n (box_counts parts)) (length_crossed boxes part.boxes) ∙ later)
-    by rest false is past = absurd (none_many (length boxes * length part.boxes) (false_le _ _ is) past)
+    by rest false is past = absurd (none_many (length boxes * length part.boxes) (leb-false _ _ is) past)
 
 -- the same of a union and sums
 pub united_few : (parts : List Region) (sum : ℕ) → sum ≤ BOX_LIMIT → many_united sum (box_counts parts) ≡ None → sum + length (flat_map (λ part. part.boxes) parts) ≤ BOX_LIMIT
@@ -88,8 +87,8 @@ united_few (part ∷ parts) sum few none = by (united_few parts (sum + length pa
         → (b : Bool) → nat_le (sum + length part.boxes) BOX_LIMIT ≡ b
         → (if b then many_united (sum + length part.boxes) (box_counts parts) else too_many_boxes (sum + length part.boxes)) ≡ None
         → sum + length (part.boxes ++ flat_map (λ (p : Region). p.boxes) parts) ≤ BOX_LIMIT
-    by rest true is later = omega (arith, length-append part.boxes (flat_map (λ (p : Region). p.boxes) parts), rest (true_le _ _ is) later)
-    by rest false is past = absurd (none_many (sum + length part.boxes) (false_le _ _ is) past)
+    by rest true is later = omega (arith, length-append part.boxes (flat_map (λ (p : Region). p.boxes) parts), rest (leb-true _ _ is) later)
+    by rest false is past = absurd (none_many (sum + length part.boxes) (leb-false _ _ is) past)
 
 -- a box names no measures
 abbrev pub NamesNone : RegionBox → Type 0
@@ -113,33 +112,33 @@ crossed_measures (part ∷ parts) boxes all none = by (λ more. crossed_measures
     split = list_any-append is_measures part.dims (all_dims parts)
 
     later : (list_any is_measures (all_dims parts) ≡ true) ⊎ All NamesNone (fold crossed_boxes (crossed_boxes boxes part.boxes) (boxes_in parts)) → (list_any is_measures (part.dims ++ all_dims parts) ≡ true) ⊎ All NamesNone (fold crossed_boxes (crossed_boxes boxes part.boxes) (boxes_in parts))
-    later (inl some) = inl (split ∙ or_true (list_any is_measures part.dims) (list_any is_measures (all_dims parts)) some)
+    later (inl some) = inl (split ∙ or_right (list_any is_measures part.dims) (list_any is_measures (all_dims parts)) some)
     later (inr more) = inr more
 
     by : (All NamesNone part.boxes → (list_any is_measures (all_dims parts) ≡ true) ⊎ All NamesNone (fold crossed_boxes (crossed_boxes boxes part.boxes) (boxes_in parts)))
         → (list_any is_measures part.dims ≡ true) ⊎ All NamesNone part.boxes
         → (list_any is_measures (part.dims ++ all_dims parts) ≡ true) ⊎ All NamesNone (fold crossed_boxes (crossed_boxes boxes part.boxes) (boxes_in parts))
-    by rest (inl some) = inl (split ∙ true_or (list_any is_measures part.dims) (list_any is_measures (all_dims parts)) some)
+    by rest (inl some) = inl (split ∙ or_left (list_any is_measures part.dims) (list_any is_measures (all_dims parts)) some)
     by rest (inr more) = later (rest more)
 
 module _ (catalog : Catalog) where
   together_box : (first second : RegionBox) → is_box catalog first ≡ true → is_box catalog second ≡ true → is_box catalog (together first second) ≡ true
   together_box first second one other =
       list_all-append (λ column. nat_lt column.0 (length catalog.columns) && list_all (is_value catalog column.0) column.1) first.columns second.columns
-      ∙ and_true _ _ one other
+      ∙ and_from _ _ one other
 
   each_together : (first : RegionBox) (seconds : List RegionBox) → is_box catalog first ≡ true → list_all (is_box catalog) seconds ≡ true → list_all (is_box catalog) (map (together first) seconds) ≡ true
   each_together first [] one others = refl
   each_together first (second ∷ seconds) one others =
       let parts = and_parts (is_box catalog second) (list_all (is_box catalog) seconds) others in
-      and_true _ _ (together_box first second one parts.0) (each_together first seconds one parts.1)
+      and_from _ _ (together_box first second one parts.0) (each_together first seconds one parts.1)
 
   crossed_own : (firsts seconds : List RegionBox) → list_all (is_box catalog) firsts ≡ true → list_all (is_box catalog) seconds ≡ true → list_all (is_box catalog) (crossed_boxes firsts seconds) ≡ true
   crossed_own [] seconds one other = refl
   crossed_own (first ∷ firsts) seconds one other =
       let parts = and_parts (is_box catalog first) (list_all (is_box catalog) firsts) one in
       list_all-append (is_box catalog) (map (together first) seconds) (crossed_boxes firsts seconds)
-      ∙ and_true _ _ (each_together first seconds parts.0 other) (crossed_own firsts seconds parts.1 other)
+      ∙ and_from _ _ (each_together first seconds parts.0 other) (crossed_own firsts seconds parts.1 other)
 
   -- a region's boxes are the catalog's
   abbrev pub HasOwnBoxes : Region → Type 0

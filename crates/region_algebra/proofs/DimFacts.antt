@@ -1,20 +1,14 @@
 -- Dimensions: the first that repeats, and the measures among them.
 use Rattle.std.proofs.Common.{◌≡◌, ◌∙◌, ◌<◌, ◌+◌, ◌++◌, ℕ, suc, Bool, true, false, ◌||◌, List, [], ◌∷◌, None, Some, refl, sym, ap, length, drop, take, get_or, reverse, add-one, if◌then◌else◌, drop-cons}
 use Rattle.std.specs.List.{list_all, list_any}
-use Rattle.std.proofs.lemmas.Bool.{and_parts}
+use Rattle.std.proofs.lemmas.Bool.{and_parts, or_right}
 use Rattle.std.proofs.lemmas.List.{reverse-append, take_more}
 use Rattle.std.proofs.lemmas.List.Folds.{list_any-append}
 use Rattle.olap_meaning.specs.declared.regions.RegionDim.{RegionDim}
 use Rattle.olap_meaning.specs.declared.regions.RegionDim.TheVariants as dim
 use Rattle.olap_meaning.specs.Legal.{is_measures}
+use Rattle.olap_meaning.proofs.Lists.{or_swap}
 use Rattle.query_meaning.specs.RegionMeaning.{dim_again, has_dim, is_dim}
-use Rattle.region_algebra.proofs.BoolFacts.{or_true}
-
-or_swap : (a b : Bool) → (a || (b || false)) ≡ (b || a)
-or_swap true true = refl
-or_swap true false = refl
-or_swap false true = refl
-or_swap false false = refl
 
 any_reverse : (p : RegionDim → Bool) (dims : List RegionDim) → list_any p (reverse dims) ≡ list_any p dims
 any_reverse p [] = refl
@@ -78,7 +72,7 @@ goes_on before (one ∷ dims) others none = by (goes_on (one ∷ before) dims ot
 -- the measures are not among dimensions that go on after them, where none repeats
 pub no_measures : (before dims : List RegionDim) → dim_again before dims ≡ None → list_any is_measures before ≡ true → list_any is_measures dims ≡ false
 no_measures before [] none some = refl
-no_measures before (one ∷ dims) none some = by (λ later. no_measures (one ∷ before) dims later (or_true (is_measures one) (list_any is_measures before) some)) one (has_dim before one) refl none
+no_measures before (one ∷ dims) none some = by (λ later. no_measures (one ∷ before) dims later (or_right (is_measures one) (list_any is_measures before) some)) one (has_dim before one) refl none
   where
     by : (dim_again (one ∷ before) dims ≡ None → list_any is_measures dims ≡ false) → (o : RegionDim) (b : Bool) → has_dim before o ≡ b → (if b then Some one else dim_again (one ∷ before) dims) ≡ None → (is_measures o || list_any is_measures dims) ≡ false
     by rest o true is here = absurd (cc here)

@@ -9,7 +9,7 @@ use Rattle.query_meaning.specs.RegionMeaning.{NoCube, RegionRefusal, flush_meant
 use Rattle.region_algebra.specs.declared.fault.RegionFault.{RegionFault}
 use Rattle.region_algebra.specs.declared.fault.RegionFault.TheVariants as fault
 use Rattle.region_algebra.specs.Faults.{refusal_of, IsFaultOf, IsReason}
-use Rattle.region_algebra.proofs.Steps.{each, each_fails}
+use Rattle.olap_meaning.proofs.Each.{each, each_fails}
 
 weaker : {X : Type 0} (o : Option X) (P Q : X → Type 0) → ((x : X) → P x → Q x) → IsSomeAnd o P → IsSomeAnd o Q
 weaker None P Q on is = is

@@ -1,9 +1,11 @@
 -- Which cells ranges, crossjoins and unions cover.
 use Rattle.std.proofs.Common.{◌≡◌, ◌∙◌, ◌<◌, ◌++◌, ◌⊎◌, inl, inr, ℕ, Bool, true, false, ◌&&◌, ◌||◌, ◌==◌, not, List, [], ◌∷◌, Option, None, Some, Ok, All, refl, sym, ap, arith, length, map, option_map}
+use Rattle.std.proofs.Math.Bool.{and-false, or-false}
 use Rattle.std.specs.List.{fold, list_all, list_any}
 use Rattle.std.specs.Option.{option_or}
 use Rattle.std.proofs.lemmas.List.Elements.{All-cons, All-head, All-nil, All-tail, All-weaker}
 use Rattle.std.proofs.lemmas.List.Folds.{list_all-append, list_any-append}
+use Rattle.std.proofs.lemmas.Bool.{or_left, or_right}
 use Rattle.olap_meaning.specs.declared.cells.Cell.{Cell}
 use Rattle.olap_meaning.specs.declared.cells.Member.{Member}
 use Rattle.olap_meaning.specs.declared.regions.Region.{Region}
@@ -13,9 +15,10 @@ use Rattle.olap_meaning.specs.declared.tables.Catalog.{Catalog}
 use Rattle.olap_meaning.specs.Covering.{among, box_covers, of_measure, region_covers}
 use Rattle.olap_meaning.specs.Legal.{is_measures}
 use Rattle.olap_meaning.specs.Results.{unless}
+use Rattle.olap_meaning.proofs.Lists.{any_map, or_first}
 use Rattle.query_meaning.specs.RegionMeaning.{CommonDimension, all_dims, crossed_boxes, crossjoin_meant, dim_again, dim_of, member_box, member_region, members_from, members_region, range_meant, together, too_many_boxes, two_levels, union_meant, whole_box}
 use Rattle.region_algebra.specs.Regions.{IsBounded}
-use Rattle.region_algebra.proofs.BoolFacts.{all_agree, and_false, and_or, and_swap, any_agree, any_flat_map, any_map, everywhere, or_and, or_false, or_first, or_true, spread_all, spread_any, true_all, true_or}
+use Rattle.region_algebra.proofs.BoolFacts.{all_agree, and_or, and_swap, any_agree, any_flat_map, everywhere, or_and, spread_all, spread_any, true_all}
 use Rattle.region_algebra.proofs.BoxFacts.{NamesNone, crossed_none}
 use Rattle.region_algebra.proofs.DimFacts.{goes_on, no_measures}
 use Rattle.region_algebra.proofs.FaultFacts.{unless_ok}
@@ -55,7 +58,7 @@ module _ (cell : Cell) where
       ∙ and_swap (of_measure first.measures cell.measure) (of_measure second.measures cell.measure) (list_all (agrees first.columns) cell.at) (list_all (agrees second.columns) cell.at)
 
   row_covers : (first : RegionBox) (seconds : List RegionBox) → NamesNone first ⊎ All NamesNone seconds → some_covers (map (together first) seconds) ≡ (box_covers first cell && some_covers seconds)
-  row_covers first [] free = sym (and_false (box_covers first cell))
+  row_covers first [] free = sym (and-false (box_covers first cell))
   row_covers first (second ∷ seconds) free =
       ap (λ b. b || some_covers (map (together first) seconds)) (together_covers first second (head free))
       ∙ ap (λ b. (box_covers first cell && box_covers second cell) || b) (row_covers first seconds (tail free))
@@ -118,12 +121,12 @@ module _ (cell : Cell) where
       apart (inr some) (inr none) = inr none
 
       next : All NamesNone boxes ⊎ (list_any is_measures before ≡ true) → (list_any is_measures part.dims ≡ true) ⊎ All NamesNone part.boxes → All NamesNone (crossed_boxes boxes part.boxes) ⊎ (list_any is_measures after.0 ≡ true)
-      next (inl none) (inl own) = inr (after.2 ∙ true_or (list_any is_measures part.dims) (list_any is_measures before) own)
+      next (inl none) (inl own) = inr (after.2 ∙ or_left (list_any is_measures part.dims) (list_any is_measures before) own)
       next (inl none) (inr more) = inl (crossed_none boxes part.boxes none more)
-      next (inr some) own = inr (after.2 ∙ or_true (list_any is_measures part.dims) (list_any is_measures before) some)
+      next (inr some) own = inr (after.2 ∙ or_right (list_any is_measures part.dims) (list_any is_measures before) some)
 
   whole_covers : some_covers (whole_box ∷ []) ≡ true
-  whole_covers = or_false (box_covers whole_box cell) ∙ true_all cell.at
+  whole_covers = or-false (box_covers whole_box cell) ∙ true_all cell.at
 
   none_common : (o : Option RegionDim) → option_map CommonDimension o ≡ None → o ≡ None
   none_common None none = refl
@@ -166,4 +169,4 @@ module _ (cell : Cell) where
       ∙ ap (λ b. (cube == cell.cube) && b) (any_map (λ box. box_covers box cell) (member_box catalog) members)
       ∙ spread_any (cube == cell.cube) (λ m. box_covers (member_box catalog m) cell) members
       ∙ any_agree (λ m. (cube == cell.cube) && box_covers (member_box catalog m) cell) (λ m. region_covers (member_region catalog cube m) cell) members
-      (everywhere (λ m. ((cube == cell.cube) && box_covers (member_box catalog m) cell) ≡ region_covers (member_region catalog cube m) cell) (λ m. ap (λ b. (cube == cell.cube) && b) (sym (or_false (box_covers (member_box catalog m) cell)))) members)
+      (everywhere (λ m. ((cube == cell.cube) && box_covers (member_box catalog m) cell) ≡ region_covers (member_region catalog cube m) cell) (λ m. ap (λ b. (cube == cell.cube) && b) (sym (or-false (box_covers (member_box catalog m) cell)))) members)

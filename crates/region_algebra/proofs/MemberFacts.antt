@@ -2,29 +2,29 @@
 use Rattle.std.proofs.Common.{◌≡◌, ◌∙◌, ◌+◌, ◌-◌, ◌<◌, ◌≤◌, ◌++◌, ◌⊎◌, inl, inr, ℕ, zero, suc, Bool, true, ◌&&◌, List, [], ◌∷◌, Option, None, Some, All, refl, sym, ap, subst, arith, drop, get_or, length, map, min, nat_lt, slice_get, take}
 use Rattle.std.specs.List.{list_all, list_any, range_with_len, zip}
 use Rattle.std.specs.Option.{option_map_or}
-use Rattle.std.proofs.lemmas.Bool.{and_parts}
+use Rattle.std.proofs.lemmas.Bool.{and_from, and_parts, lt-ltb, ltb-true}
 use Rattle.std.proofs.lemmas.List.Elements.{All-cons, All-drop, All-head, All-map, All-nil, All-same, All-tail, All-take, All-weaker}
 use Rattle.std.proofs.Math.Seq.{take-append_seam}
 use Rattle.std.proofs.lemmas.List.{length-drop, length-take-le}
-use Rattle.std.proofs.lemmas.Option.{slice_get_cases, slice_get_within}
+use Rattle.olap_catalog.proofs.MemberFacts.{column_there}
 use Rattle.olap_meaning.specs.declared.cells.Member.{Member}
 use Rattle.olap_meaning.specs.declared.cells.Member.TheVariants as member
 use Rattle.olap_meaning.specs.declared.regions.RegionBox.{RegionBox}
 use Rattle.olap_meaning.specs.declared.regions.RegionDim.{RegionDim}
 use Rattle.olap_meaning.specs.declared.schema.TheConstants.{MEASURE_LIMIT}
 use Rattle.olap_meaning.specs.declared.tables.Catalog.{Catalog}
-use Rattle.olap_meaning.specs.declared.tables.Column.{Column}
 use Rattle.olap_meaning.specs.declared.tables.Cube.{Cube}
 use Rattle.olap_meaning.specs.declared.tables.Hierarchy.{Hierarchy}
-use Rattle.olap_meaning.specs.Catalog.{all_text, field_texts, first_appearances, records, values}
+use Rattle.olap_meaning.specs.Catalog.{all_text, values}
 use Rattle.olap_meaning.specs.Legal.{is_box, is_measures, is_value}
 use Rattle.olap_meaning.specs.MemberOf.{is_path, IsMemberOf}
 use Rattle.olap_meaning.specs.Schema.{cube_over, IsWithinCube}
 use Rattle.olap_meaning.specs.Whole.{IsWhole}
+use Rattle.olap_meaning.proofs.Lists.{holds_at}
 use Rattle.query_meaning.specs.declared.TheConstants.{BOX_LIMIT}
 use Rattle.query_meaning.specs.RegionMeaning.{between, dim_of, level_around, measures_of, measures_region, member_box, member_region, members_region, named_measures}
 use Rattle.region_algebra.specs.Regions.{HasHierarchy, IsBoundedOf}
-use Rattle.region_algebra.proofs.BoolFacts.{and_true, everywhere, lt_true, true_lt}
+use Rattle.region_algebra.proofs.BoolFacts.{everywhere}
 use Rattle.region_algebra.proofs.BoxFacts.{NamesNone}
 
 -- a member of a cube is a measure or of a hierarchy
@@ -34,11 +34,6 @@ has_hierarchy catalog cube (member.All h) own = own.0
 has_hierarchy catalog cube (member.At h path) own = own.0
 
 -- ---- measures
-
-holds_at : {A : Type 0} (P : A → Type 0) (xs : List A) (i : ℕ) (x : A) → All P xs → slice_get xs i ≡ Some x → P x
-holds_at P [] i x all there = absurd (cc there)
-holds_at P (y ∷ ys) zero x all there = let same : y ≡ x = cc there in subst P same (All-head P y ys all)
-holds_at P (y ∷ ys) (suc i) x all there = holds_at P ys i x (All-tail P y ys all) there
 
 -- a cube has few measures
 pub few_measures : (catalog : Catalog) (cube : ℕ) (c : Cube) → IsWhole catalog.schema → catalog.cubes ≡ map (cube_over catalog.schema.dimensions) catalog.schema.cubes → slice_get catalog.cubes cube ≡ Some c → length c.measures ≤ MEASURE_LIMIT
@@ -75,24 +70,14 @@ measures_own catalog cube = record {
 
 -- ---- the boxes of members
 
-column_there : (catalog : Catalog) (column value : ℕ) → value < length (values catalog column) → column < length catalog.columns
-column_there catalog column value within =
-    elim ((slice_get_cases catalog.columns column).1) [
-      | inl here ↦ slice_get_within catalog.columns column here.0 here.2
-      | inr past ↦
-          let none : length (values catalog column) ≡ 0 =
-          ap (λ o. length (option_map_or (λ (c : Column). first_appearances (field_texts c.field (records catalog c.dimension))) o [])) past.1 in
-          absurd (omega (arith, none, within))
-    ]
-
 -- columns and values of a catalog
 abbrev pairs_own : Catalog → List (ℕ × List ℕ) → Bool
 pairs_own catalog columns = list_all (λ column. nat_lt column.0 (length catalog.columns) && list_all (is_value catalog column.0) column.1) columns
 
 pair_own : (catalog : Catalog) (column value : ℕ) → nat_lt value (length (values catalog column)) ≡ true → (nat_lt column (length catalog.columns) && list_all (is_value catalog column) (value ∷ [])) ≡ true
 pair_own catalog column value is =
-    and_true _ _ (lt_true column (length catalog.columns) (column_there catalog column value (true_lt value (length (values catalog column)) is)))
-    (and_true _ _ is refl)
+    and_from _ _ (lt-ltb column (length catalog.columns) (column_there catalog column value (ltb-true value (length (values catalog column)) is)))
+    (and_from _ _ is refl)
 
 zipped_own : (catalog : Catalog) (columns path : List ℕ) → is_path catalog columns path ≡ true → pairs_own catalog (map (λ pair. (pair.0, pair.1 ∷ [])) (zip columns path)) ≡ true
 zipped_own catalog [] [] is = refl
@@ -100,7 +85,7 @@ zipped_own catalog (column ∷ columns) [] is = refl
 zipped_own catalog [] (value ∷ path) is = refl
 zipped_own catalog (column ∷ columns) (value ∷ path) is =
     let parts = and_parts (nat_lt value (length (values catalog column))) (is_path catalog columns path) is in
-    and_true _ _ (pair_own catalog column value parts.0) (zipped_own catalog columns path parts.1)
+    and_from _ _ (pair_own catalog column value parts.0) (zipped_own catalog columns path parts.1)
 
 -- the box of a member is the catalog's
 pub box_own : (catalog : Catalog) (cube : ℕ) (m : Member) → IsMemberOf catalog cube m → is_box catalog (member_box catalog m) ≡ true
@@ -115,7 +100,7 @@ box_own catalog cube (member.At h path) own = by (slice_get catalog.hierarchies 
 boxes_own : (catalog : Catalog) (cube : ℕ) (members : List Member) → All (IsMemberOf catalog cube) members → list_all (is_box catalog) (map (member_box catalog) members) ≡ true
 boxes_own catalog cube [] all = refl
 boxes_own catalog cube (m ∷ members) all =
-    and_true _ _ (box_own catalog cube m (All-head (IsMemberOf catalog cube) m members all)) (boxes_own catalog cube members (All-tail (IsMemberOf catalog cube) m members all))
+    and_from _ _ (box_own catalog cube m (All-head (IsMemberOf catalog cube) m members all)) (boxes_own catalog cube members (All-tail (IsMemberOf catalog cube) m members all))
 
 -- columns with one value of a path each
 abbrev alone : List (ℕ × ℕ) → List (ℕ × List ℕ)

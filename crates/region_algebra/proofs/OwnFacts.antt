@@ -1,7 +1,7 @@
 -- What a crossjoin and a union of regions have in common with their parts.
 use Rattle.std.proofs.Common.{length, ◌&&◌, ◌||◌, ◌↔◌, nat_le, is_none, ◌≡◌, ◌∙◌, ◌⊎◌, inl, inr, ℕ, Bool, true, false, not, List, [], ◌∷◌, Option, None, Some, Ok, All, refl, sym, ap, subst, arith, find, flat_map, option_map}
 use Rattle.std.specs.List.{list_all, list_any}
-use Rattle.std.proofs.lemmas.Bool.{and_parts}
+use Rattle.std.proofs.lemmas.Bool.{and_from, and_parts, le-leb, leb-true, not-false, or_left, or_right}
 use Rattle.std.proofs.lemmas.List.Elements.{All-append, All-cons, All-head, All-nil, All-tail, All-weaker}
 use Rattle.olap_meaning.specs.declared.regions.Region.{Region}
 use Rattle.olap_meaning.specs.declared.regions.RegionBox.{RegionBox}
@@ -9,12 +9,13 @@ use Rattle.olap_meaning.specs.declared.regions.RegionDim.{RegionDim}
 use Rattle.olap_meaning.specs.declared.tables.Catalog.{Catalog}
 use Rattle.olap_meaning.specs.Legal.{is_box, is_measures}
 use Rattle.olap_meaning.specs.Results.{unless}
+use Rattle.olap_meaning.proofs.Lists.{none_found as find_none}
 use Rattle.query_meaning.specs.declared.TheConstants.{BOX_LIMIT}
 use Rattle.query_meaning.specs.declared.region_text.Joins.{Joins}
 use Rattle.query_meaning.specs.declared.region_text.Joins.TheVariants as joins
 use Rattle.query_meaning.specs.RegionMeaning.{Mismatch, all_crossed, all_dims, box_counts, common, crossjoin_meant, first_dims, has_dim, joined_meant, many_crossed, many_united, mismatch, same_dims, union_meant, whole_box}
 use Rattle.region_algebra.specs.Regions.{IsBounded, IsBoundedOf}
-use Rattle.region_algebra.proofs.BoolFacts.{all_flat_map, and_true, find_none, le_true, or_true, true_le, true_or}
+use Rattle.region_algebra.proofs.BoolFacts.{all_flat_map}
 use Rattle.region_algebra.proofs.BoxFacts.{NamesNone, HasOwnBoxes, all_crossed_own, crossed_few, crossed_measures, united_few}
 use Rattle.region_algebra.proofs.DimFacts.{measures_shared}
 use Rattle.region_algebra.proofs.FaultFacts.{unless_ok}
@@ -64,10 +65,6 @@ none_found : (dims : List RegionDim) (o : Option Region) → option_map (λ (par
 none_found dims None none = refl
 none_found dims (Some part) none = absurd (cc none)
 
-not_false : (b : Bool) → not b ≡ false → b ≡ true
-not_false true is = refl
-not_false false is = absurd (cc is)
-
 -- the boxes of parts of which none has the measures among its dimensions name none
 boxes_none : (parts : List Region) → All IsBounded parts → All (λ part. list_any is_measures part.dims ≡ false) parts → All NamesNone (flat_map (λ part. part.boxes) parts)
 boxes_none [] all without = All-nil NamesNone
@@ -87,7 +84,7 @@ without dims part lacks same = by (list_any is_measures part.dims) refl
     by : (b : Bool) → list_any is_measures part.dims ≡ b → list_any is_measures part.dims ≡ false
     by false is = is
     by true is =
-        let all = (and_parts (list_all (has_dim part.dims) dims) (list_all (has_dim dims) part.dims) (not_false (same_dims dims part.dims) same)).1 in
+        let all = (and_parts (list_all (has_dim part.dims) dims) (list_all (has_dim dims) part.dims) (not-false (same_dims dims part.dims) same)).1 in
         let e : true ≡ false = sym (measures_shared dims part.dims all is) ∙ lacks in absurd (cc e)
 
 -- a union of regions is one
@@ -144,7 +141,7 @@ all_none (box ∷ boxes) all =
 
 none_all : (boxes : List RegionBox) → All NamesNone boxes → list_all (λ box. is_none box.measures) boxes ≡ true
 none_all [] all = refl
-none_all (box ∷ boxes) all = and_true _ _ (ap is_none (All-head NamesNone box boxes all)) (none_all boxes (All-tail NamesNone box boxes all))
+none_all (box ∷ boxes) all = and_from _ _ (ap is_none (All-head NamesNone box boxes all)) (none_all boxes (All-tail NamesNone box boxes all))
 
 -- the test of what bounded regions are
 pub bounded_test : (region : Region) (result : Bool) → result ≡ (nat_le (length region.boxes) BOX_LIMIT && (list_any is_measures region.dims || list_all (λ box. is_none box.measures) region.boxes)) → (result ≡ true) ↔ IsBounded region
@@ -157,11 +154,11 @@ bounded_test region result is = (to, from)
     to : result ≡ true → IsBounded region
     to holds =
         let parts = and_parts (nat_le (length region.boxes) BOX_LIMIT) (list_any is_measures region.dims || list_all (λ box. is_none box.measures) region.boxes) (sym is ∙ holds) in
-        record { limit = true_le (length region.boxes) BOX_LIMIT parts.0; measures = either (list_any is_measures region.dims) refl parts.1 }
+        record { limit = leb-true (length region.boxes) BOX_LIMIT parts.0; measures = either (list_any is_measures region.dims) refl parts.1 }
 
     named : (list_any is_measures region.dims ≡ true) ⊎ All NamesNone region.boxes → (list_any is_measures region.dims || list_all (λ box. is_none box.measures) region.boxes) ≡ true
-    named (inl has) = true_or (list_any is_measures region.dims) (list_all (λ box. is_none box.measures) region.boxes) has
-    named (inr none) = or_true (list_any is_measures region.dims) (list_all (λ box. is_none box.measures) region.boxes) (none_all region.boxes none)
+    named (inl has) = or_left (list_any is_measures region.dims) (list_all (λ box. is_none box.measures) region.boxes) has
+    named (inr none) = or_right (list_any is_measures region.dims) (list_all (λ box. is_none box.measures) region.boxes) (none_all region.boxes none)
 
     from : IsBounded region → result ≡ true
-    from bounded = is ∙ and_true _ _ (le_true (length region.boxes) BOX_LIMIT bounded.limit) (named bounded.measures)
+    from bounded = is ∙ and_from _ _ (le-leb (length region.boxes) BOX_LIMIT bounded.limit) (named bounded.measures)

@@ -88,7 +88,7 @@ fn all_before(
     Ok(List::from_vec(boxes))
 }
 
-// A box behind each of some that are given up.
+// A box after each of some that are given up.
 fn all_behind(
     alloc: Global,
     firsts: List<RegionBox>,

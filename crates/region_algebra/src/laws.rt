@@ -1,7 +1,7 @@
 //! Laws of regions: each is the contract of a function with an empty body.
 ghost use Rattle.region_algebra.specs.Laws.{BoxLimitIsStated, CrossjoinsCover, RangesCover, UnionsCover};
 
-/// A region has at most so many boxes.
+/// A region has at most this many boxes.
 pub fn box_limit_is_stated()
     ensures { BoxLimitIsStated }
 {}

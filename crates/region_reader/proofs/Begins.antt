@@ -31,7 +31,7 @@ region_begins zero (Parts joined parts) Then at k ts h = absurd h
 region_begins (suc left) (Parts joins.Crossjoin parts) Then at k ts h = (keyword.Crossjoin, h.0, omega arith)
 region_begins (suc left) (Parts joins.Union parts) Then at k ts h = (keyword.Union, h.0, omega arith)
 
--- "(" stands behind a keyword
+-- "(" stands after a keyword
 pub opened_begins : (of : Opens) (part : RegionTree) (Then : Tokens) (at : ℕ) (k : Token) (ts : List Placed) → Opened of part Then (At at k ∷ ts) → k ≡ Sign 40
 opened_begins opens.Member (Member path) Then at k ts h = h.0
 opened_begins opens.Range (Range low high) Then at k ts h = h.0
@@ -51,20 +51,20 @@ pub path_begins : (names : List (List ℕ)) (Then : Tokens) (at : ℕ) (k : Toke
 path_begins [] Then at k ts h = absurd h
 path_begins (name ∷ names) Then at k ts h = (name, h.0)
 
--- the sign behind a path
+-- the sign after a path
 abbrev pub end_of : PathOf → ℕ
 end_of path_of.Member = 41
 end_of path_of.First = 44
 end_of (path_of.Last first) = 41
 
--- a dot or that sign stands behind a name of a path
+-- a dot or that sign stands after a name of a path
 pub dots_begin : (names : List (List ℕ)) (of : PathOf) (other : Other of) (Then : Tokens) (at : ℕ) (k : Token) (ts : List Placed) → Dots names (Behind of other Then) (At at k ∷ ts) → (k ≡ Sign 46) ⊎ (k ≡ Sign (end_of of))
 dots_begin [] path_of.Member other Then at k ts h = inr h.0
 dots_begin [] path_of.First other Then at k ts h = inr h.0
 dots_begin [] (path_of.Last first) other Then at k ts h = inr h.0
 dots_begin (name ∷ names) of other Then at k ts h = inl h.0
 
--- a comma or ")" stands behind a part, and nothing behind the outermost region
+-- a comma or ")" stands after a part, and nothing after the outermost region
 pub after_begins : (around : List Frame) (fill : Fill around) (at : ℕ) (k : Token) (ts : List Placed) → After around fill (At at k ∷ ts) → (k ≡ Sign 41) ⊎ (k ≡ Sign 44)
 after_begins [] fill at k ts h = absurd cc
 after_begins (frame ∷ around) (none, fill) at k ts h = inl h.0

@@ -5,8 +5,8 @@ use Rattle.query_meaning.specs.declared.token.Token.{Token}
 use Rattle.query_meaning.specs.declared.token.Token.TheVariants.{Word, Sign, Name}
 use Rattle.query_meaning.specs.Tokens.{Placed, At}
 use Rattle.query_meaning.specs.Next.{Tokens, Next, End}
-use Rattle.tokens.specs.Grammars.{Took}
-use Rattle.tokens.specs.Kinds.{same_sign, sign_no_word, word_no_name, same_name, keywords}
+use Rattle.text_forms.specs.Grammars.{Took}
+use Rattle.text_forms.specs.Kinds.{same_sign, sign_no_word, word_no_name, same_name, keywords}
 use Rattle.query_meaning.specs.declared.region_text.Joins.{Joins}
 use Rattle.query_meaning.specs.declared.region_text.Joins.TheVariants as joins
 use Rattle.query_meaning.specs.declared.region_text.RegionText.{RegionText}
@@ -98,7 +98,7 @@ parts_begun left at joined (Range first last) Then ts h = absurd ((no_joins join
 parts_begun left at joined Measures Then ts h = absurd ((no_joins joined).2 (keywords (joins_key joined) keyword.Measures h.0))
 parts_begun left at joined (Parts other parts) Then ts h = (same_joins other joined (keywords (joins_key other) (joins_key joined) (sym h.0)), h.1)
 
--- what may stand behind a keyword, and the keyword before it
+-- what may stand after a keyword, and the keyword before it
 member_ahead : (left at : ℕ) (part : RegionTree) (Then : Tokens) (ts : List Placed) → Opened opens.Member part Then ts → IsRegion left part Then (At at (Word (keyword_text keyword.Member)) ∷ ts)
 member_ahead left at (Member path) Then ts h = (refl, h)
 member_ahead left at (Range first last) Then ts h = absurd h
@@ -158,7 +158,7 @@ measures_taken cube around left at = λ ts q. (
   (λ h. record { fill = h.fill; part = Measures; same_cube = h.same_cube; same = h.same; goes = (refl, h.goes) }),
 )
 
--- "(" behind a keyword
+-- "(" after a keyword
 member_down : (cube : List ℕ) (around : List Frame) (at : ℕ) (part : RegionTree) (q : RegionText) (fill : Fill around) (ts : List Placed) → q.cube ≡ cube → q.region ≡ whole around fill part → Opened opens.Member part (After around fill) (At at (Sign 40) ∷ ts) → Names cube around path_of.Member [] q Path ts
 member_down cube around at (Member path) q fill ts e f h = record { fill = fill; other = tt; names = path; same_cube = e; same = f; goes = h.1 }
 member_down cube around at (Range first last) q fill ts e f h = absurd h
@@ -212,7 +212,7 @@ name_taken cube around of front name at = λ ts q. (
   (λ h. record { fill = h.fill; other = h.other; names = name ∷ h.names; same_cube = h.same_cube; same = h.same ∙ ap (λ x. whole around h.fill (region_by of h.other x)) (append_assoc front (name ∷ []) h.names); goes = (refl, h.goes) }),
 )
 
--- a dot behind a name of a path
+-- a dot after a name of a path
 dot_down : (cube : List ℕ) (around : List Frame) (of : PathOf) (path : List (List ℕ)) (at : ℕ) (names : List (List ℕ)) (q : RegionText) (fill : Fill around) (other : Other of) (ts : List Placed) → q.cube ≡ cube → q.region ≡ whole around fill (region_by of other (path ++ names)) → Dots names (Behind of other (After around fill)) (At at (Sign 46) ∷ ts) → Names cube around of path q Path ts
 dot_down cube around path_of.Member path at [] q fill other ts e f h = absurd (let n = same_sign _ _ h.0 in omega arith)
 dot_down cube around path_of.First path at [] q fill other ts e f h = absurd (let n = same_sign _ _ h.0 in omega arith)
@@ -253,7 +253,7 @@ module _ (cube : List ℕ) (around : List Frame) (path : List (List ℕ)) (at : 
     (λ h. record { fill = h.fill; other = tt; names = []; same_cube = h.same_cube; same = h.same ∙ ap (λ x. whole around h.fill (Range first x)) (sym (append-nil path)); goes = (refl, h.goes) }),
   )
 
--- a sign behind a part
+-- a sign after a part
 part_closes : (cube : List ℕ) (joined : Joins) (left : ℕ) (front : RegionTrees) (around : List Frame) (part : RegionTree) (at : ℕ) (parts : RegionTrees) (q : RegionText) (fill : Fill around) (ts : List Placed) → q.cube ≡ cube → q.region ≡ whole around fill (Parts joined (before front (more part parts))) → MoreParts left parts (Next (Sign 41) (After around fill)) (At at (Sign 41) ∷ ts) → Done cube around (Parts joined (pushed front part)) q ts
 part_closes cube joined left front around part at none q fill ts e f h = record { fill = fill; same_cube = e; same = f; goes = h.1 }
 part_closes cube joined left front around part at (more next parts) q fill ts e f h = absurd (let n = same_sign _ _ h.0 in omega arith)

@@ -5,9 +5,9 @@ use Rattle.query_meaning.specs.declared.keyword.Keyword.{Keyword}
 use Rattle.query_meaning.specs.declared.keyword.Keyword.TheVariants as keyword
 use Rattle.query_meaning.specs.Keywords.{keyword_text}
 use Rattle.query_meaning.specs.RegionTree.{RegionTree}
-use Rattle.tokens.specs.Grammars.{Completes, WantsWord, WantsName}
-use Rattle.tokens.specs.Kinds.{same_word, sign_no_word, sign_no_name, word_no_name}
-use Rattle.tokens.specs.Words.{Begins}
+use Rattle.text_forms.specs.Grammars.{Completes, WantsWord, WantsName}
+use Rattle.text_forms.specs.Kinds.{same_word, sign_no_word, sign_no_name, word_no_name}
+use Rattle.text_forms.specs.Words.{Begins}
 use Rattle.region_reader.specs.declared.place.Frame.{Frame}
 use Rattle.region_reader.specs.declared.place.PathOf.{PathOf}
 use Rattle.region_reader.specs.declared.place.Place.{Place}

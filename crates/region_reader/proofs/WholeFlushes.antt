@@ -1,7 +1,7 @@
 -- A text that the reader's start takes writes a flush, and the other way round.
 use Rattle.std.proofs.Common.{ℕ, List}
 use Rattle.text_forms.specs.Forms.{Writes, StopsAt}
-use Rattle.tokens.specs.Modes.{Reads}
+use Rattle.text_forms.specs.Modes.{Reads}
 use Rattle.query_meaning.specs.declared.region_text.RegionText.{RegionText}
 use Rattle.query_meaning.specs.WholeFlushes.{WritesFlush}
 use Rattle.region_reader.specs.declared.place.Place.TheVariants.{ACube}

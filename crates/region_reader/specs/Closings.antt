@@ -4,8 +4,8 @@ use Rattle.query_meaning.specs.declared.token.Token.{Token}
 use Rattle.query_meaning.specs.declared.token.Token.TheVariants.{Word, Sign, Name}
 use Rattle.query_meaning.specs.Tokens.{Placed, At}
 use Rattle.query_meaning.specs.Next.{Tokens, Next, End}
-use Rattle.tokens.specs.Grammars.{kinds, AreKinds, Completes, IsViable, WantsName}
-use Rattle.tokens.specs.Kinds.{signs, keyword_letters, x, x_kind}
+use Rattle.text_forms.specs.Grammars.{kinds, AreKinds, Completes, IsViable, WantsName}
+use Rattle.text_forms.specs.Kinds.{signs, keyword_letters, x, x_kind}
 use Rattle.query_meaning.specs.declared.region_text.Joins.{Joins}
 use Rattle.query_meaning.specs.declared.region_text.Joins.TheVariants as joins
 use Rattle.query_meaning.specs.declared.region_text.RegionText.{RegionText}
@@ -57,7 +57,7 @@ unfolding no_fill
 can_close [] = can_end
 can_close (frame ∷ around) = can_next (Sign 41) (close around) (After around (no_fill around)) (can_close around)
 
--- behind a path
+-- after a path
 pub no_other : (of : PathOf) → Other of
 no_other path_of.Member = tt
 no_other path_of.First = x ∷ []
@@ -79,7 +79,7 @@ can_path path_of.Member around = can_next (Sign 41) _ _ (can_close around)
 can_path path_of.First around = can_next (Sign 44) _ _ (can_next (Name x) _ _ (can_next (Sign 41) _ _ (can_close around)))
 can_path (path_of.Last first) around = can_next (Sign 41) _ _ (can_close around)
 
--- behind a keyword
+-- after a keyword
 abbrev pub close_opened : Opens → List Frame → List Token
 close_opened opens.Member around = Sign 40 ∷ Name x ∷ close_path path_of.Member around
 close_opened opens.Range around = Sign 40 ∷ Name x ∷ close_path path_of.First around

@@ -26,13 +26,13 @@ whole [] fill part = part
 whole (frame ∷ around) fill part =
     whole around fill.1 (Parts frame.joins (before frame.front (more part fill.0)))
 
--- the tokens behind a region
+-- the tokens after a region
 abbrev pub After : (around : List Frame) → Fill around → Tokens
 After [] fill ts = End ts
 After (frame ∷ around) fill ts =
     MoreParts frame.left fill.0 (Next (Sign 41) (After around fill.1)) ts
 
--- what is still to come behind a path, besides its region's end
+-- what is still to come after a path, besides its region's end
 abbrev pub Other : PathOf → Type 0
 Other path_of.Member = Unit {0}
 Other path_of.First = List (List ℕ)
@@ -44,7 +44,7 @@ region_by path_of.Member other path = Member path
 region_by path_of.First other path = Range path other
 region_by (path_of.Last first) other path = Range first path
 
--- the tokens behind a path
+-- the tokens after a path
 abbrev pub Behind : (of : PathOf) → Other of → Tokens → Tokens
 Behind path_of.Member other Then ts = Next (Sign 41) Then ts
 Behind path_of.First other Then ts = Next (Sign 44) (Path other (Next (Sign 41) Then)) ts
@@ -59,7 +59,7 @@ pub record Coming (cube : List ℕ) (around : List Frame) (q : RegionText)
   pub same : q.region ≡ whole around fill part
   pub goes : IsNext part (After around fill) ts
 
--- the tokens of a region behind its keyword
+-- the tokens of a region after its keyword
 abbrev pub Opened : Opens → RegionTree → Tokens → Tokens
 Opened opens.Member (Member path) Then ts = Next (Sign 40) (Path path (Next (Sign 41) Then)) ts
 Opened opens.Range (Range first last) Then ts =

@@ -3,7 +3,7 @@ use Rattle.std.specs.Prelude.{ℕ, List, ◌<◌}
 use Rattle.query_meaning.specs.declared.keyword.Keyword.{Keyword}
 use Rattle.query_meaning.specs.declared.keyword.Keyword.TheVariants as keyword
 use Rattle.query_meaning.specs.Keywords.{keyword_text}
-use Rattle.tokens.specs.Words.{Begins}
+use Rattle.text_forms.specs.Words.{Begins}
 
 -- the keyword may begin a region below which `left` depths are left
 abbrev pub BeginsRegion : ℕ → Keyword → Type 0

@@ -1,7 +1,7 @@
 //! Tokens in a path.
 ghost use Rattle.std.specs.Prelude.{◌≡◌, ℕ, IfOk};
 ghost use Rattle.query_meaning.specs.Tokens.{At};
-ghost use Rattle.tokens.specs.Grammars.{Took};
+ghost use Rattle.text_forms.specs.Grammars.{Took};
 ghost use Rattle.region_reader.specs.Places.{rest_of};
 ghost use Rattle.region_reader.specs.declared.place.Place.TheVariants.{AName, AfterName};
 
@@ -9,7 +9,7 @@ use crate::place::{Frame, PathOf, Place};
 use olap_meaning::{List, OutOfMemory, Text};
 use query_meaning::{RegionTree, Token};
 use std::alloc::Global;
-use tokens::{Stack, is_sign, name_of};
+use text_forms::{Stack, is_sign, name_of};
 
 // A token before a name of a path.
 pub(crate) fn begin_name(
@@ -29,7 +29,7 @@ pub(crate) fn begin_name(
     Ok(Some(Place::AfterName(cube, around, of, path)))
 }
 
-// A token behind a name of a path.
+// A token after a name of a path.
 pub(crate) fn end_name(
     alloc: Global,
     cube: Text,

@@ -1,7 +1,7 @@
-//! Tokens before, in and behind a region.
+//! Tokens before, in and after a region.
 ghost use Rattle.std.specs.Prelude.{◌≡◌, ℕ, IfOk};
 ghost use Rattle.query_meaning.specs.Tokens.{At};
-ghost use Rattle.tokens.specs.Grammars.{Took};
+ghost use Rattle.text_forms.specs.Grammars.{Took};
 ghost use Rattle.region_reader.specs.Places.{rest_of};
 ghost use Rattle.region_reader.specs.declared.place.Place.TheVariants.{ACube, ARegion, Opening, AfterRegion};
 
@@ -9,7 +9,7 @@ use crate::place::{Frame, Opens, PathOf, Place};
 use olap_meaning::{List, OutOfMemory, Text};
 use query_meaning::{Joins, Keyword, RegionTree, RegionTrees, Token};
 use std::alloc::Global;
-use tokens::{Stack, is_sign, is_word, name_of};
+use text_forms::{Stack, is_sign, is_word, name_of};
 
 // The name of the cube.
 pub(crate) fn begin_cube(alloc: Global, token: Token) -> Option<Place>
@@ -51,7 +51,7 @@ pub(crate) fn begin_region(
     None
 }
 
-// A token behind a keyword.
+// A token after a keyword.
 pub(crate) fn open(
     alloc: Global,
     cube: Text,
@@ -76,7 +76,7 @@ pub(crate) fn open(
     }
 }
 
-// A token behind a region.
+// A token after a region.
 pub(crate) fn end_region(
     cube: Text,
     mut around: Stack<Frame>,

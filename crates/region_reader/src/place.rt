@@ -2,7 +2,7 @@
 
 use olap_meaning::{List, Text};
 use query_meaning::{Joins, RegionTree, RegionTrees};
-use tokens::Stack;
+use text_forms::Stack;
 
 /// Parts that are not closed yet: how they are joined, how many depths are left below each of them, and those that were
 /// read.
@@ -28,23 +28,23 @@ pub enum PathOf {
     Member,
     /// The first member of a range.
     First,
-    /// The last member of a range, behind the first.
+    /// The last member of a range, after the first.
     Last(List<Text>),
 }
 
-/// A reader in the middle of a flush. Behind the name of its cube stands what is open, from the innermost parts on.
+/// A reader in the middle of a flush. After the name of its cube stands what is open, from the innermost parts on.
 #[derive(Drop)]
 pub enum Place {
     /// Before the cube's name.
     ACube,
-    /// Before a region below which so many depths are left.
+    /// Before a region below which this many depths are left.
     ARegion(Text, Stack<Frame>, u8),
-    /// Behind a keyword, before its "(".
+    /// After a keyword, before its "(".
     Opening(Text, Stack<Frame>, Opens),
-    /// Before a name of a path, behind these names.
+    /// Before a name of a path, after these names.
     AName(Text, Stack<Frame>, PathOf, List<Text>),
-    /// In a path, behind these names.
+    /// In a path, after these names.
     AfterName(Text, Stack<Frame>, PathOf, List<Text>),
-    /// Behind a region.
+    /// After a region.
     AfterRegion(Text, Stack<Frame>, RegionTree),
 }

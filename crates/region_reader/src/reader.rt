@@ -9,8 +9,7 @@ use crate::words::begins_region;
 use olap_meaning::OutOfMemory;
 use query_meaning::{RegionText, Token};
 use std::alloc::Global;
-use text_forms::ReadFault;
-use tokens::{Grammar, read_tokens};
+use text_forms::{Grammar, ReadFault, read_tokens};
 
 impl Grammar for Place {
     type Tree = RegionText;

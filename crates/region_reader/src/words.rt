@@ -3,9 +3,9 @@ ghost use Rattle.std.specs.Prelude.{MatchBool};
 ghost use Rattle.region_reader.specs.Words.{MayBegin, MayNotBegin};
 
 use query_meaning::Keyword;
-use tokens::{begins_either, begins_keyword};
+use text_forms::{begins_either, begins_keyword};
 
-// Whether the keyword of a region begins so, below which so many depths are left.
+// Whether the keyword of a region begins so, below which this many depths are left.
 pub(crate) fn begins_region(front: &str, left: u8) -> bool
     ensures { MatchBool result (MayBegin left front.now) (MayNotBegin left front.now) }
 {

@@ -8,6 +8,7 @@ use Rattle.std.proofs.lemmas.List.Elements.{All-nil, All-cons, All-head, All-tai
 use Rattle.std.specs.Prelude.{option_and_then, slice_get}
 use Rattle.std.specs.Option.{option_map_or}
 use Rattle.std.proofs.lemmas.Option.{slice_get-get_or}
+use Rattle.grid_reader.proofs.TitleSteps.{empty_title}
 use Rattle.olap_meaning.specs.MemberOf.{measure_count}
 use Rattle.olap_meaning.specs.declared.tables.Catalog.{Catalog}
 use Rattle.olap_meaning.specs.declared.tables.Cube.{Cube}
@@ -28,7 +29,7 @@ named_one name text some utf8 is = record {
   is = is ∙ sym (append-nil (name_text name));
 }
 
--- names, and a name behind a dot
+-- names, and a name after a dot
 pub named_below : (front name text : List ℕ) → IsNamed front → name ≢ [] → IsUtf8 name → text ≡ front ++ codes "." ++ name_text name → IsNamed text
 named_below front name text own some utf8 is =
     let next : TitleName = record { begins = false; name = name } in
@@ -42,7 +43,7 @@ named_below front name text own some utf8 is =
           ∙ ap (λ t. name_text own.first.name ++ t) (sym (flat_map-append marked_name own.others (next ∷ [])));
     }
 
--- names, and others behind a comma and a space
+-- names, and others after a comma and a space
 pub named_beside : (front back text : List ℕ) → IsNamed front → IsNamed back → text ≡ front ++ codes ", " ++ back → IsNamed text
 named_beside front back text own more is =
     let next : TitleName = record { begins = true; name = more.first.name } in
@@ -61,10 +62,6 @@ named_beside front back text own more is =
 -- names are a title
 pub named_title : (text : List ℕ) → IsNamed text → IsTitle text
 named_title text own = record { names = own.first ∷ own.others; named = own.named; is = own.is }
-
--- nothing is a title
-pub empty_title : (text : List ℕ) → text ≡ [] → IsTitle text
-empty_title text is = record { names = []; named = All-nil IsTitleName; is = is }
 
 -- texts in a row, and one more
 pub joined_more : (between : List ℕ) (xs : List (List ℕ)) (x : List ℕ) → 0 < length xs → joined_by between (xs ++ x ∷ []) ≡ joined_by between xs ++ between ++ x

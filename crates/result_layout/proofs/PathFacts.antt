@@ -1,19 +1,17 @@
 -- The values of a path, one by one.
-use Rattle.std.proofs.Common.{inl, inr, ◌≡◌, ◌∙◌, ◌+◌, ◌<◌, ◌≤◌, ◌++◌, ℕ, zero, suc, true, List, [], ◌∷◌, Some, sym, ap, take, take_all, slice_get, get_or, length, nat_lt, flat_map, codes, unwrap_or, arith, append_assoc}
+use Rattle.std.proofs.Common.{◌≡◌, ◌∙◌, ◌+◌, ◌<◌, ◌≤◌, ◌++◌, ℕ, zero, suc, true, List, [], ◌∷◌, Some, sym, ap, take, take_all, slice_get, get_or, length, nat_lt, flat_map, codes, unwrap_or, arith, append_assoc}
+use Rattle.std.proofs.lemmas.Bool.{and_parts}
 use Rattle.std.specs.List.{zip}
 use Rattle.std.specs.Option.{option_map_or}
 use Rattle.std.proofs.lemmas.Bool.Decides.{nat_tests}
 use Rattle.std.proofs.lemmas.List.{flat_map_more}
 use Rattle.std.proofs.lemmas.Slice.Zip.{length-zip}
-use Rattle.std.proofs.lemmas.Option.{slice_get_cases, slice_get_within, slice_get_past}
-use Rattle.olap_meaning.specs.declared.tables.Column.{Column}
 use Rattle.olap_meaning.specs.declared.tables.Hierarchy.{Hierarchy}
 use Rattle.olap_meaning.specs.declared.tables.Catalog.{Catalog}
 use Rattle.olap_meaning.specs.declared.cells.Member.TheVariants as member
-use Rattle.olap_meaning.specs.Catalog.{values, first_appearances, field_texts, records, box}
+use Rattle.olap_meaning.specs.Catalog.{values, box}
 use Rattle.olap_meaning.specs.Texts.{name_text}
 use Rattle.olap_meaning.specs.MemberOf.{is_path, level_columns}
-use Rattle.olap_catalog.proofs.ValueFacts.{and_both}
 use Rattle.query_meaning.specs.Titles.{value_part}
 
 -- a path is one of its hierarchy's levels
@@ -28,7 +26,7 @@ path_deep catalog levels [] i own within = absurd (omega arith)
 path_deep catalog [] (v ∷ path) i own within = absurd (cc own)
 path_deep catalog (c ∷ levels) (v ∷ path) zero own within = omega arith
 path_deep catalog (c ∷ levels) (v ∷ path) (suc i) own within =
-    let rest = and_both (nat_lt v (length (values catalog c))) (is_path catalog levels path) own in
+    let rest = and_parts (nat_lt v (length (values catalog c))) (is_path catalog levels path) own in
     let deep = path_deep catalog levels path i rest.1 (omega arith) in
     omega arith
 
@@ -40,22 +38,11 @@ pub path_there : (catalog : Catalog) (levels path : List ℕ) (i column value : 
 path_there catalog levels [] i column value own within at here = absurd (omega arith)
 path_there catalog [] (v ∷ path) i column value own within at here = absurd (cc own)
 path_there catalog (c ∷ levels) (v ∷ path) zero column value own within at here =
-    let rest = and_both (nat_lt v (length (values catalog c))) (is_path catalog levels path) own in
+    let rest = and_parts (nat_lt v (length (values catalog c))) (is_path catalog levels path) own in
     below value v (length (values catalog c)) (length (values catalog column)) rest.0 here (ap (λ k. length (values catalog k)) at)
 path_there catalog (c ∷ levels) (v ∷ path) (suc i) column value own within at here =
-    let rest = and_both (nat_lt v (length (values catalog c))) (is_path catalog levels path) own in
+    let rest = and_parts (nat_lt v (length (values catalog c))) (is_path catalog levels path) own in
     path_there catalog levels path i column value rest.1 (omega arith) at here
-
--- a column with a value is the catalog's
-pub column_known : (catalog : Catalog) (column value : ℕ) → value < length (values catalog column) → column < length catalog.columns
-column_known catalog column value within =
-    elim ((slice_get_cases catalog.columns column).1) [
-      | inl here ↦ slice_get_within catalog.columns column here.0 here.2
-      | inr past ↦
-          let none : length (values catalog column) ≡ 0 =
-          ap (λ o. length (option_map_or (λ (c : Column). first_appearances (field_texts c.field (records catalog c.dimension))) o [])) (slice_get_past catalog.columns column past.0) in
-          absurd (omega (arith, none, within))
-    ]
 
 -- one value more
 pairs_more : (levels path : List ℕ) (i column value : ℕ) → i < length levels → i < length path → column ≡ get_or levels i column → value ≡ get_or path i value → take (suc i) (zip levels path) ≡ take i (zip levels path) ++ (column, value) ∷ []

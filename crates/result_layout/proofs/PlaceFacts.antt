@@ -4,18 +4,7 @@ use Rattle.std.specs.List.{list_any, range_with_len}
 use Rattle.std.proofs.lemmas.List.Elements.{filter-append}
 use Rattle.std.proofs.lemmas.List.Folds.{list_any-append, list_any_at}
 use Rattle.std.proofs.lemmas.List.FromFn.{get_or-range_with_len, length-range_with_len}
-
-pub or_left : (a b : Bool) → a ≡ true → (a || b) ≡ true
-or_left true b h = refl
-or_left false b h = absurd (cc h)
-
-pub or_right : (a b : Bool) → b ≡ true → (a || b) ≡ true
-or_right true b h = refl
-or_right false b h = h
-
-pub or_none : (a b : Bool) → a ≡ false → b ≡ false → (a || b) ≡ false
-or_none true b h k = h
-or_none false b h k = k
+use Rattle.std.proofs.lemmas.Bool.{or_from}
 
 -- one number more
 range_more : (a n j : ℕ) → a + n ≡ j → range_with_len a (n + 1) ≡ range_with_len a n ++ j ∷ []
@@ -29,19 +18,19 @@ pub any_found : (p : ℕ → Bool) (n i : ℕ) → i < n → p i ≡ true → tr
 any_found p n i within own =
     sym (list_any_at p (range_with_len 0 n) i 0 (omega (arith, within, length-range_with_len 0 n)) (ap p (get_or-range_with_len 0 n i 0 within ∙ omega arith) ∙ own))
 
--- one that does not pass, behind others that do not
+-- one that does not pass, after others that do not
 pub none_more : (p : ℕ → Bool) (n : ℕ) → list_any p (range_with_len 0 n) ≡ false → p n ≡ false → list_any p (range_with_len 0 (n + 1)) ≡ false
 none_more p n before own =
     ap (list_any p) (range_more 0 n n (omega arith)) ∙ list_any-append p (range_with_len 0 n) (n ∷ [])
-    ∙ or_none (list_any p (range_with_len 0 n)) (p n || false) before (or_none (p n) false own refl)
+    ∙ or_from (list_any p (range_with_len 0 n)) (p n || false) before (or_from (p n) false own refl)
 
--- one that passes, behind those that do
+-- one that passes, after those that do
 pub kept_more : (p : ℕ → Bool) (n : ℕ) (before after : List ℕ) → before ≡ filter p (range_with_len 0 n) → after ≡ before ++ n ∷ [] → p n ≡ true → after ≡ filter p (range_with_len 0 (n + 1))
 kept_more p n before after is more own =
     more ∙ ap (λ xs. xs ++ n ∷ []) is ∙ ap (λ b. filter p (range_with_len 0 n) ++ cond b (n ∷ []) []) (sym own)
     ∙ sym (filter-append p (range_with_len 0 n) (n ∷ [])) ∙ ap (filter p) (sym (range_more 0 n n (omega arith)))
 
--- one that does not, behind those that do
+-- one that does not, after those that do
 pub dropped_more : (p : ℕ → Bool) (n : ℕ) (before after : List ℕ) → before ≡ filter p (range_with_len 0 n) → after ≡ before → p n ≡ false → after ≡ filter p (range_with_len 0 (n + 1))
 dropped_more p n before after is same own =
     same ∙ is ∙ sym (append-nil (filter p (range_with_len 0 n))) ∙ ap (λ b. filter p (range_with_len 0 n) ++ cond b (n ∷ []) []) (sym own)

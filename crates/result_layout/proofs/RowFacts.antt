@@ -1,4 +1,4 @@
--- The lines of columns and rows, one behind another.
+-- The lines of columns and rows, one after another.
 use Rattle.std.proofs.Common.{◌≡◌, ◌∙◌, ◌++◌, ◌+◌, ◌<◌, ℕ, All, List, [], ◌∷◌, length, map, take, get_or, sym, ap, subst, refl, flat_map, codes, append_assoc}
 use Rattle.std.specs.List.{join_with_byte}
 use Rattle.std.proofs.lemmas.Grind.{flat_map-append}
@@ -40,7 +40,7 @@ one_shown shows values more value before middle text after own one are is = reco
 pub none_laid : (shows : CellValue → List ℕ → Type 0) (text : List ℕ) → AreRowsBehind shows [] text text
 none_laid shows text = record { lines = []; each = tt; is = sym (append-nil text) }
 
--- rows, and others behind them
+-- rows, and others after them
 pub rows_laid : (shows : CellValue → List ℕ → Type 0) (rows others all : List GridRow) (before middle after : List ℕ) → AreRowsBehind shows rows before middle → AreRowsBehind shows others middle after → all ≡ rows ++ others → AreRowsBehind shows all before after
 rows_laid shows rows others all before middle after own more are = record {
   lines = own.lines ++ more.lines;
@@ -48,7 +48,7 @@ rows_laid shows rows others all before middle after own more are = record {
   is = more.is ∙ ap (λ t. t ++ flat_map line more.lines) own.is ∙ append_assoc before (flat_map line own.lines) (flat_map line more.lines) ∙ ap (λ t. before ++ t) (sym (flat_map-append line own.lines more.lines));
 }
 
--- fields behind a first one, each behind a tab
+-- fields after a first one, each after a tab
 fields_behind : (first : List ℕ) (others : List (List ℕ)) → join_with_byte 9 (first ∷ others) ≡ first ++ flat_map (λ t. 9 ∷ t) others
 fields_behind first [] = sym (append-nil first)
 fields_behind first (next ∷ others) = ap (λ t. first ++ 9 ∷ t) (fields_behind next others)

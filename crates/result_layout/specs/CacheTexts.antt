@@ -43,7 +43,7 @@ allowance_text catalog column =
     column_name catalog column.0 ++ codes "=" ++ allowed_text catalog column.0 column.1
 
 -- the line of a kept load: its number, its version, its measure, its columns with a space between each two, and how many
--- flushes touch it, each behind a tab
+-- flushes touch it, each after a tab
 abbrev pub load_text : Catalog → CacheLine → List ℕ
 load_text catalog load =
     codes "L" ++ (9 ∷ decimal load.load) ++ (9 ∷ decimal load.version)

@@ -5,7 +5,7 @@ use Rattle.olap_meaning.specs.Texts.{line}
 use Rattle.query_meaning.specs.declared.grids.GridRow.{GridRow}
 use Rattle.query_meaning.specs.GridForm.{IsRowText, Pairwise}
 
--- the shown texts of values, each behind a tab, are added to a text
+-- the shown texts of values, each after a tab, are added to a text
 pub record AreShownBehind (shows : CellValue → List ℕ → Type 0) (values : List CellValue)
     (before after : List ℕ) : Type 0 where
   pub shown : List (List ℕ)

@@ -15,7 +15,7 @@ use Rattle.rollup_plan.proofs.KindFacts.{fewer}
 use Rattle.rollup_plan.proofs.ListFacts.{among-filter}
 use Rattle.rollup_plan.proofs.PickFacts.{lists_allowed}
 
--- a list that has all numbers below one has at least so many
+-- a list that has all numbers below one has at least this many
 pub enough : (n : ℕ) (xs : List ℕ) → ((v : ℕ) → v < n → among xs v ≡ true) → n ≤ length xs
 enough zero xs all = omega arith
 enough (suc n) xs all =

@@ -6,7 +6,6 @@ use Rattle.std.specs.List.Sorted.{IsPermutation}
 use Rattle.std.proofs.lemmas.Bool.{and_parts, cases_Bool, eqb-true}
 use Rattle.std.proofs.lemmas.List.Sorted.{IsPermutation-map}
 use Rattle.olap_meaning.specs.declared.cells.Allowed.{Allowed}
-use Rattle.olap_meaning.specs.declared.cells.Allowed.TheVariants.{Any, Set}
 use Rattle.olap_meaning.specs.declared.cells.Cell.{Cell}
 use Rattle.olap_meaning.specs.declared.cells.Header.{Header}
 use Rattle.olap_meaning.specs.declared.tables.Catalog.{Catalog}
@@ -18,6 +17,7 @@ use Rattle.olap_meaning.specs.Legal.{rise}
 use Rattle.olap_meaning.specs.Rolled.{allows_in, header_columns, is_any, is_open_but, value_count}
 use Rattle.olap_meaning.specs.Worth.{fact, measure_of, row_in, row_value}
 use Rattle.olap_meaning.proofs.Members.{all_member, any_member, map_member, member_all, member_any}
+use Rattle.olap_meaning.proofs.Rolling.{open_allows}
 use Rattle.list_orders.proofs.Permutations.{IsPermutation-filter}
 use Rattle.segment_header.specs.Headers.{is_header, is_set}
 use Rattle.segment_header.proofs.RiseFacts.{found_at, key_told, key_here}
@@ -37,11 +37,7 @@ pub some_passes : (test : ℕ → Bool) (o : Option ℕ) → is_some_and test o 
 some_passes test None h = absurd (cc)
 some_passes test (Some v) h = (v, refl, h)
 
-any_allows : (allowed : Allowed) (v : ℕ) → is_any allowed ≡ true → allows allowed v ≡ true
-any_allows Any v is = refl
-any_allows (Set values) v is = absurd (cc)
-
--- what a load has that makes part of a cell along a split, with rows behind it
+-- what a load has that makes part of a cell along a split, with rows after it
 pub record Serves (catalog : Catalog) (cell : Cell) (split : ℕ) (rows : List Row) (fold : FoldOf) : Type 0 where
   pub formed : is_header fold.body.header ≡ true
   pub covering : header_covers fold.body.header cell ≡ true
@@ -115,7 +111,7 @@ module _ (catalog : Catalog) (cell : Cell) (split : ℕ) (rows : List Row) (fold
                     let told = all_member (λ own. (own.0 == split) || names_column cell own.0 || is_any own.1) h.columns mine serves.opened held in
                     let is : is_any mine.1 ≡ true = rw (other, lacked) at told in
                     let has = some_passes (λ value. nat_lt value (value_count catalog mine.0)) (value_on mine.0) (all_member (is_valued catalog cell.cube row) (header_columns h) mine.0 valued (map_member (λ (own : ℕ × Allowed). own.0) h.columns mine held)) in
-                    rw has.1 (any_allows mine.1 has.0 is)
+                    rw has.1 (open_allows mine.1 has.0 is)
               ]
         ]
 

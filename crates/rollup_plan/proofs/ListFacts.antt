@@ -1,10 +1,10 @@
 -- Lists: what is found in them, what a filter keeps, and lent kept loads.
-use Rattle.std.proofs.Common.{◌≡◌, ◌∙◌, ◌⊎◌, ◌<◌, ◌+◌, ◌++◌, ℕ, zero, suc, Bool, true, false, List, [], ◌∷◌, None, Some, length, map, take, filter, get_or, refl, sym, ap, subst, arith, inl, inr, Bor}
+use Rattle.std.proofs.Common.{◌≡◌, ◌∙◌, ◌⊎◌, ◌<◌, ◌+◌, ◌++◌, ℕ, zero, suc, Bool, true, false, List, [], ◌∷◌, Some, length, take, filter, get_or, refl, sym, ap, subst, arith, inl, inr, Bor}
 use Rattle.std.specs.Prelude.{◌&&◌, All, Contains, nat_lt, slice_get}
 use Rattle.std.specs.List.{find, list_all}
 use Rattle.std.proofs.lemmas.Bool.{and_from, and_parts, cases_Bool, cases_eq, eq-eqb, ne_eqb}
 use Rattle.std.proofs.lemmas.List.{length-map, get_or-map, take_more}
-use Rattle.std.proofs.lemmas.List.Elements.{All-cons, All-contains_itself, All-nil}
+use Rattle.std.proofs.lemmas.List.Elements.{All-contains_itself}
 use Rattle.olap_meaning.specs.Covering.{among}
 use Rattle.olap_meaning.specs.Legal.{rise}
 use Rattle.olap_meaning.proofs.Members.{in_first, in_rest}
@@ -22,15 +22,6 @@ module _ {X : Type 0} where
         | inr fails ↦ let later = found_passes p ys x (rw fails at found) in (in_rest y ys x later.0, later.1)
       ]
 
-  -- where none is found, none passes
-  pub none_found : (p : X → Bool) (xs : List X) → find p xs ≡ None → All (λ x. p x ≡ false) xs
-  none_found p [] found = All-nil (λ x. p x ≡ false)
-  none_found p (y ∷ ys) found =
-      elim (cases_Bool (p y)) [
-        | inl passes ↦ let here = rw passes at found in absurd (cc)
-        | inr fails ↦ All-cons (λ x. p x ≡ false) y ys fails (none_found p ys (rw fails at found))
-      ]
-
   -- what stands in a list with one more
   pub get_pushed : (xs : List X) (y : X) (i : ℕ) (z : X) → slice_get (xs ++ y ∷ []) i ≡ Some z → (slice_get xs i ≡ Some z) ⊎ ((i ≡ length xs) × (y ≡ z))
   get_pushed [] y zero z at = let same : y ≡ z = cc in inr (refl, same)
@@ -42,11 +33,6 @@ module _ {X : Type 0} where
   pub get_before : (xs : List X) (y : X) (i : ℕ) (z : X) → i < length xs → slice_get (xs ++ y ∷ []) i ≡ Some z → slice_get xs i ≡ Some z
   get_before xs y i z inside at =
       elim (get_pushed xs y i z at) [ inl before ↦ before | inr last ↦ absurd (omega (arith, last.0)) ]
-
-  pub member_at : (xs : List X) (i : ℕ) (x : X) → slice_get xs i ≡ Some x → Contains xs x
-  member_at [] i x at = absurd (cc)
-  member_at (y ∷ ys) zero x at = let same : y ≡ x = cc in subst (Contains (y ∷ ys)) same (in_first y ys)
-  member_at (y ∷ ys) (suc i) x at = in_rest y ys x (member_at ys i x at)
 
 and_none : (b : Bool) → false ≡ (b && false)
 and_none true = refl
@@ -106,10 +92,3 @@ lent_next kept i one inside here =
 -- a lent load is one of the lent
 pub lent_member : (kept : List (Bor Kept)) (i : ℕ) (one : Bor Kept) → i < length kept → one ≡ get_or kept i one → Contains (lent kept) (kept_of one.now)
 lent_member kept i one inside here = lent_at (Contains (lent kept)) kept i one (All-contains_itself (lent kept)) inside here
-
--- what a filter keeps of a list through a map
-pub filter-map : {X Y : Type 0} (p : Y → Bool) (f : X → Y) (xs : List X) → filter p (map f xs) ≡ map f (filter (λ x. p (f x)) xs)
-filter-map p f [] = refl
-filter-map p f (x ∷ xs) =
-    let rest = filter-map p f xs in
-    elim (cases_Bool (p (f x))) [ inl passes ↦ rw (passes, rest) refl | inr fails ↦ rw (fails, rest) refl ]

@@ -1,10 +1,9 @@
 -- Each element of a list is owned by one of some owners: so the lists of what each owns are the list, in some order.
-use Rattle.std.proofs.Common.{◌≡◌, ◌∙◌, suc, Bool, true, false, not, List, [], ◌∷◌, ◌++◌, map, filter, flat_map, refl, sym, ap, subst, arith, inl, inr}
+use Rattle.std.proofs.Common.{◌≡◌, ◌∙◌, suc, Bool, true, false, not, List, [], ◌∷◌, filter, flat_map, refl, sym, arith, inl, inr}
 use Rattle.std.specs.Prelude.{◌&&◌, ◌||◌, All, Contains}
 use Rattle.std.specs.List.{list_any}
 use Rattle.std.specs.List.Sorted.{IsPermutation}
 use Rattle.std.proofs.lemmas.Bool.{cases_Bool}
-use Rattle.std.proofs.lemmas.List.{get_or-map, length-map, map-append}
 use Rattle.std.proofs.lemmas.List.Sorted.{IsPermutation-append, IsPermutation-filter_both, IsPermutation-refl, IsPermutation-trans}
 use Rattle.olap_meaning.proofs.Members.{in_first, in_rest}
 use Rattle.list_orders.proofs.Permutations.{IsPermutation-same}
@@ -40,14 +39,6 @@ filter_none_in p (x ∷ xs) none = rw (none x (in_first x xs), filter_none_in p 
 pub each_permutes : {A B : Type 0} (f g : A → List B) (xs : List A) → All (λ x. IsPermutation (f x) (g x)) xs → IsPermutation (flat_map f xs) (flat_map g xs)
 each_permutes f g [] each = IsPermutation-refl []
 each_permutes f g (x ∷ xs) each = IsPermutation-append _ _ _ _ (each 0 x (omega arith)) (each_permutes f g xs (λ k d inside. each (suc k) d (omega arith)))
-
-pub map-flat_map : {A B C : Type 0} (g : B → C) (f : A → List B) (xs : List A) → map g (flat_map f xs) ≡ flat_map (λ x. map g (f x)) xs
-map-flat_map g f [] = refl
-map-flat_map g f (x ∷ xs) = map-append g (f x) (flat_map f xs) ∙ ap (λ l. map g (f x) ++ l) (map-flat_map g f xs)
-
--- what holds of all that is made of elements
-pub unmapped : {X Y : Type 0} (P : Y → Type 0) (f : X → Y) (xs : List X) → All P (map f xs) → All (λ x. P (f x)) xs
-unmapped P f xs all k d inside = subst P (get_or-map f xs k d (f d) inside) (all k (f d) (omega (arith, length-map xs f)))
 
 module _ {X F : Type 0} (p : X → Bool) (owns : F → X → Bool) where
   -- no two of some owners own an element

@@ -1,5 +1,6 @@
 -- Kept loads that are picked one after another.
 use Rattle.std.proofs.Common.{◌≡◌, ◌∙◌, ◌<◌, ◌≤◌, ◌++◌, ℕ, zero, suc, Bool, true, false, not, List, [], ◌∷◌, Some, length, map, filter, get_or, refl, sym, ap, arith, inl, inr}
+use Rattle.std.proofs.Math.Bool.{or-false}
 use Rattle.std.specs.Prelude.{◌==◌, ◌&&◌, ◌||◌, All, Contains, IsTrue, nat_lt, slice_get}
 use Rattle.std.specs.List.{list_all, list_any}
 use Rattle.std.proofs.lemmas.Bool.{and_from, and_left, and_parts, and_right, cases_lt, eq-eqb, eqb-true, lt-ltb, ltb-true, ne_eqb, or_left, or_parts}
@@ -15,15 +16,12 @@ use Rattle.olap_meaning.specs.Legal.{rise}
 use Rattle.olap_meaning.specs.Rolled.{all_below, allows_in, is_any, is_open_in}
 use Rattle.olap_meaning.proofs.Members.{all_below_fails, all_below_from, any_member, member_any}
 use Rattle.olap_meaning.proofs.Rolling.{open_allows}
+use Rattle.olap_meaning.proofs.Lists.{contains_at}
 use Rattle.segment_header.specs.Headers.{is_header, is_set}
 use Rattle.cache_flush.specs.Loads.{KeptOf}
 use Rattle.rollup_plan.specs.declared.plan.Part.{Part}
 use Rattle.rollup_plan.specs.Picks.{ArePicked, ArePickedOf, ArePicks, HasOwn, Pick, has_value, is_free, is_marked, is_open, is_whole, kind_splits, listed, part_of, part_with, some_pick}
-use Rattle.rollup_plan.proofs.ListFacts.{among-filter, get_before, get_pushed, member_at, rise-filter}
-
-or_none : (b : Bool) → (b || false) ≡ b
-or_none true = refl
-or_none false = refl
+use Rattle.rollup_plan.proofs.ListFacts.{among-filter, get_before, get_pushed, rise-filter}
 
 or_more : (a b : Bool) → (a || (not a && b)) ≡ (a || b)
 or_more true b = refl
@@ -75,7 +73,7 @@ module _ (size : ℕ) (cell : Cell) (split : ℕ) (loads : List KeptOf) where
           fresh = λ i j one other less at_i at_j. absurd (none i j one other less at_i at_j);
         };
         some = omega arith;
-        every = λ value below. rw (or_none (allows own value)) (each value below);
+        every = λ value below. rw (or-false (allows own value)) (each value below);
         needed = inl refl;
       }
     where
@@ -114,7 +112,7 @@ module _ (size : ℕ) (cell : Cell) (split : ℕ) (loads : List KeptOf) where
     }
       where
         none : (value : ℕ) → (list_any (has_value cell split value) seen || ((is_open cell split kept && allows_in kept.body.header split value) || false)) ≡ list_any (has_value cell split value) seen
-        none value = rw closed (or_none (list_any (has_value cell split value) seen))
+        none value = rw closed (or-false (list_any (has_value cell split value) seen))
 
     module _ (allowed : Allowed) (held : Contains loads kept) (opened : is_open cell split kept ≡ true) (not_any : is_any allowed ≡ false) (set : is_set allowed ≡ true) (formed : is_header kept.body.header ≡ true)
         (same : (value : ℕ) → allows allowed value ≡ allows_in kept.body.header split value) where
@@ -123,7 +121,7 @@ module _ (size : ℕ) (cell : Cell) (split : ℕ) (loads : List KeptOf) where
 
       some_seen : (value : ℕ) → list_any (has_value cell split value) (seen ++ kept ∷ []) ≡ (list_any (has_value cell split value) seen || among (listed allowed) value)
       some_seen value =
-          list_any-append (has_value cell split value) seen (kept ∷ []) ∙ rw (opened, listed_same value, or_none (allows_in kept.body.header split value)) refl
+          list_any-append (has_value cell split value) seen (kept ∷ []) ∙ rw (opened, listed_same value, or-false (allows_in kept.body.header split value)) refl
 
       free_same : (value : ℕ) → value < size → is_free marks value ≡ not (some_pick so_far.picks value)
       free_same value below =
@@ -163,7 +161,7 @@ module _ (size : ℕ) (cell : Cell) (split : ℕ) (loads : List KeptOf) where
               append_none (p ∷ ps) = ap (λ (qs : List Part). p ∷ qs) (append_none ps)
 
               nothing_more : (value : ℕ) → value < size → some_pick so_far.picks value ≡ (some_pick so_far.picks value || among (listed allowed) value)
-              nothing_more value below = sym (or_none (some_pick so_far.picks value)) ∙ ap (λ (b : Bool). some_pick so_far.picks value || b) (own_among [] own_is value below) ∙ or_more (some_pick so_far.picks value) (among (listed allowed) value)
+              nothing_more value below = sym (or-false (some_pick so_far.picks value)) ∙ ap (λ (b : Bool). some_pick so_far.picks value || b) (own_among [] own_is value below) ∙ or_more (some_pick so_far.picks value) (among (listed allowed) value)
           by (v ∷ vs) own_is =
               record {
                 picks = so_far.picks ++ pick ∷ [];
@@ -197,7 +195,7 @@ module _ (size : ℕ) (cell : Cell) (split : ℕ) (loads : List KeptOf) where
               more : (value : ℕ) → value < size → some_pick (so_far.picks ++ pick ∷ []) value ≡ (some_pick so_far.picks value || among (listed allowed) value)
               more value below =
                   list_any-append (λ pick. allows pick.own value) so_far.picks (pick ∷ [])
-                  ∙ ap (λ (b : Bool). some_pick so_far.picks value || b) (or_none (among (v ∷ vs) value) ∙ own_among (v ∷ vs) own_is value below)
+                  ∙ ap (λ (b : Bool). some_pick so_far.picks value || b) (or-false (among (v ∷ vs) value) ∙ own_among (v ∷ vs) own_is value below)
                   ∙ or_more (some_pick so_far.picks value) (among (listed allowed) value)
 
               -- the first of its own
@@ -223,7 +221,7 @@ module _ (size : ℕ) (cell : Cell) (split : ℕ) (loads : List KeptOf) where
               fresh i j one other less at_i at_j value below allowed_there =
                   elim (get_pushed so_far.picks pick j other at_j) [
                     | inl before ↦ so_far.good.fresh i j one other less (get_before so_far.picks pick i one (let inside = slice_get_within so_far.picks j other before in omega (arith, inside)) at_i) before value below allowed_there
-                    | inr here ↦ rw (← here.1) (last one (member_at so_far.picks i one (get_before so_far.picks pick i one (omega (arith, here.0)) at_i)) value below allowed_there)
+                    | inr here ↦ rw (← here.1) (last one (contains_at so_far.picks i one (get_before so_far.picks pick i one (omega (arith, here.0)) at_i)) value below allowed_there)
                   ]
 
   -- before the first load nothing is picked

@@ -1,5 +1,5 @@
 -- A plan that is picked from kept loads of a shelf is one for the cell.
-use Rattle.std.proofs.Common.{◌≡◌, ◌∙◌, ◌<◌, ◌≤◌, ℕ, true, List, [], ◌∷◌, Option, None, Some, not, length, map, filter_map, eq-eqb, refl, sym, ap, subst, arith, zero, suc, ◌⊎◌, inl, inr}
+use Rattle.std.proofs.Common.{◌≡◌, ◌∙◌, ◌<◌, ◌≤◌, ℕ, true, List, [], ◌∷◌, Option, Some, not, length, map, filter_map, eq-eqb, refl, sym, ap, subst, arith, zero, suc, ◌⊎◌, inl, inr}
 use Rattle.std.specs.Prelude.{◌&&◌, ◌==◌, All, Contains, IsTrue, option_map, slice_get}
 use Rattle.std.specs.List.{list_any}
 use Rattle.std.proofs.lemmas.Bool.{and_parts, eqb-true, and_from, false_from_ne_true, not_from_false}
@@ -12,17 +12,17 @@ use Rattle.olap_meaning.specs.Covering.{allows, among, header_covers, names_colu
 use Rattle.olap_meaning.specs.Rolled.{IsRolled, Offer, adds_up, allows_in, can_begin, can_roll, header_columns, is_open_but, is_open_in}
 use Rattle.olap_meaning.proofs.Members.{All-from_member, any_member, map_member, member_any, member_map}
 use Rattle.olap_meaning.proofs.Rolling.{adds_up_told, open_told}
+use Rattle.olap_meaning.proofs.Lists.{any_map, contains_at, mapped_from}
 use Rattle.segment_header.specs.Headers.{is_header, is_set}
 use Rattle.cache_flush.specs.Loads.{KeptOf, are_different, is_candidate}
 use Rattle.cache_flush.specs.Shuts.{is_live}
-use Rattle.cache_flush.proofs.ListFacts.{any_map}
 use Rattle.cache_flush.proofs.Shelves.{map_mapped}
 use Rattle.rollup_plan.specs.declared.plan.Part.{Part}
 use Rattle.rollup_plan.specs.declared.plan.Plan.{Plan}
 use Rattle.rollup_plan.specs.Plans.{IsPlanned, MakeCell, Share, is_candidate_at, kept_at, offer_of, offers_at, shares_of}
 use Rattle.rollup_plan.specs.Picks.{ArePicked, IsPicked, Pick, are_kin, can_begin_some, is_open, part_of, HasOwn}
 use Rattle.rollup_plan.proofs.KindFacts.{kin_parts}
-use Rattle.rollup_plan.proofs.ListFacts.{found_passes, member_at}
+use Rattle.rollup_plan.proofs.ListFacts.{found_passes}
 
 -- what is made of numbers that are all known
 made_of : {X Y : Type 0} (f : ℕ → Option X) (g : X → Y) (numbers : List ℕ) (xs : List X) → map Some xs ≡ map f numbers → filter_map (λ number. option_map g (f number)) numbers ≡ map g xs
@@ -39,10 +39,6 @@ made_through : {X Y Z : Type 0} (f : Y → Option Z) (g : X → Y) (h : X → Z)
 made_through f g h [] all = refl
 made_through f g h (x ∷ xs) all =
     rw (All-head (λ x. f (g x) ≡ Some (h x)) x xs all, made_through f g h xs (All-tail (λ x. f (g x) ≡ Some (h x)) x xs all)) refl
-
-pub some_from : {X Y : Type 0} (f : X → Y) (o : Option X) (y : Y) → option_map f o ≡ Some y → (x : X) × (o ≡ Some x) × (f x ≡ y)
-some_from f None y at = absurd (cc)
-some_from f (Some x) y at = let same : f x ≡ y = cc in (x, refl, same)
 
 abbrev share_of : Pick → Share
 share_of pick = record { header = pick.kept.body.header; own = pick.own }
@@ -176,10 +172,10 @@ module _ (loads : List KeptOf) (numbers : List ℕ) (kept : List KeptOf) (there 
       within = each (λ share. (value : ℕ) → IsTrue (allows share.own value) → IsTrue (allows_in share.header split value)) share_of
           (λ pick held. All-contains (λ pick. (value : ℕ) → IsTrue (allows pick.own value) → IsTrue (allows_in pick.kept.body.header split value)) picks pick parts.good.within held);
       apart = λ i j one other less at_i at_j value below has_it.
-          let first = some_from share_of (slice_get picks i) one (sym (slice_get-map share_of picks i) ∙ at_i) in
-          let second = some_from share_of (slice_get picks j) other (sym (slice_get-map share_of picks j) ∙ at_j) in
+          let first = mapped_from share_of (slice_get picks i) one (sym (slice_get-map share_of picks i) ∙ at_i) in
+          let second = mapped_from share_of (slice_get picks j) other (sym (slice_get-map share_of picks j) ∙ at_j) in
           let own_it = ap (λ (share : Share). allows share.own value) first.2 ∙ has_it in
-          let allowed_there = All-contains (λ pick. (value : ℕ) → IsTrue (allows pick.own value) → IsTrue (allows_in pick.kept.body.header split value)) picks first.0 parts.good.within (member_at picks i first.0 first.1) value own_it in
+          let allowed_there = All-contains (λ pick. (value : ℕ) → IsTrue (allows pick.own value) → IsTrue (allows_in pick.kept.body.header split value)) picks first.0 parts.good.within (contains_at picks i first.0 first.1) value own_it in
           ap (λ (share : Share). allows share.own value) (sym second.2) ∙ parts.good.fresh i j first.0 second.0 less first.1 second.1 value below allowed_there;
       every = λ value below. any_map (λ share. allows share.own value) share_of picks ∙ parts.every value below;
     }
@@ -203,8 +199,8 @@ module _ (loads : List KeptOf) (numbers : List ℕ) (kept : List KeptOf) (there 
     -- picks of one load are one pick
     apart : (i j : ℕ) (one other : Pick) → i < j → slice_get picks i ≡ Some one → slice_get picks j ≡ Some other → HasOwn (size split) other → one.kept.load ≡ other.kept.load → ⊥
     apart i j one other less at_i at_j (value, below, own_it) same =
-        let other_held = member_at picks j other at_j in
-        let one_at = on_shelf one.kept (kept_held one (member_at picks i one at_i)) in
+        let other_held = contains_at picks j other at_j in
+        let one_at = on_shelf one.kept (kept_held one (contains_at picks i one at_i)) in
         let other_at = on_shelf other.kept (kept_held other other_held) in
         let is : Some one.kept ≡ Some other.kept = sym one_at ∙ ap (kept_at loads) same ∙ other_at in
         let same_load : other.kept ≡ one.kept = cc in
@@ -220,7 +216,7 @@ module _ (loads : List KeptOf) (numbers : List ℕ) (kept : List KeptOf) (there 
             → are_different (map (λ pick. pick.kept.load) some) ≡ true
         by some (inl alone) other = one_differs (λ (pick : Pick). pick.kept.load) some alone
         by some (inr own) other = all_differ (λ (pick : Pick). pick.kept.load) some
-            (λ i j one next less at_i at_j same. other i j one next less at_i at_j (All-contains (HasOwn (size split)) some next own (member_at some j next at_j)) same)
+            (λ i j one next less at_i at_j same. other i j one next less at_i at_j (All-contains (HasOwn (size split)) some next own (contains_at some j next at_j)) same)
 
     needed : (length plan.parts ≡ 1) ⊎ All (λ part. (value : ℕ) × (value < size split) × IsTrue (allows part.own value)) plan.parts
     needed =

@@ -14,6 +14,7 @@ use Rattle.olap_meaning.specs.Covering.{allows, header_covers}
 use Rattle.olap_meaning.specs.Legal.{is_column_of, is_row}
 use Rattle.olap_meaning.specs.Rolled.{Offer, header_columns}
 use Rattle.olap_meaning.proofs.Members.{all_member, in_first, in_rest, member_all, member_map, none_in}
+use Rattle.olap_meaning.proofs.Lists.{all_of_map}
 use Rattle.fact_reader.specs.BodyRows.{HoldsRows}
 use Rattle.cache_flush.specs.Loads.{KeptOf}
 use Rattle.rollup_plan.specs.declared.plan.Part.{Part}
@@ -22,7 +23,6 @@ use Rattle.fact_reader.specs.Laws.{RowsAreValued}
 use Rattle.rollup_plan.specs.Plans.{IsRolledBy, kept_at, offer_of, offers_at}
 use Rattle.rollup_plan.specs.Rolls.{AreRowsOf, loads_at}
 use Rattle.fact_reader.specs.BodyRows.{is_valued}
-use Rattle.rollup_plan.proofs.OnceFacts.{unmapped}
 
 -- the kept load of a number is one of the loads
 kept_member : (loads : List KeptOf) (number : ℕ) (kept : KeptOf) → kept_at loads number ≡ Some kept → Contains loads kept
@@ -61,7 +61,7 @@ offers_planned loads (part ∷ parts) = by (kept_at loads part.load) refl (offer
 
 module _ (aggregator : Aggregator) (size : ℕ → ℕ) (cell : Cell) (loads : List KeptOf) (plan : Plan) (rolls : IsRolledBy aggregator size cell loads plan) where
   offered_all : (P : Offer → Type 0) → All P (offers_at loads (map (λ part. part.load) plan.parts)) → All (λ (kept : KeptOf). P (offer_of kept)) (loads_at loads plan.parts)
-  offered_all P all = unmapped P offer_of (loads_at loads plan.parts) (rw (offers_planned loads plan.parts) at all)
+  offered_all P all = all_of_map P offer_of (loads_at loads plan.parts) (rw (offers_planned loads plan.parts) at all)
 
   -- the planned loads are of one version
   pub planned_version : All (λ (kept : KeptOf). kept.version ≡ rolls.rolled.version) (loads_at loads plan.parts)

@@ -3,8 +3,7 @@ use Rattle.std.proofs.Common.{◌≡◌, ◌∙◌, ◌<◌, ◌≤◌, ℕ, zer
 use Rattle.std.specs.Prelude.{◌&&◌, All, Contains, IfOk, IsTrue, is_some, nat_lt, option_map, slice_get}
 use Rattle.std.specs.List.{AllZip, list_any, list_all}
 use Rattle.std.specs.List.Sorted.{IsPermutation}
-use Rattle.std.proofs.lemmas.Bool.{cases_Bool}
-use Rattle.std.proofs.lemmas.Bool.Decides.{nat_tests}
+use Rattle.std.proofs.lemmas.Bool.{cases_Bool, ltb-true}
 use Rattle.std.proofs.lemmas.List.{length-map, take_more}
 use Rattle.std.proofs.lemmas.List.Concat.{flat_map-append}
 use Rattle.std.proofs.lemmas.List.Elements.{All-contains, All-map, All-same, filter_map-append}
@@ -24,6 +23,7 @@ use Rattle.olap_meaning.specs.Covering.{allows, header_covers}
 use Rattle.olap_meaning.specs.Rolled.{allows_in, header_columns, is_open_but, value_count}
 use Rattle.olap_meaning.specs.Worth.{fact, measure_of, row_in, row_value}
 use Rattle.olap_meaning.proofs.Members.{all_member, member_all}
+use Rattle.olap_meaning.proofs.Lists.{all_of_map, map-flat_map}
 use Rattle.list_orders.proofs.Aggregates.{aggregate_permutes}
 use Rattle.segment_header.specs.Headers.{is_header, is_set}
 use Rattle.measure_folds.specs.Tallied.{Tallied}
@@ -37,11 +37,8 @@ use Rattle.rollup_plan.specs.declared.plan.Plan.{Plan}
 use Rattle.rollup_plan.specs.Plans.{AreApart, MakeCell, Share, kept_at, shares_of}
 use Rattle.rollup_plan.specs.Rolls.{IsRolledUp, LieBehind, cell_numbers, folds_at, loads_at}
 use Rattle.fact_reader.specs.BodyRows.{is_valued}
-use Rattle.rollup_plan.proofs.OnceFacts.{Exclusive, each_permutes, filter_agree_in, map-flat_map, owned_once, unmapped}
+use Rattle.rollup_plan.proofs.OnceFacts.{Exclusive, each_permutes, filter_agree_in, owned_once}
 use Rattle.rollup_plan.proofs.FoldFacts.{Serves, aggregator_same, fold_permutes, is_owned, some_passes}
-
-lt_of : (a b : ℕ) → nat_lt a b ≡ true → a < b
-lt_of a b h = grind (arith, nat_tests)
 
 -- ---- parts, their shares and folds
 
@@ -210,7 +207,7 @@ module _ (catalog : Catalog) (cell : Cell) (split : ℕ) (rows : List Row) (meas
       and_true true = refl
       and_true false = refl
 
--- ---- rows behind a plan
+-- ---- rows after a plan
 
 module _ (catalog : Catalog) (cell : Cell) (loads : List KeptOf) (plan : Plan) (rows : List Row) (behind : LieBehind catalog cell loads plan rows) where
   abbrev folds : List FoldOf
@@ -228,23 +225,23 @@ module _ (catalog : Catalog) (cell : Cell) (loads : List KeptOf) (plan : Plan) (
   -- what holds of the body of each kept load
   of_bodies : (P : BodyOf → Type 0) → All (λ (kept : KeptOf). P kept.body) (loads_at loads plan.parts) → All (λ (fold : FoldOf). P fold.body) folds
   of_bodies P all =
-      unmapped P (λ (fold : FoldOf). fold.body) folds
+      all_of_map P (λ (fold : FoldOf). fold.body) folds
       (All-same P (map (λ (fold : FoldOf). fold.body) folds) (map (λ (kept : KeptOf). kept.body) (loads_at loads plan.parts)) (sym (bodies_are loads plan.split plan.parts)) (All-map P (λ (kept : KeptOf). kept.body) (loads_at loads plan.parts) all))
 
   pub serve : All (Serves catalog cell plan.split rows) folds
   serve k d inside = record {
-    formed = unmapped (λ (share : Share). IsTrue (is_header share.header)) share_of folds made.formed k d inside;
-    covering = unmapped (λ (share : Share). IsTrue (header_covers share.header cell)) share_of folds made.covering k d inside;
-    having = unmapped (λ (share : Share). Contains (header_columns share.header) plan.split) share_of folds made.having k d inside;
-    opened = unmapped (λ (share : Share). IsTrue (is_open_but cell plan.split share.header)) share_of folds made.opened k d inside;
-    within = unmapped (λ (share : Share). (value : ℕ) → IsTrue (allows share.own value) → IsTrue (allows_in share.header plan.split value)) share_of folds made.within k d inside;
+    formed = all_of_map (λ (share : Share). IsTrue (is_header share.header)) share_of folds made.formed k d inside;
+    covering = all_of_map (λ (share : Share). IsTrue (header_covers share.header cell)) share_of folds made.covering k d inside;
+    having = all_of_map (λ (share : Share). Contains (header_columns share.header) plan.split) share_of folds made.having k d inside;
+    opened = all_of_map (λ (share : Share). IsTrue (is_open_but cell plan.split share.header)) share_of folds made.opened k d inside;
+    within = all_of_map (λ (share : Share). (value : ℕ) → IsTrue (allows share.own value) → IsTrue (allows_in share.header plan.split value)) share_of folds made.within k d inside;
     holds = of_bodies (λ body. HoldsRows catalog body.header rows body) behind.behind.held k d inside;
     valued = of_bodies (λ body. IsTrue (list_all (λ row. list_all (is_valued catalog cell.cube row) (header_columns body.header)) rows)) behind.behind.valued k d inside;
     along = along_split loads plan.split plan.parts k d inside;
   }
 
   pub sets : All (λ (part : Part). IsTrue (is_set part.own)) plan.parts
-  sets = all_own loads plan.split (λ own. IsTrue (is_set own)) plan.parts count (unmapped (λ (share : Share). IsTrue (is_set share.own)) share_of folds made.sets)
+  sets = all_own loads plan.split (λ own. IsTrue (is_set own)) plan.parts count (all_of_map (λ (share : Share). IsTrue (is_set share.own)) share_of folds made.sets)
 
   pub known : All (λ part. is_some (kept_at loads part.load) ≡ true) plan.parts
   known = all_kept loads plan.split plan.parts count
@@ -264,7 +261,7 @@ module _ (catalog : Catalog) (cell : Cell) (loads : List KeptOf) (plan : Plan) (
       let one = all_member (λ r. list_all (is_valued catalog cell.cube r) (header_columns (get_or folds 0 d).body.header)) rows row first.valued held in
       let valued = all_member (is_valued catalog cell.cube row) (header_columns (get_or folds 0 d).body.header) plan.split one first.having in
       let v = some_passes (λ value. nat_lt value (value_count catalog plan.split)) (row_value catalog cell.cube row plan.split) valued in
-      (v.0, lt_of v.0 (value_count catalog plan.split) v.2, v.1)
+      (v.0, ltb-true v.0 (value_count catalog plan.split) v.2, v.1)
 
   pub rows_once : IsPermutation (map (fact catalog cell.cube behind.measure.column) (filter (row_in catalog cell) rows)) (folded_numbers cell folds)
   rows_once = cell_once catalog cell plan.split rows behind.measure behind.is_measure folds serve has_value made.apart made.every

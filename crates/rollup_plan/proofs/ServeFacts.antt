@@ -9,14 +9,13 @@ use Rattle.olap_meaning.specs.declared.cells.Cell.{Cell}
 use Rattle.olap_meaning.specs.Covering.{header_covers, names_column}
 use Rattle.olap_meaning.specs.Rolled.{IsHeld, IsLacking, Offer, is_any, is_open_but}
 use Rattle.olap_meaning.proofs.Members.{All-from_member, all_member, member_filter_map, member_map}
+use Rattle.olap_meaning.proofs.Lists.{any_map, mapped_from}
 use Rattle.cache_flush.specs.Loads.{KeptOf}
 use Rattle.cache_flush.specs.Shuts.{is_live}
-use Rattle.cache_flush.proofs.ListFacts.{any_map}
 use Rattle.rollup_plan.specs.declared.plan.Part.{Part}
 use Rattle.rollup_plan.specs.declared.plan.Plan.{Plan}
 use Rattle.rollup_plan.specs.Plans.{Share, kept_at, offer_of, offers_at, shares_of}
 use Rattle.rollup_plan.specs.Serving.{AreAlike, ServesAlike, is_served, plan_serves}
-use Rattle.rollup_plan.proofs.PlanFacts.{some_from}
 
 -- cells that are alike name the same columns
 names_same : (one other : Cell) → AreAlike one other → (column : ℕ) → names_column other column ≡ names_column one column
@@ -43,7 +42,7 @@ module _ (loads : List KeptOf) (plan : Plan) (cell : Cell) (served : plan_serves
       covered : (offer : Offer) → Contains (offers_at loads (map (λ part. part.load) plan.parts)) offer → header_covers offer.header cell ≡ true
       covered offer held =
           let number = member_filter_map (λ number. option_map offer_of (kept_at loads number)) (map (λ part. part.load) plan.parts) offer held in
-          let kept = some_from offer_of (kept_at loads number.0) offer number.2 in
+          let kept = mapped_from offer_of (kept_at loads number.0) offer number.2 in
           let part = member_map (λ (part : Part). part.load) plan.parts number.0 number.1 in
           ap (λ (o : Offer). header_covers o.header cell) (sym kept.2) ∙ covers part.0 kept.0 part.1 (ap (kept_at loads) part.2 ∙ kept.1)
 
@@ -53,7 +52,7 @@ module _ (loads : List KeptOf) (plan : Plan) (cell : Cell) (served : plan_serves
       covered : (share : Share) → Contains (shares_of loads plan.parts) share → header_covers share.header cell ≡ true
       covered share held =
           let part = member_filter_map (λ part. option_map (λ kept. record { header = kept.body.header; own = part.own }) (kept_at loads part.load)) plan.parts share held in
-          let kept = some_from (λ kept. record { header = kept.body.header; own = part.0.own }) (kept_at loads part.0.load) share part.2 in
+          let kept = mapped_from (λ kept. record { header = kept.body.header; own = part.0.own }) (kept_at loads part.0.load) share part.2 in
           ap (λ (s : Share). header_covers s.header cell) (sym kept.2) ∙ covers part.0 kept.0 part.1 kept.1
 
   pub serves_alike : ServesAlike loads plan cell

@@ -12,7 +12,7 @@ use Rattle.rollup_plan.specs.declared.plan.Plan.{Plan}
 use Rattle.rollup_plan.specs.Plans.{IsRolledBy, is_candidate_at}
 use Rattle.rollup_plan.specs.Rolls.{AreRowsOf, LieBehind}
 
--- the rows of the parts of a plan by which a cell is rolled up lie behind it, as a roll asks
+-- the rows of the parts of a plan by which a cell is rolled up lie after it, as a roll asks
 abbrev pub PlansRoll : Type 0
 PlansRoll =
     (catalog : Catalog) (cell : Cell) (measure : Measure) (loads : List KeptOf) (plan : Plan)

@@ -36,7 +36,7 @@ abbrev pub part_with : ℕ → List ℕ → List Part
 part_with load [] = []
 part_with load (value ∷ values) = record { load = load; own = Set (value ∷ values) } ∷ []
 
--- a kept load is open in each column that a cell lacks, but for the split
+-- a kept load is open in each column that a cell lacks, except for the split
 abbrev pub is_open : Cell → ℕ → KeptOf → Bool
 is_open cell split kept = is_open_but cell split kept.body.header
 
@@ -73,7 +73,7 @@ some_pick picks value = list_any (λ pick. allows pick.own value) picks
 abbrev pub HasOwn : ℕ → Pick → Type 0
 HasOwn size pick = (value : ℕ) × (value < size) × IsTrue (allows pick.own value)
 
--- picks are from some loads: each is open but for the split, and has values that its load allows; no value below the size
+-- picks are from some loads: each is open except for the split, and has values that its load allows; no value below the size
 -- that the load of a pick allows is a later pick's own
 pub record ArePicks (size : ℕ) (cell : Cell) (split : ℕ) (loads : List KeptOf) (picks : List Pick)
     : Type 0 where
@@ -112,7 +112,7 @@ pub record ArePickedOf (size : ℕ) (cell : Cell) (split : ℕ) (loads seen : Li
   pub told : (value : ℕ) → value < size
       → some_pick picks value ≡ list_any (has_value cell split value) seen
 
--- the values of a split that loads have are no more than so many
+-- the values of a split that loads have are no more than this many
 pub record AreCounted (cell : Cell) (split : ℕ) (loads : List KeptOf) (count : ℕ) : Type 0 where
   pub values : List ℕ
   pub fits : length values ≤ count

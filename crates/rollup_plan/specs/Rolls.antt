@@ -39,7 +39,7 @@ pub record AreRowsOf (catalog : Catalog) (cube : ℕ) (loads : List KeptOf) (par
       (list_all (λ row. list_all (is_valued catalog cube row) (header_columns kept.body.header)) rows))
       (loads_at loads parts)
 
--- rows lie behind a plan for a cell over kept loads: there is a part, and each is that of a kept load; their shares make
+-- rows lie after a plan for a cell over kept loads: there is a part, and each is that of a kept load; their shares make
 -- the cell; the rows are those of the parts; and the cell's measure is no distinct count
 pub record LieBehind (catalog : Catalog) (cell : Cell) (loads : List KeptOf) (plan : Plan)
     (rows : List Row) : Type 0 where

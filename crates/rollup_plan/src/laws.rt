@@ -3,7 +3,7 @@ ghost use Rattle.rollup_plan.specs.Laws.{CandidatesAreKept, PlansRoll};
 
 use cache_flush::Shelf;
 
-/// Rows behind a plan, as a roll asks.
+/// Rows after a plan, as a roll asks.
 pub fn plans_roll()
     ensures { PlansRoll }
 {}

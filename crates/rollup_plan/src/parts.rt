@@ -44,7 +44,7 @@ fn allowed_in(header: &Header, column: ColumnId) -> &Allowed
     }
 }
 
-// Whether any value is allowed in each column of a header that a cell lacks, but for the split.
+// Whether any value is allowed in each column of a header that a cell lacks, except for the split.
 fn is_open_but(header: &Header, cell: &Cell, split: ColumnId) -> bool
     ensures { result ≡ rolled.is_open_but cell.now split header.now }
 {
@@ -53,7 +53,7 @@ fn is_open_but(header: &Header, cell: &Cell, split: ColumnId) -> bool
         || is_any(&own.1))
 }
 
-// Whether a load is open but for the split, and has each value of it.
+// Whether a load is open except for the split, and has each value of it.
 fn is_whole(kept: &Kept, cell: &Cell, split: ColumnId, size: u32) -> bool
     requires { Contains (header_columns kept.now.body.header) split }
     ensures { result ≡ picks.is_whole size cell.now split (kept_of kept.now) }
@@ -62,7 +62,7 @@ fn is_whole(kept: &Kept, cell: &Cell, split: ColumnId, size: u32) -> bool
     is_open_but(header, cell, split) && (size == 0 || is_any(allowed_in(header, split)))
 }
 
-// The first of some loads that is open but for the split and has each value of it.
+// The first of some loads that is open except for the split and has each value of it.
 fn find_whole<'a>(kept: &[&'a Kept], cell: &Cell, split: ColumnId, size: u32) -> Option<&'a Kept>
     requires { All (λ one. Contains (header_columns one.body.header) split) (lent kept.now) }
     ensures { option_map kept_of (option_copied result)
@@ -137,7 +137,7 @@ fn add_values(
     }
 }
 
-// Adds the part of the next load, where it is open but for the split.
+// Adds the part of the next load, where it is open except for the split.
 fn add_load(
     alloc: Global,
     parts: &mut List<Part>,
@@ -229,7 +229,7 @@ fn set_size(allowed: &Allowed) -> usize
     }
 }
 
-// How many values of the split a load has at most: none where it is not open but for the split.
+// How many values of the split a load has at most: none where it is not open except for the split.
 fn held_by(one: &Kept, cell: &Cell, split: ColumnId) -> usize
     requires { Contains (header_columns one.now.body.header) split }
     ensures { (size : ℕ) → picks.is_whole size cell.now split (kept_of one.now) ≡ false

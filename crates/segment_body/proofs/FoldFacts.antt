@@ -4,7 +4,7 @@ use Rattle.std.specs.Prelude.{All}
 use Rattle.std.specs.List.{list_any, list_all}
 use Rattle.std.specs.List.Sorted.{IsPermutation}
 use Rattle.std.proofs.lemmas.Bool.{and_parts, and_from, cases_Bool}
-use Rattle.std.proofs.lemmas.List.{map-append, take_more, length-map}
+use Rattle.std.proofs.lemmas.List.{take_more, length-map}
 use Rattle.std.proofs.lemmas.List.Elements.{All-map, All-same, Contains-append_right}
 use Rattle.std.proofs.lemmas.List.Concat.{flat_map-append}
 use Rattle.std.proofs.lemmas.List.Folds.{length-flat_map-take}
@@ -15,13 +15,14 @@ use Rattle.olap_meaning.specs.declared.cells.Header.{Header}
 use Rattle.measure_folds.specs.Tallied.{Tallied}
 use Rattle.list_orders.specs.Parts.{hold_keys}
 use Rattle.olap_meaning.proofs.Members.{any_member, in_first}
+use Rattle.olap_meaning.proofs.Lists.{flat_map_agree, map-flat_map, same_text, text_self, text_turned}
 use Rattle.list_orders.proofs.Parts.{parts_permute}
 use Rattle.list_orders.proofs.Permutations.{filter-filter}
 use Rattle.segment_body.specs.Groups.{Group}
 use Rattle.segment_body.specs.BodyOf.{numbers_at, different_values, has_row}
 use Rattle.segment_body.specs.Folds.{picked, numbers_where}
 use Rattle.segment_body.specs.Groups.{group_of, groups_of, AreHeld, rows_of}
-use Rattle.segment_body.proofs.RowFacts.{apart_different, among_different, same_values, same_self, other_turned}
+use Rattle.segment_body.proofs.RowFacts.{apart_different, among_different}
 
 -- the numbers of groups
 abbrev pub all_numbers : List Group → List (Option ℤ)
@@ -65,22 +66,6 @@ module _ (test : List ℕ → Bool) where
       tallied : Aggregator → List (Option ℤ) → Tallied
       tallied aggregator values = record { aggregator = aggregator; values = values }
 
--- what is made of each element of a list of lists, and mapped
-map-flat_map : {A B C : Type 0} (g : B → C) (f : A → List B) (xs : List A) → map g (flat_map f xs) ≡ flat_map (λ x. map g (f x)) xs
-map-flat_map g f [] = refl
-map-flat_map g f (x ∷ xs) = map-append g (f x) (flat_map f xs) ∙ ap (λ l. map g (f x) ++ l) (map-flat_map g f xs)
-
-flat_map_agree : {A B : Type 0} (f g : A → List B) → ((x : A) → f x ≡ g x) → (xs : List A) → flat_map f xs ≡ flat_map g xs
-flat_map_agree f g agree [] = refl
-flat_map_agree f g agree (x ∷ xs) = rw (agree x, flat_map_agree f g agree xs) refl
-
-turned_same : (x y : List ℕ) → bytes_eq x y ≡ bytes_eq y x
-turned_same x y =
-    elim (cases_Bool (bytes_eq x y)) [
-      | inl same ↦ same ∙ sym (subst (λ (z : List ℕ). bytes_eq z x ≡ true) (same_values x y same) (same_self x))
-      | inr other ↦ other ∙ sym (other_turned x y other)
-    ]
-
 -- each of some rows has its values among those of all
 known_keys : (rows : List (List ℕ × Option ℤ)) (some : List (List ℕ × Option ℤ)) (keys : List (List ℕ)) → ((row : List ℕ × Option ℤ) → has_row rows row.0 ≡ true → list_any (bytes_eq row.0) keys ≡ true)
     → list_all (λ (row : List ℕ × Option ℤ). has_row rows row.0) some ≡ true → hold_keys bytes_eq (λ (row : List ℕ × Option ℤ). row.0) keys some ≡ true
@@ -88,7 +73,7 @@ known_keys rows [] keys told known = refl
 known_keys rows (row ∷ some) keys told known =
     let parts = and_parts (has_row rows row.0) (list_all (λ (row : List ℕ × Option ℤ). has_row rows row.0) some) known in
     let rest = known_keys rows some keys told parts.1 in
-    let found : list_any (λ k. bytes_eq k row.0) keys ≡ true = ap (λ (t : List ℕ → Bool). list_any t keys) (λ i k. turned_same k row.0 i) ∙ told row parts.0 in
+    let found : list_any (λ k. bytes_eq k row.0) keys ≡ true = ap (λ (t : List ℕ → Bool). list_any t keys) (λ i k. text_turned k row.0 i) ∙ told row parts.0 in
     and_from (list_any (λ k. bytes_eq k row.0) keys) (hold_keys bytes_eq (λ (row : List ℕ × Option ℤ). row.0) keys some) found rest
 
 -- a row is one of those that it stands among
@@ -96,7 +81,7 @@ rows_known : (test : (List ℕ × Option ℤ) → Bool) (before rows : List (Lis
 rows_known test before [] = refl
 rows_known test before (row ∷ rows) =
     let rest : list_all (λ (r : List ℕ × Option ℤ). has_row (before ++ row ∷ rows) r.0) (filter test rows) ≡ true = subst (λ (all : List (List ℕ × Option ℤ)). list_all (λ (r : List ℕ × Option ℤ). has_row all r.0) (filter test rows) ≡ true) (append_assoc before (row ∷ []) rows) (rows_known test (before ++ row ∷ []) rows) in
-    let here : has_row (before ++ row ∷ rows) row.0 ≡ true = any_member (λ (r : List ℕ × Option ℤ). bytes_eq row.0 r.0) (before ++ row ∷ rows) row (Contains-append_right before (row ∷ rows) row (in_first row rows)) (same_self row.0) in
+    let here : has_row (before ++ row ∷ rows) row.0 ≡ true = any_member (λ (r : List ℕ × Option ℤ). bytes_eq row.0 r.0) (before ++ row ∷ rows) row (Contains-append_right before (row ∷ rows) row (in_first row rows)) (text_self row.0) in
     elim (cases_Bool (test row)) [ inl passes ↦ rw passes (and_from (has_row (before ++ row ∷ rows) row.0) _ here rest) | inr fails ↦ rw fails rest ]
 
 module _ (a : Aggregator) (test : List ℕ → Bool) (rows : List (List ℕ × Option ℤ)) where
@@ -107,7 +92,7 @@ module _ (a : Aggregator) (test : List ℕ → Bool) (rows : List (List ℕ × O
   part_of : (d : List ℕ) → map (λ (row : List ℕ × Option ℤ). row.1) (filter (λ (row : List ℕ × Option ℤ). bytes_eq d row.0) kept) ≡ (if test d then numbers_at rows d else [])
   part_of d =
       elim (cases_Bool (test d)) [
-        | inl passes ↦ rw (passes, filter-filter (λ (row : List ℕ × Option ℤ). bytes_eq d row.0) (λ (row : List ℕ × Option ℤ). test row.0) (λ row same. subst (λ (v : List ℕ). test v ≡ true) (same_values d row.0 same) passes) rows) refl
+        | inl passes ↦ rw (passes, filter-filter (λ (row : List ℕ × Option ℤ). bytes_eq d row.0) (λ (row : List ℕ × Option ℤ). test row.0) (λ row same. subst (λ (v : List ℕ). test v ≡ true) (same_text d row.0 same) passes) rows) refl
         | inr fails ↦ rw (fails, none_left rows fails) refl
       ]
     where
@@ -119,7 +104,7 @@ module _ (a : Aggregator) (test : List ℕ → Bool) (rows : List (List ℕ × O
             | inr out ↦ rw out rest
             | inl passes ↦
                 elim (cases_Bool (bytes_eq d row.0)) [
-                  | inl same ↦ let e = subst (λ (v : List ℕ). test v ≡ false) (same_values d row.0 same) fails in absurd (cc)
+                  | inl same ↦ let e = subst (λ (v : List ℕ). test v ≡ false) (same_text d row.0 same) fails in absurd (cc)
                   | inr other ↦ rw (passes, other) rest
                 ]
           ]
@@ -133,7 +118,7 @@ module _ (a : Aggregator) (test : List ℕ → Bool) (rows : List (List ℕ × O
   picked_permutes =
       let keys = different_values rows in
       let held : hold_keys bytes_eq (λ (row : List ℕ × Option ℤ). row.0) keys kept ≡ true = known_keys rows kept keys (λ row known. among_different row.0 rows ∙ known) (rows_known (λ (row : List ℕ × Option ℤ). test row.0) [] rows) in
-      let parted = parts_permute bytes_eq same_values same_self (λ (row : List ℕ × Option ℤ). row.0) keys kept (apart_different rows) held in
+      let parted = parts_permute bytes_eq same_text text_self (λ (row : List ℕ × Option ℤ). row.0) keys kept (apart_different rows) held in
       let numbers = IsPermutation-map (λ (row : List ℕ × Option ℤ). row.1) kept _ parted in
       let each = map-flat_map (λ (row : List ℕ × Option ℤ). row.1) (λ (k : List ℕ). filter (λ (row : List ℕ × Option ℤ). bytes_eq k row.0) kept) keys ∙ flat_map_agree _ (λ d. if test d then numbers_at rows d else []) part_of keys ∙ sym (picked_groups keys) in
       subst (IsPermutation (numbers_where (λ (row : List ℕ × Option ℤ). test row.0) rows)) each numbers
@@ -151,7 +136,7 @@ numbers_counted a rows =
 pub rows_parted : (rows : List (List ℕ × Option ℤ)) → IsPermutation rows (flat_map (λ (k : List ℕ). filter (λ (row : List ℕ × Option ℤ). bytes_eq k row.0) rows) (different_values rows))
 rows_parted rows =
     let known : list_all (λ (row : List ℕ × Option ℤ). has_row rows row.0) rows ≡ true = subst (λ (l : List (List ℕ × Option ℤ)). list_all (λ (row : List ℕ × Option ℤ). has_row rows row.0) l ≡ true) (all_kept rows) (rows_known (λ (row : List ℕ × Option ℤ). true) [] rows) in
-    parts_permute bytes_eq same_values same_self (λ (row : List ℕ × Option ℤ). row.0) (different_values rows) rows (apart_different rows) (known_keys rows rows (different_values rows) (λ row known. among_different row.0 rows ∙ known) known)
+    parts_permute bytes_eq same_text text_self (λ (row : List ℕ × Option ℤ). row.0) (different_values rows) rows (apart_different rows) (known_keys rows rows (different_values rows) (λ row known. among_different row.0 rows ∙ known) known)
 
 -- each tally of the groups of rows is of the aggregator
 pub groups_alike : (a : Aggregator) (rows : List (List ℕ × Option ℤ)) → All (λ group. group.tally.aggregator ≡ a) (groups_of a rows)

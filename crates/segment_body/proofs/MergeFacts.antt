@@ -6,6 +6,7 @@ use Rattle.std.proofs.lemmas.List.{append-nil, get_or_default, get_or-set_same, 
 use Rattle.std.proofs.lemmas.List.Elements.{All-weaker}
 use Rattle.std.proofs.lemmas.List.Concat.{flat_map-append}
 use Rattle.std.proofs.Math.Seq.{get_or-append_seam, set-append_seam}
+use Rattle.std.proofs.lemmas.Option.{slice_get_within}
 use Rattle.olap_meaning.specs.declared.Aggregator.{Aggregator}
 use Rattle.olap_meaning.specs.declared.TheConstants.{ROW_LIMIT}
 use Rattle.olap_meaning.specs.declared.cells.Header.{Header}
@@ -13,7 +14,6 @@ use Rattle.segment_header.specs.Headers.{are_allowed}
 use Rattle.segment_body.specs.declared.group.Block.{Block}
 use Rattle.segment_body.specs.Groups.{Group, group, values_of, rows_of, with_number, with_numbers, placed_in, groups_of, AreHeld, IsAdded, IsMerged}
 use Rattle.segment_body.proofs.GroupFacts.{HeldMore, added, groups_fit, values_at}
-use Rattle.segment_body.proofs.Places.{place_below}
 
 -- the later of two writes at one place stays
 set_twice : {X : Type 0} (xs : List X) (i : ℕ) (x y : X) → set (set xs i x) i y ≡ set xs i y
@@ -50,7 +50,7 @@ module _ (a : Aggregator) (values : List ℕ) (n m : Option ℤ) (ns : List (Opt
       some_same e = cc
 
       inside_of : (gs : List Group) → slice_get (values_of gs) place ≡ Some values → place < length gs
-      inside_of gs at = let below = place_below (values_of gs) place values at in omega (arith, length-map gs (λ (h : Group). h.values))
+      inside_of gs at = let below = slice_get_within (values_of gs) place values at in omega (arith, length-map gs (λ (h : Group). h.values))
 
   between_new : list_any (bytes_eq values) (values_of old) ≡ false → place ≡ length old → new ≡ old ++ group values (record { aggregator = a; values = n ∷ m ∷ ns }) ∷ [] → Between a values n m ns old new place
   between_new none last changed =

@@ -11,12 +11,12 @@ use Rattle.std.proofs.lemmas.List.Concat.{flat_map-append}
 use Rattle.std.proofs.lemmas.List.Folds.{length-flat_map-take}
 use Rattle.olap_meaning.specs.declared.Aggregator.{Aggregator}
 use Rattle.olap_meaning.specs.declared.cells.Header.{Header}
+use Rattle.olap_meaning.proofs.Lists.{same_text}
 use Rattle.list_orders.proofs.Permutations.{IsPermutation-turned, along_permutation}
 use Rattle.segment_body.specs.BodyOf.{different_values, numbers_at}
 use Rattle.segment_body.specs.Groups.{Group, group_of, groups_of}
 use Rattle.segment_body.specs.Narrowed.{narrowed_group, narrowed_row, narrowed_values, rows_with}
 use Rattle.segment_body.proofs.FoldFacts.{all_numbers, rows_parted}
-use Rattle.segment_body.proofs.RowFacts.{same_values}
 
 -- what is made of each element where something is, of a permutation
 pub IsPermutation-filter_map : {X Y : Type 0} (f : X → Option Y) (xs ys : List X) → IsPermutation xs ys → IsPermutation (filter_map f xs) (filter_map f ys)
@@ -41,7 +41,7 @@ module _ (wide header : Header) where
   part_narrowed k (Some values) is [] = refl
   part_narrowed k values is (row ∷ rows) =
       elim (cases_Bool (bytes_eq k row.0)) [
-        | inl same ↦ rw (same, one row (same_values k row.0 same)) (more values (row.1) (part_narrowed k values is rows))
+        | inl same ↦ rw (same, one row (same_text k row.0 same)) (more values (row.1) (part_narrowed k values is rows))
         | inr other ↦ rw other (part_narrowed k values is rows)
       ]
     where

@@ -1,16 +1,17 @@
 -- Tables of cells, and what they take of groups.
-use Rattle.std.proofs.Common.{◌≡◌, ◌≢◌, ◌∙◌, ◌<◌, ◌≤◌, ℕ, zero, suc, ◌+◌, ℤ, Bool, true, false, not, List, [], ◌∷◌, ◌++◌, Option, None, Some, Result, Ok, Err, Vec, drop, filter, flat_map, length, map, set, take, get_or, bytes_eq, append-nil, append_assoc, length-append, lit≤, refl, sym, ap, subst, arith, inl, inr, if◌then◌else◌}
+use Rattle.std.proofs.Common.{◌≡◌, ◌≢◌, ◌∙◌, ◌<◌, ◌≤◌, ℕ, zero, suc, ◌+◌, ℤ, Bool, true, false, not, List, [], ◌∷◌, ◌++◌, Option, None, Some, Result, Ok, Err, Vec, drop, flat_map, length, map, set, take, get_or, bytes_eq, append-nil, append_assoc, length-append, lit≤, refl, sym, ap, subst, arith, inl, inr, if◌then◌else◌}
 use Rattle.std.specs.Prelude.{◌&&◌, ◌==◌, All, Contains, IfOk, IsTrue, nat_lt, option_map, position, slice_get}
 use Rattle.std.specs.List.{AllZip, length_refill, list_all, list_any, position_or_len, zip}
 use Rattle.std.specs.List.Sorted.{IsPermutation}
-use Rattle.std.proofs.Math.Bool.{or-false}
-use Rattle.std.proofs.lemmas.Bool.{and_from, and_parts, cases_Bool}
+use Rattle.std.proofs.Math.Bool.{and-true, or-false}
+use Rattle.std.proofs.lemmas.Bool.{and_from, and_parts, cases_Bool, eqb-true, not-true}
 use Rattle.std.proofs.lemmas.Bool.Decides.{nat_tests}
 use Rattle.std.proofs.lemmas.List.{length-map, map-append, take_all, take_more, take_more_set, with_items_is}
 use Rattle.std.proofs.lemmas.List.Concat.{flat_map-append}
-use Rattle.std.proofs.lemmas.List.Elements.{All-contains, All-contains_itself, All-map}
+use Rattle.std.proofs.lemmas.List.Elements.{All-contains, All-contains_itself, All-map, All-push}
 use Rattle.std.proofs.lemmas.List.Folds.{length-flat_map-take}
 use Rattle.std.proofs.lemmas.List.Sorted.{IsPermutation-append, IsPermutation-refl, length_permutation}
+use Rattle.std.proofs.lemmas.Option.{slice_get_within}
 use Rattle.olap_meaning.specs.declared.Aggregator.{Aggregator}
 use Rattle.olap_meaning.specs.declared.Aggregator.TheVariants.{DistinctCount, Sum}
 use Rattle.olap_meaning.specs.declared.OutOfMemory.{OutOfMemory}
@@ -21,6 +22,8 @@ use Rattle.olap_meaning.specs.declared.cells.Header.{Header}
 use Rattle.olap_meaning.specs.Covering.{among, allows, columns_of, header_covers}
 use Rattle.olap_meaning.specs.Legal.{rise}
 use Rattle.olap_meaning.proofs.Members.{all_member, member_any, none_in}
+use Rattle.olap_meaning.proofs.Lists.{all_filter, all_push, eq_turned, passes_at, same_text, text_self, zip_push}
+use Rattle.olap_meaning.proofs.Positions.{get-append, get_last}
 use Rattle.segment_header.specs.Headers.{are_allowed, is_header, is_set}
 use Rattle.segment_header.proofs.RiseFacts.{all_at}
 use Rattle.measure_folds.specs.Tallied.{Tallied}
@@ -32,11 +35,10 @@ use Rattle.segment_body.specs.Tables.{AreKeyed, HoldsCells, AreTallied, TableOf,
 use Rattle.segment_body.specs.BodyOf.{BodyOf, body_row_in, different_values}
 use Rattle.segment_body.specs.Folds.{are_at, are_at_allowed, body_row_within, has_allowed, numbers_where, picked}
 use Rattle.segment_body.specs.Groups.{Group, IsMerged, group, group_of, groups_of, values_of, with_numbers}
-use Rattle.segment_body.proofs.CellFacts.{all_allowed, eq_of, eq_turned, none_valued}
+use Rattle.segment_body.proofs.CellFacts.{all_allowed, none_valued}
 use Rattle.segment_body.proofs.GroupFacts.{found, unfound, values_at as group_values}
 use Rattle.segment_body.proofs.FoldFacts.{all_numbers, picked_fits, picked_more, picked_permutes}
-use Rattle.segment_body.proofs.Places.{each_at, place_below}
-use Rattle.segment_body.proofs.RowFacts.{other_turned, same_self, same_values}
+use Rattle.segment_body.proofs.RowFacts.{other_turned}
 
 -- ---- where columns stand
 
@@ -58,7 +60,7 @@ value_there (c ∷ cs) (w ∷ ws) x v up long found =
     let rises = and_parts (list_all (nat_lt c.0) (map (λ own. own.0) cs)) (rise (map (λ own. own.0) cs)) up in
     elim (cases_Bool (c.0 == x)) [
       | inl same ↦
-          let e : c.0 ≡ x = eq_of c.0 x same in
+          let e : c.0 ≡ x = eqb-true c.0 x same in
           let none = none_valued cs ws (x, v) (rw e at rises.0) in
           rw (same, none, or-false (w == v)) (eq_turned w v)
       | inr other ↦
@@ -82,13 +84,6 @@ key_met columns values (p ∷ ps) up long found =
 
 -- ---- tables of wanted values
 
--- a list with one element more
-all_push : {X : Type 0} (p : X → Bool) (xs : List X) (x : X) → list_all p xs ≡ true → p x ≡ true → list_all p (xs ++ x ∷ []) ≡ true
-all_push p [] x all one = and_from (p x) true one refl
-all_push p (y ∷ ys) x all one =
-    let parts = and_parts (p y) (list_all p ys) all in
-    and_from (p y) (list_all p (ys ++ x ∷ [])) parts.0 (all_push p ys x parts.1 one)
-
 any_push : {X : Type 0} (p : X → Bool) (xs ys : List X) → list_any p xs ≡ true → list_any p (xs ++ ys) ≡ true
 any_push p [] ys found = absurd (cc)
 any_push p (x ∷ xs) ys found =
@@ -105,15 +100,11 @@ all_weaker p q tells (x ∷ xs) all =
     let parts = and_parts (p x) (list_all p xs) all in
     and_from (q x) (list_all q xs) (tells x parts.0) (all_weaker p q tells xs parts.1)
 
-not_true : (b : Bool) → not b ≡ true → b ≡ false
-not_true true h = absurd (cc)
-not_true false h = refl
-
 none_any : (k : List ℕ) (ks : List (List ℕ)) → list_all (λ later. not (bytes_eq k later)) ks ≡ true → list_any (bytes_eq k) ks ≡ false
 none_any k [] all = refl
 none_any k (j ∷ js) all =
     let parts = and_parts (not (bytes_eq k j)) (list_all (λ later. not (bytes_eq k later)) js) all in
-    rw (not_true (bytes_eq k j) parts.0) (none_any k js parts.1)
+    rw (not-true (bytes_eq k j) parts.0) (none_any k js parts.1)
 
 -- new values are different from the others
 different_push : (ks : List (List ℕ)) (k : List ℕ) → are_different bytes_eq ks ≡ true → list_any (bytes_eq k) ks ≡ false → are_different bytes_eq (ks ++ k ∷ []) ≡ true
@@ -135,16 +126,6 @@ set_none [] i d = refl
 set_none (g ∷ gs) zero d = ap (λ (ns : List (Option ℤ)). group g.values (record { aggregator = g.tally.aggregator; values = ns }) ∷ gs) (append-nil g.tally.values)
 set_none (g ∷ gs) (suc i) d = ap (λ (rest : List Group). g ∷ rest) (set_none gs i d)
 
--- a place in a list is one in a longer list
-get_left : {X : Type 0} (xs ys : List X) (i : ℕ) (x : X) → slice_get xs i ≡ Some x → slice_get (xs ++ ys) i ≡ Some x
-get_left [] ys i x at = absurd (cc)
-get_left (z ∷ zs) ys zero x at = at
-get_left (z ∷ zs) ys (suc i) x at = get_left zs ys i x at
-
-get_last : {X : Type 0} (xs : List X) (x : X) → slice_get (xs ++ x ∷ []) (length xs) ≡ Some x
-get_last [] x = refl
-get_last (z ∷ zs) x = get_last zs x
-
 placed_left : {X C : Type 0} (value : C → X) (xs ys : List X) (at : List ℕ) (cs : List C) → map (slice_get xs) at ≡ map (λ c. Some (value c)) cs → map (slice_get (xs ++ ys)) at ≡ map (λ c. Some (value c)) cs
 placed_left value xs ys [] [] same = refl
 placed_left value xs ys [] (c ∷ cs) same = absurd (cc)
@@ -152,19 +133,13 @@ placed_left value xs ys (i ∷ is) [] same = absurd (cc)
 placed_left value xs ys (i ∷ is) (c ∷ cs) same =
     let first : slice_get xs i ≡ Some (value c) = cc in
     let rest : map (slice_get xs) is ≡ map (λ c. Some (value c)) cs = cc in
-    let first' = get_left xs ys i (value c) first in
+    let first' = get-append xs ys i (value c) first in
     let rest' = placed_left value xs ys is cs rest in
     cc
 
 placed_push : {X C : Type 0} (value : C → X) (xs : List X) (at : List ℕ) (i : ℕ) (cs : List C) (c : C) → map (slice_get xs) at ≡ map (λ c. Some (value c)) cs → slice_get xs i ≡ Some (value c) → map (slice_get xs) (at ++ i ∷ []) ≡ map (λ c. Some (value c)) (cs ++ c ∷ [])
 placed_push value xs at i cs c same here =
     map-append (slice_get xs) at (i ∷ []) ∙ ap (λ l. l ++ slice_get xs i ∷ []) same ∙ ap (λ o. map (λ c. Some (value c)) cs ++ o ∷ []) here ∙ sym (map-append (λ c. Some (value c)) cs (c ∷ []))
-
-all_one_more : {X : Type 0} (P : X → Type 0) (xs : List X) (x : X) → All P xs → P x → All P (xs ++ x ∷ [])
-all_one_more P [] x all one zero d inside = one
-all_one_more P [] x all one (suc k) d inside = absurd (omega arith)
-all_one_more P (y ∷ ys) x all one zero d inside = all zero d (omega arith)
-all_one_more P (y ∷ ys) x all one (suc k) d inside = all_one_more P ys x (λ j e within. all (suc j) e (omega arith)) one k d (omega arith)
 
 abbrev none_of : Aggregator → List ℕ → Group
 none_of a values = group values (record { aggregator = a; values = [] })
@@ -204,7 +179,7 @@ module _ (a : Aggregator) (columns : List ℕ) where
       rw same
       (record {
         cells_held = record {
-          columns = all_one_more (λ c. columns_of c ≡ columns) cells cell keyed.cells_held.columns own;
+          columns = All-push (λ c. columns_of c ≡ columns) cells cell keyed.cells_held.columns own;
           placed = placed_push values_in (values_of old) at place cells cell keyed.cells_held.placed there;
           known = known_more (values_of old) keyed.cells_held.known;
         };
@@ -220,15 +195,15 @@ module _ (a : Aggregator) (columns : List ℕ) where
       let left : map (slice_get (values_of new)) at ≡ map (λ c. Some (values_in c)) cells = rw keys (placed_left values_in (values_of old) (values_in cell ∷ []) at cells keyed.cells_held.placed) in
       record {
         cells_held = record {
-          columns = all_one_more (λ c. columns_of c ≡ columns) cells cell keyed.cells_held.columns own;
+          columns = All-push (λ c. columns_of c ≡ columns) cells cell keyed.cells_held.columns own;
           placed = placed_push values_in (values_of new) at place cells cell left there;
           known =
               rw keys
               (all_push (λ values. list_any (λ c. bytes_eq values (values_in c)) (cells ++ cell ∷ [])) (values_of old) (values_in cell)
               (all_weaker (λ values. list_any (λ c. bytes_eq values (values_in c)) cells) (λ values. list_any (λ c. bytes_eq values (values_in c)) (cells ++ cell ∷ [])) (λ values found. any_push (λ c. bytes_eq values (values_in c)) cells (cell ∷ []) found) (values_of old) keyed.cells_held.known)
-              (any_last (λ c. bytes_eq (values_in cell) (values_in c)) cells cell (same_self (values_in cell))));
+              (any_last (λ c. bytes_eq (values_in cell) (values_in c)) cells cell (text_self (values_in cell))));
         };
-        fresh = rw is (all_one_more (λ (g : Group). g.tally ≡ record { aggregator = a; values = [] }) old (none_of a (values_in cell)) keyed.fresh refl);
+        fresh = rw is (All-push (λ (g : Group). g.tally ≡ record { aggregator = a; values = [] }) old (none_of a (values_in cell)) keyed.fresh refl);
       }
 
 -- ---- groups are taken
@@ -249,12 +224,12 @@ one_takes [] place key ns d differ here = absurd (cc)
 one_takes (g ∷ gs) zero key ns d differ here =
     let same : g.values ≡ key = cc in
     let parts = and_parts (list_all (λ later. not (bytes_eq g.values later)) (values_of gs)) (are_different bytes_eq (values_of gs)) differ in
-    let met : bytes_eq g.values key ≡ true = subst (λ (v : List ℕ). bytes_eq g.values v ≡ true) same (same_self g.values) in
+    let met : bytes_eq g.values key ≡ true = subst (λ (v : List ℕ). bytes_eq g.values v ≡ true) same (text_self g.values) in
     let rest = others_stay gs key ns (none_any key (values_of gs) (rw same at parts.0)) in
     rw met (ap (λ (l : List Group). with_numbers g ns ∷ l) rest)
 one_takes (g ∷ gs) (suc i) key ns d differ here =
     let parts = and_parts (list_all (λ later. not (bytes_eq g.values later)) (values_of gs)) (are_different bytes_eq (values_of gs)) differ in
-    let other : bytes_eq g.values key ≡ false = not_true _ (each_at (λ later. not (bytes_eq g.values later)) (values_of gs) i key parts.0 here) in
+    let other : bytes_eq g.values key ≡ false = not-true _ (passes_at (λ later. not (bytes_eq g.values later)) (values_of gs) i key parts.0 here) in
     rw other (ap (λ (l : List Group). g ∷ l) (one_takes gs i key ns d parts.1 here))
 
 -- a tally is merged into the group that has some values
@@ -323,7 +298,7 @@ module _ (places : List ℕ) (test : List ℕ → Bool) (groups : List Group) (i
       All-map (λ (h : Group). h.values ≡ chosen places g.values → length h.tally.values + length g.tally.values ≤ ROW_LIMIT) (grown taken (take i groups)) old
       (λ k d within same.
       let h : Group = get_or old k d in
-      let met : bytes_eq h.values (chosen places g.values) ≡ true = subst (λ (v : List ℕ). bytes_eq h.values v ≡ true) same (same_self h.values) in
+      let met : bytes_eq h.values (chosen places g.values) ≡ true = subst (λ (v : List ℕ). bytes_eq h.values v ≡ true) same (text_self h.values) in
       let fits = length-flat_map-take (λ (group : Group). if taken h.values group.values then group.tally.values else []) groups i g inside in
       let fits' = rw (← here, met, passes) at fits in
       let all = room k d within in
@@ -371,7 +346,7 @@ places_inside value gs [] cs same k d inside = absurd (omega arith)
 places_inside value gs (i ∷ is) [] same k d inside = absurd (cc)
 places_inside value gs (i ∷ is) (c ∷ cs) same zero d inside =
     let first : slice_get (values_of gs) i ≡ Some (value c) = cc in
-    let below = place_below (values_of gs) i (value c) first in
+    let below = slice_get_within (values_of gs) i (value c) first in
     omega (arith, below, length-map gs (λ (g : Group). g.values))
 places_inside value gs (i ∷ is) (c ∷ cs) same (suc k) d inside = places_inside value gs is cs (cc) k d (omega arith)
 
@@ -396,14 +371,8 @@ zip_placed gs (i ∷ is) (c ∷ cs) (t ∷ ts) keys tallies = (group_there gs i 
 -- ---- lists side by side
 
 module _ {X Y : Type 0} (R : X → Y → Type 0) where
-  zip_push : (xs : List X) (ys : List Y) (x : X) (y : Y) → AllZip R xs ys → R x y → AllZip R (xs ++ x ∷ []) (ys ++ y ∷ [])
-  zip_push [] [] x y all one = (one, tt)
-  zip_push [] (z ∷ zs) x y all one = absurd all
-  zip_push (w ∷ ws) [] x y all one = absurd all
-  zip_push (w ∷ ws) (z ∷ zs) x y all one = (all.0, zip_push ws zs x y all.1 one)
-
   pub zip_more : (xs : List X) (ys : List Y) (i : ℕ) (x : X) (y : Y) → i < length xs → x ≡ get_or xs i x → AllZip R (take i xs) ys → R x y → AllZip R (take (i + 1) xs) (ys ++ y ∷ [])
-  zip_more xs ys i x y inside here all one = rw (take_more xs i x inside, ← here) (zip_push (take i xs) ys x y all one)
+  zip_more xs ys i x y inside here all one = rw (take_more xs i x inside, ← here) (zip_push R (take i xs) ys x y all one)
 
   pub zip_weaker : (S : X → Y → Type 0) (P : X → Type 0) → ((x : X) (y : Y) → P x → R x y → S x y) → (xs : List X) (ys : List Y) → All P xs → AllZip R xs ys → AllZip S xs ys
   zip_weaker S P tells [] [] each all = tt
@@ -425,7 +394,7 @@ alike_all (c ∷ cs) first here some alike = let same : first ≡ c = here in rw
   where
     rest : (c : Cell) (cs : List Cell) → list_all (λ other. bytes_eq (columns_of c) (columns_of other)) cs ≡ true → All (λ cell. columns_of cell ≡ columns_of c) cs
     rest c [] all k d inside = absurd (omega arith)
-    rest c (x ∷ xs) all zero d inside = sym (same_values (columns_of c) (columns_of x) (and_parts (bytes_eq (columns_of c) (columns_of x)) (list_all (λ other. bytes_eq (columns_of c) (columns_of other)) xs) all).0)
+    rest c (x ∷ xs) all zero d inside = sym (same_text (columns_of c) (columns_of x) (and_parts (bytes_eq (columns_of c) (columns_of x)) (list_all (λ other. bytes_eq (columns_of c) (columns_of other)) xs) all).0)
     rest c (x ∷ xs) all (suc k) d inside = rest c xs (and_parts (bytes_eq (columns_of c) (columns_of x)) (list_all (λ other. bytes_eq (columns_of c) (columns_of other)) xs) all).1 k d (omega arith)
 
     each : (c : Cell) (cs : List Cell) → list_all (λ other. bytes_eq (columns_of c) (columns_of other)) cs ≡ true → All (λ cell. columns_of cell ≡ columns_of c) (c ∷ cs)
@@ -443,16 +412,6 @@ columns_are cells first (Err e) here some alike is = tt
 columns_are cells first (Ok columns) here some alike is = rw is (alike_all cells first here some alike)
 
 -- ---- what a body folds
-
--- the different values of allowed rows have one value a column
-all_filter : {X : Type 0} (p q : X → Bool) (xs : List X) → list_all p xs ≡ true → list_all p (filter q xs) ≡ true
-all_filter p q [] all = refl
-all_filter p q (x ∷ xs) all =
-    let parts = and_parts (p x) (list_all p xs) all in
-    elim (cases_Bool (q x)) [
-      | inl kept ↦ rw kept (and_from (p x) (list_all p (filter q xs)) parts.0 (all_filter p q xs parts.1))
-      | inr out ↦ rw out (all_filter p q xs parts.1)
-    ]
 
 long_values : (h : Header) (rows : List (List ℕ × Option ℤ)) → list_all (λ row. are_allowed h row.0) rows ≡ true → list_all (λ values. length values == length h.columns) (different_values rows) ≡ true
 long_values h [] all = refl
@@ -472,7 +431,7 @@ picked_same : (n : ℕ) (p q : List ℕ → Bool) → ((v : List ℕ) → length
 picked_same n p q agree [] all = refl
 picked_same n p q agree (g ∷ gs) all =
     let parts = and_parts (length g.values == n) (list_all (λ (h : Group). length h.values == n) gs) all in
-    rw (agree g.values (eq_of (length g.values) n parts.0), picked_same n p q agree gs parts.1) refl
+    rw (agree g.values (eqb-true (length g.values) n parts.0), picked_same n p q agree gs parts.1) refl
 
 -- a covered cell's columns are the header's
 pub covered_columns : (h : Header) (cell : Cell) → IsTrue (header_covers h cell) → list_all (among (map (λ own. own.0) h.columns)) (columns_of cell) ≡ true
@@ -484,13 +443,9 @@ covered_columns h cell covered =
 group_cell : (cells : List Cell) (table : TableOf) → HoldsCells cells table → (k : ℕ) (d : Group) → k < length table.groups → (cell : Cell) × Contains cells cell × (values_in cell ≡ (get_or table.groups k d).values)
 group_cell cells table held k d inside =
     let values : List ℕ = (get_or table.groups k d).values in
-    let known : list_any (λ cell. bytes_eq values (values_in cell)) cells ≡ true = each_at (λ v. list_any (λ cell. bytes_eq v (values_in cell)) cells) (values_of table.groups) k values held.known (group_values table.groups k d inside) in
+    let known : list_any (λ cell. bytes_eq values (values_in cell)) cells ≡ true = passes_at (λ v. list_any (λ cell. bytes_eq v (values_in cell)) cells) (values_of table.groups) k values held.known (group_values table.groups k d inside) in
     let one = member_any (λ cell. bytes_eq values (values_in cell)) cells known in
-    (one.0, one.1, sym (same_values values (values_in one.0) one.2))
-
-and_true : (b : Bool) → (b && true) ≡ b
-and_true true = refl
-and_true false = refl
+    (one.0, one.1, sym (same_text values (values_in one.0) one.2))
 
 -- the groups of allowed rows
 module _ (h : Header) (a : Aggregator) (rows : List (List ℕ × Option ℤ)) (formed : IsTrue (is_header h)) (allowed : IsTrue (list_all (λ row. are_allowed h row.0) rows)) where
@@ -501,7 +456,7 @@ module _ (h : Header) (a : Aggregator) (rows : List (List ℕ × Option ℤ)) (f
   -- the places of a covered cell's columns are within each group's values
   pub places_within : (some : List ℕ) → list_all (among (map (λ own. own.0) h.columns)) some ≡ true → All (λ group. All (λ place. place < length group.values) (places_of h.columns some)) (groups_of a rows)
   places_within some named k d inside =
-      let long = eq_of _ _ (all_at (λ (g : Group). length g.values == length h.columns) (groups_of a rows) k d rows_long inside) in
+      let long = eqb-true _ _ (all_at (λ (g : Group). length g.values == length h.columns) (groups_of a rows) k d rows_long inside) in
       rw long (All-map (λ place. place < length h.columns) (λ column. position_or_len (λ own. own.0 == column) h.columns) some (λ j x within. place_inside h.columns (get_or some j x) (all_at (among (map (λ own. own.0) h.columns)) some j x named within)))
 
   -- so are those of the columns of covered cells
@@ -521,7 +476,7 @@ module _ (h : Header) (a : Aggregator) (rows : List (List ℕ × Option ℤ)) (f
     pub cell_permutes : IsPermutation (numbers_where (body_row_in h cell) rows) (picked (are_taken (places_of h.columns (columns_of cell)) (λ v. true) (values_in cell)) (groups_of a rows))
     cell_permutes =
         rw (picked_same (length h.columns) (are_taken (places_of h.columns (columns_of cell)) (λ v. true) (values_in cell)) (are_at h.columns cell.at)
-        (λ v long. and_true (bytes_eq (values_in cell) (chosen (places_of h.columns (columns_of cell)) v)) ∙ key_same v long) (groups_of a rows) rows_long)
+        (λ v long. and-true (bytes_eq (values_in cell) (chosen (places_of h.columns (columns_of cell)) v)) ∙ key_same v long) (groups_of a rows) rows_long)
         (picked_permutes a (are_at h.columns cell.at) rows)
 
     -- of them those that have an allowed value

@@ -2,8 +2,7 @@
 use Rattle.std.proofs.Common.{◌≡◌, ◌∙◌, ◌<◌, ◌≤◌, ◌+◌, ℕ, zero, suc, Bool, true, List, [], ◌∷◌, ◌++◌, Option, None, Some, length, drop, get_or, append_assoc, append-nil, add-one, refl, sym, ap, arith, inl, inr}
 use Rattle.std.specs.Prelude.{◌&&◌, ◌==◌, option_and_then, option_map, slice_get, if◌then◌else◌}
 use Rattle.std.specs.List.{list_all, zip}
-use Rattle.std.proofs.lemmas.Bool.{and_from, cases_Bool}
-use Rattle.std.proofs.lemmas.Bool.Decides.{nat_tests}
+use Rattle.std.proofs.lemmas.Bool.{and_from, cases_Bool, eq-eqb}
 use Rattle.std.proofs.Math.Seq.{drop-nil}
 use Rattle.std.proofs.lemmas.Option.{slice_get-get_or}
 use Rattle.olap_meaning.specs.declared.cells.Allowed.{Allowed}
@@ -25,9 +24,6 @@ first_allowed allowed (Some v) rest vs h =
         → (w : ℕ) × (others : List ℕ) × (Some v ≡ Some w) × (allows allowed w ≡ true) × (rest ≡ Some others) × (vs ≡ w ∷ others)
     here None e passes = absurd (cc)
     here (Some others) e passes = (v, others, refl, passes, refl, cc)
-
-eq_true : (a b : ℕ) → a ≡ b → (a == b) ≡ true
-eq_true a b h = grind (arith, nat_tests)
 
 -- the value on a column, where it is allowed
 abbrev pub value_at : (ℕ → Option ℕ) → List (ℕ × Allowed) → ℕ → Option ℕ
@@ -85,4 +81,4 @@ values_allowed f (c ∷ cs) vs h =
     (rw parts.5 (omega (arith, rest.0)), rw parts.5 (and_from _ _ parts.3 rest.1))
 
 pub are_allowed_of : (f : ℕ → Option ℕ) (columns : List (ℕ × Allowed)) (vs : List ℕ) → allowed_values f columns ≡ Some vs → ((length vs == length columns) && list_all (λ own. allows own.0.1 own.1) (zip columns vs)) ≡ true
-are_allowed_of f columns vs h = let all = values_allowed f columns vs h in and_from _ _ (eq_true _ _ all.0) all.1
+are_allowed_of f columns vs h = let all = values_allowed f columns vs h in and_from _ _ (eq-eqb _ _ all.0) all.1

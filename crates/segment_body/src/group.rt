@@ -89,7 +89,7 @@ impl GroupTable {
         }
     }
 
-    // Has a hint tell of the group of some values, which is the last. Where memory is wanting, there is no hint.
+    // Has a hint tell of the group of some values, which is the last. Where there is no memory, there is no hint.
     fn note(&mut self, alloc: Global, values: &[ValueId], place: usize)
         ensures { self.new ≡ self.old }
     {

@@ -25,7 +25,7 @@ impl Hints {
         }
     }
 
-    /// Whether one more group than so many has two slots for each.
+    /// Whether one more group than this many has two slots for each.
     pub(crate) fn has_room(&self, groups: usize) -> bool {
         groups < self.slots.len() / 2
     }
@@ -56,7 +56,7 @@ impl Hints {
         }
     }
 
-    /// Twice as many slots, for the groups of so many columns.
+    /// Twice as many slots, for the groups of this many columns.
     pub(crate) fn doubled(
         &self,
         alloc: Global,
@@ -76,7 +76,7 @@ impl Hints {
     }
 }
 
-// What a value counts on each of so many columns: the first one's count one each, and those of a later one more than all
+// What a value counts on each of this many columns: the first one's count one each, and those of a later one more than all
 // values of the columns before it together.
 fn weights_of(
     alloc: Global,

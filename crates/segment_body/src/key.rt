@@ -8,7 +8,7 @@ use std::alloc::Global;
 use std::hash::{Hash, Hasher};
 use std::marker::Model;
 
-/// So many values stand in a key itself; where there are more, they stand beside it.
+/// This many values stand in a key itself; where there are more, they stand beside it.
 const FEW: usize = 4;
 
 /// The values of a group. It is found by a slice of them.

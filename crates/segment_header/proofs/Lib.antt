@@ -1,2 +1,3 @@
 pub mod RiseFacts
 pub mod WideFacts
+pub mod MaskFacts

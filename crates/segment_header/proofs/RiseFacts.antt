@@ -7,20 +7,18 @@ use Rattle.std.specs.List.Sorted.{IsBinarySearchResult, IsNonDecreasingBy, IsSea
 use Rattle.std.specs.Ordering.{nat_cmp, ordering_index, is_ge}
 use Rattle.std.proofs.Math.Bool.{or-false}
 use Rattle.std.proofs.Math.Seq.{drop-nil}
-use Rattle.std.proofs.lemmas.Bool.{and_parts, cases_Bool, cases_lt}
+use Rattle.std.proofs.lemmas.Bool.{and_parts, cases_Bool, cases_lt, ltb-true}
 use Rattle.std.proofs.lemmas.Bool.Decides.{nat_tests}
 use Rattle.std.proofs.lemmas.List.Elements.{All-from_all_within}
 use Rattle.std.proofs.lemmas.List.Folds.{list_any_none}
 use Rattle.olap_meaning.specs.Covering.{among}
 use Rattle.olap_meaning.specs.Legal.{rise}
+use Rattle.olap_meaning.proofs.Orders.{all_above}
 
 -- a test that tells a number fails at another number
 fails : (n x : ℕ) (b : Bool) → (b ≡ true → n ≡ x) → n ≢ x → b ≡ false
 fails n x true told other = absurd (other (told refl))
 fails n x false told other = refl
-
-lt_above : (a b : ℕ) → nat_lt a b ≡ true → a < b
-lt_above a b h = grind (arith, nat_tests)
 
 pub found_key : (n x : ℕ) → nat_cmp n x ≡ Equal → n ≡ x
 found_key n x h = grind (arith, nat_tests)
@@ -35,7 +33,7 @@ module _ {X : Type 0} (key : X → ℕ) where
   -- the first key is below that at a place
   pub first_below : (y : X) (ys : List X) (i : ℕ) (d : X) → list_all (nat_lt (key y)) (map key ys) ≡ true → i < length ys → key y < key (get_or ys i d)
   first_below y [] i d h lt = absurd (omega arith)
-  first_below y (z ∷ zs) zero d h lt = lt_above _ _ (and_parts _ _ h).0
+  first_below y (z ∷ zs) zero d h lt = ltb-true _ _ (and_parts _ _ h).0
   first_below y (z ∷ zs) (suc i) d h lt = first_below y zs i d (and_parts _ _ h).1 (omega arith)
 
   rise_ordered : (xs : List X) → rise (map key xs) ≡ true → IsNonDecreasingBy key xs
@@ -52,7 +50,7 @@ module _ {X : Type 0} (key : X → ℕ) where
     none_above [] h = refl
     none_above (y ∷ ys) h =
         let parts = and_parts (nat_lt x (key y)) (list_all (nat_lt x) (map key ys)) h in
-        let above : x < key y = lt_above x (key y) parts.0 in
+        let above : x < key y = ltb-true x (key y) parts.0 in
         let failed : test y ≡ false = fails (key y) x (test y) (told y) (λ same. absurd (omega arith)) in
         rw (failed, none_above ys parts.1) refl
 
@@ -109,13 +107,6 @@ search_tells xs x (Err i) up le missed = sym (search_missed (λ n. n) x (λ n. n
 pub below_from : (a b : ℕ) (r : Bool) → r ≡ is_ge (nat_cmp a b) → r ≡ false → nat_lt a b ≡ true
 below_from a b r told fails = let e : is_ge (nat_cmp a b) ≡ false = sym told ∙ fails in grind (arith, nat_tests)
 
-all_above : (x y : ℕ) (zs : List ℕ) → x < y → list_all (nat_lt y) zs ≡ true → list_all (nat_lt x) zs ≡ true
-all_above x y [] lt h = refl
-all_above x y (z ∷ zs) lt h =
-    let parts = and_parts (nat_lt y z) (list_all (nat_lt y) zs) h in
-    let above : nat_lt x z ≡ true = grind (arith, nat_tests) in
-    rw above (all_above x y zs lt parts.1)
-
 below_both : (a b c : Bool) → (b ≡ true → a ≡ true) → (a && (b && c)) ≡ (b && c)
 below_both a true c h = rw (h refl) refl
 below_both true false c h = refl
@@ -125,7 +116,7 @@ below_both false false c h = refl
 rise-two : (x y : ℕ) (zs : List ℕ) → rise (x ∷ y ∷ zs) ≡ (nat_lt x y && rise (y ∷ zs))
 rise-two x y zs =
     elim (cases_Bool (nat_lt x y)) [
-      | inl below ↦ rw below (below_both (list_all (nat_lt x) zs) (list_all (nat_lt y) zs) (rise zs) (all_above x y zs (lt_above x y below)))
+      | inl below ↦ rw below (below_both (list_all (nat_lt x) zs) (list_all (nat_lt y) zs) (rise zs) (all_above x y zs (ltb-true x y below)))
       | inr above ↦ rw above refl
     ]
 

@@ -2,7 +2,7 @@
 use Rattle.std.proofs.Common.{◌≡◌, ◌<◌, ◌≤◌, ℕ, suc, ◌+◌, true, false, List, [], ◌∷◌, Result, Ok, Err, length, refl, sym, subst, arith, inl, inr}
 use Rattle.std.specs.Prelude.{IfOk, ◌&&◌, ◌==◌, IsTrue, nat_le, nat_lt}
 use Rattle.std.specs.List.{list_all}
-use Rattle.std.proofs.lemmas.Bool.{and_from, and_parts, cases_Bool, cases_lt}
+use Rattle.std.proofs.lemmas.Bool.{and_from, and_parts, cases_Bool, cases_lt, eqb-true, leb-true, ltb-true}
 use Rattle.std.proofs.lemmas.Bool.Decides.{nat_tests}
 use Rattle.olap_meaning.specs.declared.OutOfMemory.{OutOfMemory}
 use Rattle.olap_meaning.specs.declared.schema.TheConstants.{RECORD_LIMIT}
@@ -13,17 +13,8 @@ use Rattle.olap_meaning.specs.Legal.{rise}
 use Rattle.list_orders.proofs.Rising.{all_among}
 use Rattle.segment_header.specs.Widening.{Serves, WidensPlainly, are_below, are_wanted}
 
-lt_true : (a b : ℕ) → nat_lt a b ≡ true → a < b
-lt_true a b h = grind (arith, nat_tests)
-
-le_true : (a b : ℕ) → nat_le a b ≡ true → a ≤ b
-le_true a b h = grind (arith, nat_tests)
-
 le_from : (a b : ℕ) → nat_lt a b ≡ true → nat_le (suc a) b ≡ true
 le_from a b h = grind (arith, nat_tests)
-
-eq_of : (a b : ℕ) → (a == b) ≡ true → a ≡ b
-eq_of a b h = grind (arith, nat_tests)
 
 eq_not : (a b : ℕ) → (a == b) ≡ false → a ≡ b → ⊥
 eq_not a b h e = grind (arith, nat_tests)
@@ -40,9 +31,9 @@ none_below : (v : ℕ) (ys : List ℕ) → list_all (nat_le (suc v)) ys ≡ true
 none_below v [] up = refl
 none_below v (y ∷ ys) up =
     let parts = and_parts (nat_le (suc v) y) (list_all (nat_le (suc v)) ys) up in
-    let less : suc v ≤ y = le_true (suc v) y parts.0 in
+    let less : suc v ≤ y = leb-true (suc v) y parts.0 in
     elim (cases_Bool (y == v)) [
-      | inl same ↦ let e : y ≡ v = eq_of y v same in absurd (omega arith)
+      | inl same ↦ let e : y ≡ v = eqb-true y v same in absurd (omega arith)
       | inr other ↦ rw other (none_below v ys parts.1)
     ]
 
@@ -53,8 +44,8 @@ room (x ∷ xs) k n up above below h =
     let rises = and_parts (list_all (nat_lt x) xs) (rise xs) up in
     let least = and_parts (nat_le k x) (list_all (nat_le k) xs) above in
     let most = and_parts (nat_lt x n) (are_below n xs) below in
-    let lt : x < n = lt_true x n most.0 in
-    let le : k ≤ x = le_true k x least.0 in
+    let lt : x < n = ltb-true x n most.0 in
+    let le : k ≤ x = leb-true k x least.0 in
     let rest = room xs (suc x) n rises.1 (next_above x xs rises.0) most.1 (omega arith) in
     omega (arith, rest)
 
@@ -65,8 +56,8 @@ full (x ∷ xs) k n v up above below long from to =
     let rises = and_parts (list_all (nat_lt x) xs) (rise xs) up in
     let least = and_parts (nat_le k x) (list_all (nat_le k) xs) above in
     let most = and_parts (nat_lt x n) (are_below n xs) below in
-    let lt : x < n = lt_true x n most.0 in
-    let le : k ≤ x = le_true k x least.0 in
+    let lt : x < n = ltb-true x n most.0 in
+    let le : k ≤ x = leb-true k x least.0 in
     let few = room xs (suc x) n rises.1 (next_above x xs rises.0) most.1 (omega arith) in
     elim (cases_Bool (x == v)) [
       | inl same ↦ rw same refl
@@ -83,7 +74,7 @@ filled [] k n up above each =
 filled (x ∷ xs) k n up above each =
     let rises = and_parts (list_all (nat_lt x) xs) (rise xs) up in
     let least = and_parts (nat_le k x) (list_all (nat_le k) xs) above in
-    let le : k ≤ x = le_true k x least.0 in
+    let le : k ≤ x = leb-true k x least.0 in
     elim (cases_lt k n) [
       | inr ge ↦ omega arith
       | inl less ↦
@@ -106,14 +97,14 @@ filled (x ∷ xs) k n up above each =
         weaken k x [] lower up = refl
         weaken k x (y ∷ ys) lower up =
             let parts = and_parts (nat_lt x y) (list_all (nat_lt x) ys) up in
-            let more = lt_true x y parts.0 in
+            let more = ltb-true x y parts.0 in
             and_from (nat_le (suc k) y) (list_all (nat_le (suc k)) ys) (grind (arith, nat_tests)) (weaken k x ys lower parts.1)
 
     later : (v : ℕ) → suc x ≤ v → v < n → among xs v ≡ true
     later v from to =
-        let here : among (x ∷ xs) v ≡ true = each v (omega (arith, le_true k x (and_parts (nat_le k x) (list_all (nat_le k) xs) above).0)) to in
+        let here : among (x ∷ xs) v ≡ true = each v (omega (arith, leb-true k x (and_parts (nat_le k x) (list_all (nat_le k) xs) above).0)) to in
         elim (cases_Bool (x == v)) [
-          | inl same ↦ let e : x ≡ v = eq_of x v same in absurd (omega arith)
+          | inl same ↦ let e : x ≡ v = eqb-true x v same in absurd (omega arith)
           | inr other ↦ rw other at here
         ]
 

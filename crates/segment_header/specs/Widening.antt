@@ -15,7 +15,7 @@ use Rattle.segment_header.specs.Headers.{is_set}
 abbrev pub are_below : ℕ → List ℕ → Bool
 are_below count values = list_all (λ value. nat_lt value count) values
 
--- values that are wanted in a column of so many values: there is one, they rise, and are below the number. No column has
+-- values that are wanted in a column of this many values: there is one, they rise, and are below the number. No column has
 -- more values than a table has records
 abbrev pub are_wanted : List ℕ → ℕ → Bool
 are_wanted wanted count =
@@ -37,7 +37,7 @@ pub record WidensPlainly (wanted : List ℕ) (count : ℕ) (allowed : Allowed) :
   pub any : allowed ≡ Any ↔ ((value : ℕ) → value < count → IsTrue (among wanted value))
   pub set : (allowed ≡ Any) ⊎ (allowed ≡ Set wanted)
 
--- a closure may answer so for these wanted values of a column of so many
+-- a closure may answer so for these wanted values of a column of this many
 pub record AnswersAt {F R : Type 0} (g : Shared F (Bor (List ℕ) × (ℕ × Unit {0})) R) (f : F)
     (wanted : List ℕ) (count : ℕ) (answer : R) : Type 0 where
   pub shown : Bor (List ℕ)

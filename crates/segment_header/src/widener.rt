@@ -19,7 +19,7 @@ pub trait AllowsValues {
     ghost use Rattle.olap_meaning.specs.declared.cells.Allowed.{Allowed};
     ghost use Rattle.olap_meaning.specs.declared.OutOfMemory.{OutOfMemory};
 
-    // it may answer so for these wanted values of a column of so many
+    // it may answer so for these wanted values of a column of this many
     ghost answers: { Self → List ℕ → ℕ → Result Allowed OutOfMemory → Type 0 };
 }
 
@@ -29,7 +29,7 @@ fn are_below(values: &[ValueId], count: u32) -> bool
     values.iter().all(|value| value.0 < count)
 }
 
-/// Whether values are ones that may be wanted in a column of so many values: there is one, they rise, and each is below
+/// Whether values are ones that may be wanted in a column of this many values: there is one, they rise, and each is below
 /// the number, which is at most the limit of records. It takes no memory.
 pub fn are_wanted(wanted: &[ValueId], count: u32) -> bool
     ensures { result ≡ widening.are_wanted wanted.now count }

@@ -3,50 +3,24 @@ use Rattle.std.proofs.Common.{◌≡◌, ◌∙◌, ◌++◌, ◌||◌, ◌&&◌
 use Rattle.std.specs.Prelude.{◌==◌}
 use Rattle.std.specs.List.{dedup, list_any}
 use Rattle.std.specs.List.Sorted.{IsPermutation}
-use Rattle.std.proofs.lemmas.Bool.{and_parts, cases_Bool}
-use Rattle.std.proofs.lemmas.Bool.Decides.{nat_tests}
+use Rattle.std.proofs.lemmas.Bool.{and_parts, cases_Bool, eq-eqb, eqb-true, or_right}
 use Rattle.std.proofs.lemmas.List.Elements.{All-contains, All-from_recursion}
-use Rattle.std.proofs.lemmas.List.Kept.{Contains-dedup_nat, Contains-from_dedup}
 use Rattle.std.proofs.lemmas.List.Sorted.{list_any-IsPermutation}
 use Rattle.std.proofs.lemmas.Map.Views.{any-filter_same}
-use Rattle.olap_meaning.proofs.Members.{any_member, in_first, in_rest}
+use Rattle.olap_meaning.proofs.Members.{in_first, in_rest}
 use Rattle.olap_meaning.specs.declared.cells.Cell.{Cell}
 use Rattle.olap_meaning.specs.Covering.{among, header_covers, names_column}
+use Rattle.olap_meaning.proofs.Orders.{among_once}
+use Rattle.olap_meaning.proofs.Lists.{same_bool}
 use Rattle.cache_flush.specs.Shuts.{is_live}
 use Rattle.cache_flush.specs.Loads as loads
 use Rattle.cache_flush.specs.Loads.{KeptOf, are_different, numbers_of}
 use Rattle.segment_index.specs.Grouping.{loads_above, loads_at, loads_where_above}
 use Rattle.segment_index.specs.Keeping.{AreGrouped, IsGrouped}
-use Rattle.segment_index.specs.Masks.{cell_mask, header_mask}
+use Rattle.segment_header.specs.Masks.{cell_mask, header_mask}
 use Rattle.segment_index.specs.Search.{has_candidate, is_candidate, load_of}
-use Rattle.segment_index.proofs.MaskFacts.{cell_within}
+use Rattle.segment_header.proofs.MaskFacts.{cell_within}
 use Rattle.segment_index.proofs.SearchFacts.{load_found, load_there, number_there}
-
-eq_of : (a b : ℕ) → (a == b) ≡ true → a ≡ b
-eq_of a b h = grind (arith, nat_tests)
-
-eq_self : (a : ℕ) → (a == a) ≡ true
-eq_self a = grind (arith, nat_tests)
-
-same_bool : (a b : Bool) → (a ≡ true → b ≡ true) → (b ≡ true → a ≡ true) → a ≡ b
-same_bool true b into back = sym (into refl)
-same_bool false true into back = back refl
-same_bool false false into back = refl
-
-member_of : (ns : List ℕ) (n : ℕ) → among ns n ≡ true → Contains ns n
-member_of [] n h = absurd (true≢false (sym h))
-member_of (m ∷ ns) n h =
-    elim (cases_Bool (m == n)) [
-      | inl same ↦ rw (eq_of m n same) (in_first n ns)
-      | inr other ↦ in_rest m ns n (member_of ns n (rw other at h))
-    ]
-
--- `dedup` leaves the same numbers
-among_once : (ns : List ℕ) (n : ℕ) → among (dedup nat_eq ns) n ≡ among ns n
-among_once ns n =
-    same_bool (among (dedup nat_eq ns) n) (among ns n)
-    (λ h. any_member (λ v. v == n) ns n (Contains-from_dedup nat_eq ns n (member_of (dedup nat_eq ns) n h)) (eq_self n))
-    (λ h. any_member (λ v. v == n) (dedup nat_eq ns) n (Contains-dedup_nat ns n (member_of ns n h)) (eq_self n))
 
 -- ---- the numbers under the masks that have all bits of another
 
@@ -58,17 +32,13 @@ among_append (x ∷ xs) ys n = by (x == n) (among (xs ++ ys) n) (among xs n) (am
     by true l r s e = refl
     by false l r s e = e
 
-or_right : (a b : Bool) → b ≡ true → (a || b) ≡ true
-or_right true b h = refl
-or_right false b h = h
-
 above_here : (es : List (ℕ × (List ℕ × ℕ))) (q m n : ℕ) → bit_and q m ≡ m → among (loads_at es q) n ≡ true → among (loads_above es m) n ≡ true
 above_here [] q m n within h = h
 above_here (e ∷ es) q m n within h =
     elim (cases_Bool (nat_eq q e.0)) [
       | inl same ↦
-          let is : q ≡ e.0 = eq_of q e.0 same in
-          let bits : nat_eq (bit_and e.0 m) m ≡ true = rw (← is, within) (eq_self m) in
+          let is : q ≡ e.0 = eqb-true q e.0 same in
+          let bits : nat_eq (bit_and e.0 m) m ≡ true = rw (← is, within) (eq-eqb m m refl) in
           let here : among e.1.0 n ≡ true = rw same at h in
           among_append (loads_where_above m e) (loads_above es m) n ∙ rw (bits, here) refl
       | inr other ↦
@@ -117,10 +87,10 @@ module _ (kept : List KeptOf) (groups : List (ℕ × (List ℕ × ℕ))) (cell :
       (λ h.
       let (other, at, passes) = candidate_there kept cell n (load_of kept n) refl ((and_parts (has_candidate kept cell n) (among (loads_above groups (cell_mask cell)) n) h).0) in
       let (held, same) = load_there kept n other at in
-      rw (eq_of other.load n same) at (number_there (filter is kept) other (in_filter is kept other held passes)))
+      rw (eqb-true other.load n same) at (number_there (filter is kept) other (in_filter is kept other held passes)))
       (λ h.
       let (other, held, same, passes) = from_filter is kept n h in
-      let e : other.load ≡ n = eq_of other.load n same in
+      let e : other.load ≡ n = eqb-true other.load n same in
       let found : load_of kept n ≡ Some other = rw e at (load_found kept other differ held) in
       let right : IsGrouped groups other = All-contains (IsGrouped groups) kept other (All-from_recursion (IsGrouped groups) kept grouped) held in
       let covers = (and_parts (header_covers other.body.header cell) (list_any (λ column. not (names_column cell column.0)) other.body.header.columns) (and_parts (header_covers other.body.header cell && list_any (λ column. not (names_column cell column.0)) other.body.header.columns) (is_live other.shut cell) passes).0).0 in
@@ -131,5 +101,5 @@ module _ (kept : List KeptOf) (groups : List (ℕ × (List ℕ × ℕ))) (cell :
   pub candidates_found : (found sorted once : List ℕ) → found ≡ filter (has_candidate kept cell) (loads_above groups (cell_mask cell)) → IsPermutation found sorted → once ≡ dedup nat_eq sorted → (n : ℕ) → among once n ≡ among (numbers_of (filter is kept)) n
   candidates_found found sorted once are moved left n =
       ap (λ (ns : List ℕ). among ns n) left ∙ among_once sorted n ∙ sym (list_any-IsPermutation (λ v. v == n) found sorted moved) ∙ ap (λ (ns : List ℕ). among ns n) are
-      ∙ any-filter_same (λ v. v == n) (has_candidate kept cell) (has_candidate kept cell n) (λ k same. ap (has_candidate kept cell) (eq_of k n same)) (loads_above groups (cell_mask cell))
+      ∙ any-filter_same (λ v. v == n) (has_candidate kept cell) (has_candidate kept cell n) (λ k same. ap (has_candidate kept cell) (eqb-true k n same)) (loads_above groups (cell_mask cell))
       ∙ passing n

@@ -1,7 +1,6 @@
 -- That `proofs` ensures what it says.
 pub mod GroupFacts
 pub mod LoadFacts
-pub mod MaskFacts
 pub mod PlaceFacts
 pub mod SearchFacts
 pub mod CandidateFacts

@@ -2,19 +2,20 @@
 use Rattle.std.proofs.Common.{◌≡◌, ◌∙◌, ◌<◌, ◌++◌, ℕ, zero, suc, Bool, true, false, if◌then◌else◌, List, [], ◌∷◌, None, Some, refl, sym, ap, arith, inl, inr, true≢false, map, take, drop, set, get_or, length, nat_eq, option_map, find, slice_get}
 use Rattle.std.specs.Prelude.{Result, Ok, Err, IsOk, OnOk, ◌==◌}
 use Rattle.std.specs.Map.{lookup}
-use Rattle.std.proofs.lemmas.Bool.{cases_Bool}
+use Rattle.std.proofs.lemmas.Bool.{cases_Bool, eq-eqb}
 use Rattle.std.proofs.lemmas.Bool.Decides.{nat_tests}
 use Rattle.std.proofs.lemmas.List.{length-map}
 use Rattle.indexmap.specs.IndexMap.{set_value_at}
 use Rattle.olap_meaning.specs.declared.regions.Region.{Region}
 use Rattle.olap_meaning.specs.Covering.{among}
+use Rattle.olap_meaning.proofs.Orders.{among_still}
 use Rattle.cache_flush.specs.Loads.{KeptOf, are_different, kept_of, numbers_of, shut_off}
 use Rattle.cache_flush.specs.declared.kept.Kept.{Kept}
 use Rattle.cache_flush.proofs.Differing.{differ_more}
 use Rattle.cache_flush.proofs.ListFacts.{map_append}
 use Rattle.segment_index.specs.Grouping.{loads_at}
 use Rattle.segment_index.specs.Keeping.{AreGrouped}
-use Rattle.segment_index.specs.Masks.{header_mask}
+use Rattle.segment_header.specs.Masks.{header_mask}
 use Rattle.segment_index.specs.Numbered.{AreNumbered, rooms_of, seen}
 
 eq_flips : (a b : ℕ) → (a == b) ≡ nat_eq b a
@@ -150,26 +151,15 @@ pub grouped_shut : (groups : Groups) (region : Region) (loads : List KeptOf) →
 grouped_shut groups region [] all = tt
 grouped_shut groups region (k ∷ loads) all = (all.0, grouped_shut groups region loads all.1)
 
-among_still : (ns : List ℕ) (m n : ℕ) → among ns n ≡ true → among (ns ++ m ∷ []) n ≡ true
-among_still [] m n there = absurd (true≢false (sym there))
-among_still (k ∷ ns) m n there =
-    elim (cases_Bool (k == n)) [
-      | inl same ↦ rw same refl
-      | inr other ↦ rw other (among_still ns m n (rw other at there))
-    ]
-
-eq_self : (a : ℕ) → (a == a) ≡ true
-eq_self a = grind (arith, nat_tests)
-
 among_last : (ns : List ℕ) (n : ℕ) → among (ns ++ n ∷ []) n ≡ true
-among_last [] n = rw (eq_self n) refl
+among_last [] n = rw (eq-eqb n n refl) refl
 among_last (k ∷ ns) n = elim (cases_Bool (k == n)) [ inl same ↦ rw same refl | inr other ↦ rw other (among_last ns n) ]
 
 -- with one number more under a mask
 pub grouped_more : (groups after : Groups) (m : ℕ) (kept : KeptOf) (loads : List KeptOf) → m ≡ header_mask kept.body.header
     → ((q : ℕ) → loads_at after q ≡ (if nat_eq m q then loads_at groups q ++ kept.load ∷ [] else loads_at groups q)) → AreGrouped groups loads → AreGrouped after (loads ++ kept ∷ [])
 grouped_more groups after m kept [] its more all =
-    let here : nat_eq m (header_mask kept.body.header) ≡ true = rw its (eq_self (header_mask kept.body.header)) in
+    let here : nat_eq m (header_mask kept.body.header) ≡ true = rw its (eq-eqb (header_mask kept.body.header) (header_mask kept.body.header) refl) in
     let now : loads_at after (header_mask kept.body.header) ≡ loads_at groups (header_mask kept.body.header) ++ kept.load ∷ [] = rw here at (more (header_mask kept.body.header)) in
     (rw now (among_last (loads_at groups (header_mask kept.body.header)) kept.load), tt)
 grouped_more groups after m kept (k ∷ loads) its more all =

@@ -5,7 +5,7 @@ use Rattle.olap_meaning.specs.declared.cells.Header.{Header}
 use Rattle.cache_flush.specs.Loads.{KeptOf}
 use Rattle.segment_index.specs.Grouping.{places_at}
 use Rattle.segment_index.specs.Index.{IndexOf, count_under, has_places, places_with}
-use Rattle.segment_index.specs.Masks.{header_mask}
+use Rattle.segment_header.specs.Masks.{header_mask}
 
 -- the places with a mask, as the groups count them
 pub places_seen : (groups : List (ℕ × (List ℕ × ℕ))) (mask : ℕ) → places_with (map (λ under. (under.0, under.1.1)) groups) mask ≡ places_at groups mask

@@ -2,7 +2,7 @@
 use Rattle.std.proofs.Common.{◌≡◌, ◌∙◌, ◌<◌, ◌≤◌, ℕ, ◌+◌, add-one, length, reverse, take, true, false, not, zero, suc, get_or, List, [], ◌∷◌, Option, Some, None, refl, sym, arith, inl, inr, true≢false, Contains}
 use Rattle.std.specs.Prelude.{◌==◌, nat_le, nat_lt}
 use Rattle.std.proofs.Math.Seq.{take-suc}
-use Rattle.std.proofs.lemmas.Bool.{and_parts, cases_Bool}
+use Rattle.std.proofs.lemmas.Bool.{and_parts, cases_Bool, eq-eqb, eqb-true, ltb-false}
 use Rattle.std.proofs.lemmas.Bool.Decides.{nat_tests}
 use Rattle.std.proofs.lemmas.List.{reverse-append}
 use Rattle.std.proofs.lemmas.List.Sorted.{IsPermutation-reverse, list_any-IsPermutation}
@@ -14,18 +14,9 @@ use Rattle.cache_flush.specs.Shuts.{is_live}
 use Rattle.cache_flush.specs.Loads.{IsGreatest, KeptOf, are_different, numbers_of, serves}
 use Rattle.segment_index.specs.Grouping.{loads_at}
 use Rattle.segment_index.specs.Keeping.{AreGrouped, IsGrouped}
-use Rattle.segment_index.specs.Masks.{cell_mask, header_mask}
+use Rattle.segment_header.specs.Masks.{cell_mask, header_mask}
 use Rattle.segment_index.specs.Search.{later, later_serving, latest_serving, load_of, reaches, serving}
-use Rattle.segment_index.proofs.MaskFacts.{cell_same}
-
-eq_of : (a b : ℕ) → (a == b) ≡ true → a ≡ b
-eq_of a b h = grind (arith, nat_tests)
-
-eq_self : (a : ℕ) → (a == a) ≡ true
-eq_self a = grind (arith, nat_tests)
-
-not_below : (a b : ℕ) → nat_lt a b ≡ false → b ≤ a
-not_below a b h = grind (arith, nat_tests)
+use Rattle.segment_header.proofs.MaskFacts.{cell_same}
 
 below : (a b : ℕ) → nat_lt a b ≡ true → a ≤ b
 below a b h = grind (arith, nat_tests)
@@ -54,7 +45,7 @@ load_there (l ∷ loads) n kept is =
 
 pub number_there : (loads : List KeptOf) (kept : KeptOf) → Contains loads kept → among (numbers_of loads) kept.load ≡ true
 number_there [] kept held = absurd (none_in kept held)
-number_there (l ∷ loads) kept (zero, inside, here) = let same : l ≡ kept = here in rw (same, eq_self kept.load) refl
+number_there (l ∷ loads) kept (zero, inside, here) = let same : l ≡ kept = here in rw (same, eq-eqb kept.load kept.load refl) refl
 number_there (l ∷ loads) kept (suc k, inside, here) =
     let rest = number_there loads kept (k, omega arith, here) in
     elim (cases_Bool (l.load == kept.load)) [ inl first ↦ rw first refl | inr fails ↦ rw fails rest ]
@@ -62,13 +53,13 @@ number_there (l ∷ loads) kept (suc k, inside, here) =
 -- where no number stands twice, each load is found by its number
 pub load_found : (loads : List KeptOf) (kept : KeptOf) → are_different (numbers_of loads) ≡ true → Contains loads kept → load_of loads kept.load ≡ Some kept
 load_found [] kept differ held = absurd (none_in kept held)
-load_found (l ∷ loads) kept differ (zero, inside, here) = let same : l ≡ kept = here in rw (same, eq_self kept.load) refl
+load_found (l ∷ loads) kept differ (zero, inside, here) = let same : l ≡ kept = here in rw (same, eq-eqb kept.load kept.load refl) refl
 load_found (l ∷ loads) kept differ (suc k, inside, here) =
     let parts = and_parts (not (among (numbers_of loads) l.load)) (are_different (numbers_of loads)) differ in
     let held : Contains loads kept = (k, omega arith, here) in
     elim (cases_Bool (l.load == kept.load)) [
       | inl same ↦
-          let e : l.load ≡ kept.load = eq_of l.load kept.load same in
+          let e : l.load ≡ kept.load = eqb-true l.load kept.load same in
           let twice : among (numbers_of loads) l.load ≡ true = rw e (number_there loads kept held) in
           absurd (true≢false (sym (rw twice at parts.0)))
       | inr other ↦ rw other (load_found loads kept parts.1 held)
@@ -91,7 +82,7 @@ later-next None next = omega arith
 later-next (Some best) next =
     elim (cases_Bool (nat_lt best.load next.load)) [
       | inl less ↦ rw less (omega arith)
-      | inr more ↦ rw more (not_below best.load next.load more)
+      | inr more ↦ rw more (ltb-false best.load next.load more)
     ]
 
 later-best : (x : ℕ) (best : Option KeptOf) (next : KeptOf) → Reaches x best → Reaches x (later best next)
@@ -144,7 +135,7 @@ module _ (loads : List KeptOf) (cell : Cell) where
   all-reached (n ∷ ns) best kept there found served =
       elim (cases_Bool (n == kept.load)) [
         | inl same ↦
-            let e : n ≡ kept.load = eq_of n kept.load same in
+            let e : n ≡ kept.load = eqb-true n kept.load same in
             let here : load_of loads n ≡ Some kept = rw e found in
             all-best kept.load ns _ (rw here (step-next best kept served))
         | inr other ↦ all-reached ns _ kept (rw other at there) found served
@@ -181,7 +172,7 @@ not_later loads cell (Some best) n h = by (load_of loads n) refl
     by : (next : Option KeptOf) → load_of loads n ≡ next → Some best ≡ later_serving cell (Some best) next
     by None at = refl
     by (Some next) at =
-        let same : next.load ≡ n = eq_of next.load n (load_there loads n next at).1 in
+        let same : next.load ≡ n = eqb-true next.load n (load_there loads n next at).1 in
         let more : nat_lt best.load next.load ≡ false = rw same (not_above best.load n h) in
         elim (cases_Bool (serves next cell)) [ inl served ↦ rw (served, more) refl | inr other ↦ rw other refl ]
 
@@ -189,7 +180,7 @@ not_later loads cell (Some best) n h = by (load_of loads n) refl
 is_later : (loads : List KeptOf) (best : Option KeptOf) (n : ℕ) (next : KeptOf) → reaches best n ≡ false → load_of loads n ≡ Some next → later best next ≡ Some next
 is_later loads None n next h at = refl
 is_later loads (Some best) n next h at =
-    let same : next.load ≡ n = eq_of next.load n (load_there loads n next at).1 in
+    let same : next.load ≡ n = eqb-true next.load n (load_there loads n next at).1 in
     let less : nat_lt best.load next.load ≡ true = rw same (is_above best.load n h) in
     rw less refl
 

@@ -2,7 +2,7 @@
 use Rattle.std.specs.Prelude.{ℕ, suc, ◌≤◌, ◌<◌, List, [], ◌∷◌, All, if◌then◌else◌, length, nat_eq}
 use Rattle.olap_meaning.specs.declared.cells.Header.{Header}
 use Rattle.cache_flush.specs.Loads.{KeptOf}
-use Rattle.segment_index.specs.Masks.{header_mask}
+use Rattle.segment_header.specs.Masks.{header_mask}
 
 -- kept loads, how many more there is room for, how many more with each mask, and for how many more regions each has room
 pub record IndexOf : Type 0 where

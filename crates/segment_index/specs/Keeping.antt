@@ -4,7 +4,7 @@ use Rattle.std.specs.List.{AllByRecursion}
 use Rattle.olap_meaning.specs.Covering.{among}
 use Rattle.cache_flush.specs.Loads.{KeptOf}
 use Rattle.segment_index.specs.Grouping.{loads_at}
-use Rattle.segment_index.specs.Masks.{header_mask}
+use Rattle.segment_header.specs.Masks.{header_mask}
 
 -- the number of a load stands under the mask of its columns
 abbrev pub IsGrouped : List (ℕ × (List ℕ × ℕ)) → KeptOf → Type 0

@@ -1,6 +1,5 @@
 pub mod Grouping
 pub mod Index
 pub mod Keeping
-pub mod Masks
 pub mod Numbered
 pub mod Search

@@ -3,10 +3,10 @@ ghost use Rattle.std.specs.Prelude.{◌≡◌, ◌+◌, [], IfOk};
 
 use crate::groups::Groups;
 use crate::loads::Loads;
-use crate::mask::{cell_mask, header_mask};
 use crate::search::{candidates, latest_serving};
 use cache_flush::{CacheShelf, Kept, Shelf, handles_of};
 use olap_meaning::{Cell, Header, List, OutOfMemory, Region};
+use segment_header::{cell_mask, header_mask};
 use std::alloc::Global;
 use std::marker::Model;
 use std::sync::Arc;

@@ -7,7 +7,6 @@
 mod groups;
 mod index;
 mod loads;
-mod mask;
 mod search;
 mod shared;
 

@@ -74,7 +74,7 @@ impl Loads {
         numbers_in(alloc, &self.by_number)
     }
 
-    /// Makes room for so many more.
+    /// Makes room for this many more.
     pub(crate) fn reserve(&mut self, places: usize) -> Result<(), OutOfMemory>
         ensures ok { OnOk result (places ≤ self.new.places) }
         ensures loads { self.new.loads ≡ self.old.loads }

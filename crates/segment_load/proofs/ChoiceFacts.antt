@@ -1,8 +1,7 @@
 -- The cheapest of the facts and some tables, table by table from the last; and that it is the least.
 use Rattle.std.proofs.Common.{◌≡◌, ◌∙◌, ◌<◌, ◌≤◌, ◌+◌, ◌-◌, ℕ, zero, suc, Bool, true, false, List, [], ◌∷◌, Option, None, Some, drop, length, map, get_or, refl, sym, ap, subst, arith, All}
 use Rattle.std.specs.Prelude.{◌&&◌, nat_le, option_and_then, option_map, slice_get, if◌then◌else◌}
-use Rattle.std.proofs.lemmas.Bool.{and_parts}
-use Rattle.std.proofs.lemmas.Bool.Decides.{nat_tests}
+use Rattle.std.proofs.lemmas.Bool.{and_parts, leb-true}
 use Rattle.std.proofs.lemmas.List.Elements.{All-head, All-tail}
 use Rattle.std.proofs.lemmas.Option.{slice_get-get_or, slice_get-map}
 use Rattle.olap_meaning.specs.declared.cells.Header.{Header}
@@ -12,9 +11,6 @@ use Rattle.fact_reader.specs.BodyRows.{rows_in}
 use Rattle.agg_tables.specs.Costs.{cheaper, cheapest, is_usable, may_read, read_cost, table_cost}
 use Rattle.agg_tables.specs.Tables.{TableOf}
 use Rattle.segment_load.specs.Loads.{IsOffered, MayRead}
-
-le_of : (a b : ℕ) → nat_le a b ≡ true → a ≤ b
-le_of a b h = grind (arith, nat_tests)
 
 -- one table more, from the last on
 pub cheapest_next : (header : Header) (version rows : ℕ) (tables : List TableOf) (place : ℕ) (table : TableOf) → slice_get tables place ≡ Some table
@@ -30,7 +26,7 @@ none_left header version rows (t ∷ ts) = none_left header version rows ts
 pub all_left : (header : Header) (version rows n : ℕ) (tables : List TableOf) → length tables ≡ n → cheapest header version rows (drop n tables) ≡ None
 all_left header version rows n tables is = ap (λ (k : ℕ). cheapest header version rows (drop k tables)) (sym is) ∙ none_left header version rows tables
 
--- a turn of the search: the table at a place is taken where it wins, and else what was found of those behind it stays
+-- a turn of the search: the table at a place is taken where it wins, and else what was found of those after it stays
 module _ {A : Type 0} (items : List A) (value : A → TableOf) (header : Header) (version rows : ℕ) (k : ℕ) (item : A) (best : Option ℕ) (least : ℕ)
     (inside : k < length items) (here : item ≡ get_or items (length items - 1 - k) item)
     (chosen : option_and_then (slice_get (map value items)) best ≡ cheapest header version rows (drop (length items - k) (map value items)))
@@ -82,6 +78,6 @@ cheapest_may catalog header snapshot (t ∷ ts) offered =
         → MayRead catalog header snapshot (if may && less then Some t else rest) × (read_cost rows (if may && less then Some t else rest) ≤ rows)
     by true true is few (other, bound) =
         let usable = (and_parts (is_usable header t) (nat_le t.version (length snapshot)) is).0 in
-        ((usable, All-head (IsOffered catalog header snapshot) t ts offered is), omega (arith, bound, le_of _ _ few))
+        ((usable, All-head (IsOffered catalog header snapshot) t ts offered is), omega (arith, bound, leb-true _ _ few))
     by true false is few other = other
     by false less is few other = other

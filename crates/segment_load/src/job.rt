@@ -193,7 +193,7 @@ impl LoadJob {
 
 /// Runs a load: the rows of its version that its header allows are summed up by their values on the header's columns, from
 /// the facts, or from an aggregate table and the facts that are later than the table. Each row and each group that is handed
-/// out is a step. Where memory is wanting, the job comes back as it was.
+/// out is a step. Where there is no memory, the job comes back as it was.
 pub fn run_load<L: Ledger>(
     alloc: Global,
     job: LoadJob,

@@ -1,5 +1,6 @@
 -- What plain texts are made of.
 use Rattle.std.proofs.Common.{inl, inr, ◌⊎◌, Result, Ok, ◌≡◌, ◌∙◌, ◌+◌, ◌<◌, ◌≤◌, ◌/◌, ◌%◌, ◌^◌, ◌++◌, ◌==◌, ◌||◌, ℕ, zero, suc, Bool, true, false, cond, List, [], ◌∷◌, sym, ap, refl, ℤ, pos, negsuc, codes, filter, length, arith, append_assoc}
+use Rattle.std.proofs.Math.Bool.{or-false}
 use Rattle.std.proofs.lemmas.Grind.{common_steps}
 use Rattle.std.specs.Char.{is_ascii_digit, digit_value}
 use Rattle.std.specs.Int.{IsInRange}
@@ -104,10 +105,6 @@ gather t ds dot minus u value own sign point all some is small back = record {
   back = rw (own, is, sign, point) back;
 }
 
-or_false : (b : Bool) → (b || false) ≡ b
-or_false true = refl
-or_false false = refl
-
 longer : (xs ys : List ℕ) → 0 < length xs → 0 < length (xs ++ ys)
 longer [] ys h = absurd (omega (arith, h))
 longer (x ∷ xs) ys h = omega arith
@@ -120,22 +117,22 @@ no_length (x ∷ xs) e h = cc e
 digits_own : (ds : List ℕ) → AllDigits 10 ds → (filter is_ascii_digit ds ≡ ds) × (has ds 45 ≡ false) × (has ds 46 ≡ false)
 digits_own ds all = (kept is_ascii_digit digit_is ds all, absent (λ b. b == 45) digit_no_minus ds all, absent (λ b. b == 46) digit_no_dot ds all)
 
--- digits behind a sign
+-- digits after a sign
 fronted : (front ds : List ℕ) (minus : Bool) → filter is_ascii_digit front ≡ [] → has front 45 ≡ minus → has front 46 ≡ false → AllDigits 10 ds → (filter is_ascii_digit (front ++ ds) ≡ ds) × (has (front ++ ds) 45 ≡ minus) × (has (front ++ ds) 46 ≡ false)
 fronted front ds minus void own point all =
     let d = digits_own ds all in (
       filter-append is_ascii_digit front ds ∙ ap (λ t. t ++ filter is_ascii_digit ds) void ∙ d.0,
-      list_any-append (λ b. b == 45) front ds ∙ ap (λ t. has front 45 || t) d.1 ∙ or_false (has front 45) ∙ own,
+      list_any-append (λ b. b == 45) front ds ∙ ap (λ t. has front 45 || t) d.1 ∙ or-false (has front 45) ∙ own,
       list_any-append (λ b. b == 46) front ds ∙ ap (λ t. t || has ds 46) point ∙ d.2,
     )
 
--- a dot and digits behind these
+-- a dot and digits after these
 dotted : (xs ds ys : List ℕ) (minus : Bool) → filter is_ascii_digit xs ≡ ds → has xs 45 ≡ minus → has xs 46 ≡ false → AllDigits 10 ys → (filter is_ascii_digit (xs ++ codes "." ++ ys) ≡ ds ++ ys) × (has (xs ++ codes "." ++ ys) 45 ≡ minus) × (has (xs ++ codes "." ++ ys) 46 ≡ true)
 dotted xs ds ys minus kept' own point all =
     let y = digits_own ys all in
     let right : xs ++ codes "." ++ ys ≡ xs ++ (codes "." ++ ys) = append_assoc xs (codes ".") ys in (
       ap (filter is_ascii_digit) right ∙ filter-append is_ascii_digit xs (codes "." ++ ys) ∙ ap (λ t. t ++ filter is_ascii_digit ys) kept' ∙ ap (λ t. ds ++ t) y.0,
-      ap (λ t. has t 45) right ∙ list_any-append (λ b. b == 45) xs (codes "." ++ ys) ∙ ap (λ t. has xs 45 || t) y.1 ∙ or_false (has xs 45) ∙ own,
+      ap (λ t. has t 45) right ∙ list_any-append (λ b. b == 45) xs (codes "." ++ ys) ∙ ap (λ t. has xs 45 || t) y.1 ∙ or-false (has xs 45) ∙ own,
       ap (λ t. has t 46) right ∙ list_any-append (λ b. b == 46) xs (codes "." ++ ys) ∙ ap (λ t. t || true) point,
     )
 

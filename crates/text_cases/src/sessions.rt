@@ -114,7 +114,7 @@ fn link_of(alloc: Global, text: &str) -> Result<MemoryLink> {
     link_over(alloc, bytes).map_err(no_memory)
 }
 
-// How a session over a desk ends, where so many bytes may be lines.
+// How a session over a desk ends, where this many bytes may be lines.
 fn served<L: Ledger>(
     rt: &(impl Files + AllocGlobal),
     desk: &mut ManagerDesk,

@@ -9,7 +9,7 @@ use Rattle.std.proofs.lemmas.Str.{IsUtf8-append, IsUtf8-from_ascii, chars-IsAsci
 use Rattle.text_forms.specs.Forms.{GoesOn, Takes, Refuses, Finishes, Writes, StopsAt, IsSoFar}
 use Rattle.text_forms.proofs.Cuts.{Cut, cut, utf8_behind, headed, alike}
 
--- the place behind one character more
+-- the place after one character more
 pub place_on : (front : List ℕ) (at c : ℕ) → at ≡ length (encode_utf8_all front) → at + len_utf8 c ≡ length (encode_utf8_all (front ++ c ∷ []))
 place_on front at c e =
     let f = ap length (encodes-append front (c ∷ [])) ∙ length-append (encode_utf8_all front) (encode_utf8_all (c ∷ [])) in
@@ -24,7 +24,7 @@ one all front c t e =
     ∙ ap (λ x. front ++ x) (drop_more all (length front) c t.0)
     ∙ ap (λ x. front ++ x ∷ drop (length front + 1) all) (sym t.1)
 
--- the place behind one character more is within the text
+-- the place after one character more is within the text
 pub place_within : (text front : List ℕ) (c : ℕ) (tail : List ℕ) (at : ℕ) → IsUtf8 text → chars text ≡ front ++ c ∷ tail → at ≡ length (encode_utf8_all front) → at + len_utf8 c ≤ length text
 place_within text front c tail at u e f =
     let k = ap length (cut text front (c ∷ tail) u e).parts ∙ length-append (encode_utf8_all front) (encode_utf8 c ++ encode_utf8_all tail) in

@@ -2,12 +2,30 @@
 //!
 //! A form is a trait: a state that takes a character or refuses it. What its contracts say of one character
 //! makes what the contract of `read` says of a whole text.
+//!
+//! One form is that of a text of tokens, for any grammar over them. A token is a word, a sign or a name in brackets. White,
+//! which is spaces and tabs, may stand between any two tokens, before the first and after the last, and must stand between
+//! two words. A grammar that wants operators of two signs, or numbers with a sign, adds a class of characters and a mode.
+//! Grammars share a stack of what is open, and the tests of tokens.
 #![tactic(auto)]
+
+mod class;
+mod grammar;
+mod keyword;
+mod lexer;
+mod mode;
+mod stack;
 
 ghost use Rattle.std.specs.Prelude.{◌≡◌, ◌<◌, ℕ, List, IfOk, IfSome, OnErr, length, option_map};
 ghost use Rattle.text_forms.specs.Forms.{Steps, Finishes, GoesOn, Answers};
 
+pub use grammar::Grammar;
+pub use keyword::{begins_either, begins_keyword, is_sign, is_word, name_of};
+pub use lexer::{Lexer, read_tokens};
+pub use mode::Mode;
 use olap_meaning::OutOfMemory;
+pub use query_meaning::{Class, Token};
+pub use stack::Stack;
 use std::alloc::Global;
 
 /// A form of text, in the middle of a text.

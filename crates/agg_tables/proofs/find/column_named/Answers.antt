@@ -1,8 +1,8 @@
 -- That `column_named` may call `column`.
 use Rattle.std.proofs.lemmas.Option.{slice_get_within}
-use Rattle.fact_reader.proofs.RowFacts.{some_and}
 use Rattle.segment_header.proofs.RiseFacts.{all_at}
 use Rattle.olap_meaning.specs.declared.tables.Column.{Column}
+use Rattle.olap_meaning.proofs.Loads.{some_and}
 use Rattle.std.proofs.Common.{◌≡◌, true, ◌==◌}
 use Rattle.std.specs.Prelude.{slice_get}
 use Rattle.olap_catalog.specs.Parts.{is_level}

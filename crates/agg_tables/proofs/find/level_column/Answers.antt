@@ -1,13 +1,13 @@
 -- That `level_column` ensures what it says, may call `column_named` and keeps what holds at each turn.
 use Rattle.std.proofs.Common.{◌∙◌, sym, refl, add-one}
-use Rattle.csv_records.proofs.PlaceFacts.{all_at}
+use Rattle.olap_meaning.proofs.Lists.{passes_at}
 use Rattle.olap_catalog.specs.Parts.{has_levels}
 use Rattle.agg_tables.specs.Declarations.{is_hierarchy}
 use Rattle.agg_tables.proofs.FindFacts.{next_found, next_passed}
 use Rattle.agg_tables.proofs.find.level_column.Goals as goal
 
 pub column_named-requires : goal.column_named-requires
-column_named-requires c = all_at (has_levels c.args.catalog.now.columns) c.args.catalog.now.hierarchies c.loop-h.h c.hierarchy.result.now c.layout_holds.ensures.levels c.hierarchy.ensures
+column_named-requires c = passes_at (has_levels c.args.catalog.now.columns) c.args.catalog.now.hierarchies c.loop-h.h c.hierarchy.result.now c.layout_holds.ensures.levels c.hierarchy.ensures
 
 pub returns-then-is_hierarchy : goal.returns-then-is_hierarchy
 returns-then-is_hierarchy c =

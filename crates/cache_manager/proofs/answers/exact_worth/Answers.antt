@@ -1,7 +1,7 @@
 -- The columns of a known cell rise, and the body of its exact source says its worth.
 use Rattle.std.proofs.Common.{◌∙◌, ap, sym, Some}
+use Rattle.cell_groups.proofs.KeyFacts.{known_rises}
 use Rattle.cache_flush.specs.Loads.{kept_of}
-use Rattle.cache_manager.proofs.Grouping.{known_rises}
 use Rattle.cache_manager.proofs.Serving.{kept_version, kept_worth}
 use Rattle.cache_manager.proofs.answers.exact_worth.Goals as goal
 

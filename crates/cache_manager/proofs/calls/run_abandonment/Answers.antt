@@ -1,14 +1,15 @@
 -- A job that is given up is taken out, and its load is dropped.
 use Rattle.std.proofs.Common.{◌∙◌, ◌<◌, ◌++◌, refl, sym, ap, arith, length, map}
+use Rattle.std.proofs.lemmas.List.{length-map}
 use Rattle.olap_meaning.specs.History.{Drop}
-use Rattle.cache_manager.proofs.Running.{ending_is, goes_on, length_map, map_remove, run_ended, run_later, stays}
+use Rattle.cache_manager.proofs.Running.{ending_is, goes_on, map_remove, run_ended, run_later, stays}
 use Rattle.cache_manager.proofs.calls.run_abandonment.Goals as goal
 
 pub returns-then-job-len-clause-run : goal.returns-then-job-len-clause-run
 returns-then-job-len-clause-run c n run = run_later c.args.manager.now c.args.jobs.now.items n run
 
 pub returns-then-job-len-clause-reply : goal.returns-then-job-len-clause-reply
-returns-then-job-len-clause-reply c n = let long = length_map (λ job. job.load) c.args.jobs.now.items in omega (arith, long, c.if-job-len.true, c.len.ensures, c.args.jobs.now.ok.0)
+returns-then-job-len-clause-reply c n = let long = length-map c.args.jobs.now.items (λ job. job.load) in omega (arith, long, c.if-job-len.true, c.len.ensures, c.args.jobs.now.ok.0)
 
 pub returns-then-job-len-clause-next : goal.returns-then-job-len-clause-next
 returns-then-job-len-clause-next c n = stays c.args.manager.now _ _
@@ -22,7 +23,7 @@ returns-clause-run c n run =
 
 pub returns-clause-reply : goal.returns-clause-reply
 returns-clause-reply c n =
-    let long = length_map (λ job. job.load) c.args.jobs.now.items in
+    let long = length-map c.args.jobs.now.items (λ job. job.load) in
     let within : c.args.job < length c.args.jobs.now.items = omega (arith, c.if-job-len.false, c.len.ensures, c.args.jobs.now.ok.0) in
     omega (arith, long, within)
 

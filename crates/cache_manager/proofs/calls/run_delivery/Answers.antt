@@ -2,19 +2,20 @@
 use Rattle.std.proofs.Common.{◌≡◌, ◌∙◌, ◌<◌, ◌==◌, ◌++◌, ◌∷◌, [], ℕ, List, refl, sym, ap, subst, arith, length, map}
 use Rattle.std.specs.Prelude.{insert, remove}
 use Rattle.std.proofs.lemmas.List.Elements.{All-get_or}
+use Rattle.std.proofs.lemmas.List.{length-map}
 use Rattle.olap_meaning.specs.declared.cells.Who.{Who}
 use Rattle.olap_meaning.specs.History.{Entry, Done}
 use Rattle.segment_load.specs.Loads.{JobOf}
 use Rattle.cache_manager.specs.Jobs.{IsJobOf}
 use Rattle.cache_manager.proofs.JobFacts.{own_body}
-use Rattle.cache_manager.proofs.Running.{ending_is, goes_on, length_map, map_remove, put_back, rows_are, run_ended, run_later, stays}
+use Rattle.cache_manager.proofs.Running.{ending_is, goes_on, map_remove, put_back, rows_are, run_ended, run_later, stays}
 use Rattle.cache_manager.proofs.calls.run_delivery.Goals as goal
 
 pub returns-then-job-len-clause-run : goal.returns-then-job-len-clause-run
 returns-then-job-len-clause-run g c n run = run_later c.args.manager.now c.args.jobs.now.items n run
 
 pub returns-then-job-len-clause-reply : goal.returns-then-job-len-clause-reply
-returns-then-job-len-clause-reply g c n = let long = length_map (λ job. job.load) c.args.jobs.now.items in omega (arith, long, c.if-job-len.true, c.len.ensures, c.args.jobs.now.ok.0)
+returns-then-job-len-clause-reply g c n = let long = length-map c.args.jobs.now.items (λ job. job.load) in omega (arith, long, c.if-job-len.true, c.len.ensures, c.args.jobs.now.ok.0)
 
 pub returns-then-job-len-clause-next : goal.returns-then-job-len-clause-next
 returns-then-job-len-clause-next g c n = stays c.args.manager.now _ _
@@ -28,7 +29,7 @@ returns-in-Ok-clause-run g c n run =
 
 pub returns-in-Ok-clause-reply : goal.returns-in-Ok-clause-reply
 returns-in-Ok-clause-reply g c n =
-    let long = length_map (λ job. job.load) c.args.jobs.now.items in
+    let long = length-map c.args.jobs.now.items (λ job. job.load) in
     let within : c.args.job < length c.args.jobs.now.items = omega (arith, c.if-job-len.false, c.len.ensures, c.args.jobs.now.ok.0) in
     omega (arith, long, within)
 
@@ -53,7 +54,7 @@ returns-in-Err-clause-run g c n run =
 
 pub returns-in-Err-clause-reply : goal.returns-in-Err-clause-reply
 returns-in-Err-clause-reply g c n =
-    let long = length_map (λ job. job.load) c.args.jobs.now.items in
+    let long = length-map c.args.jobs.now.items (λ job. job.load) in
     let within : c.args.job < length c.args.jobs.now.items = omega (arith, c.if-job-len.false, c.len.ensures, c.args.jobs.now.ok.0) in
     omega (arith, long, within)
 

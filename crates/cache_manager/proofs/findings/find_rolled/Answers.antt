@@ -1,8 +1,9 @@
 -- What was found is so, and the rollups go on.
 use Rattle.std.proofs.Common.{◌∙◌, sym, ap, subst, List, slice_get, All, is_some}
+use Rattle.std.proofs.lemmas.List.Elements.{All-push}
 use Rattle.cache_manager.specs.Rollups.{IsRollup}
 use Rattle.cache_manager.specs.declared.rollups.Rollup.{Rollup}
-use Rattle.cache_manager.proofs.Finding.{all_more, known_measure}
+use Rattle.cache_manager.proofs.Finding.{known_measure}
 use Rattle.cache_manager.proofs.Rolling.{begun_at, begun_is, begun_on, joined_are, joined_at, joined_on}
 use Rattle.cache_manager.proofs.Sourcing.{candidates_known, none_found, plan_found}
 use Rattle.cache_manager.proofs.findings.find_rolled.Goals as goal
@@ -34,7 +35,7 @@ returns-clause-rollups c =
     let planned = (rw (c.deref.ensures ∙ c.catalog.ensures, c.as_slice-2.ensures, c.in-Some-2.is) at c.in_ok-find_plan.ensures.planned) measure.0 measure.1 in
     let plan = plan_found c.args.history.now.setting.catalog c.args.history.now.entries c.args.cell.now c.args.shelf.now.loads c.requires.kept c.in_ok-candidates.candidates c.in-Some-2.plan measure.0 c.in_ok-candidates.ensures.members measure.1 planned in
     subst (All (IsRollup c.args.history.now.setting.catalog c.args.history.now.entries c.args.shelf.now.loads)) (sym c.in_ok-begin-in-Some-2.ensures.1)
-    (all_more (IsRollup c.args.history.now.setting.catalog c.args.history.now.entries c.args.shelf.now.loads) c.args.rollups.now.items c.in_ok-begin-in-Some-2.ensures.0 c.requires.rollups
+    (All-push (IsRollup c.args.history.now.setting.catalog c.args.history.now.entries c.args.shelf.now.loads) c.args.rollups.now.items c.in_ok-begin-in-Some-2.ensures.0 c.requires.rollups
     (begun_is c.args.history.now.setting.catalog c.args.history.now.entries c.args.shelf.now.loads c.in-Some-2.plan c.args.cell.now c.in_ok-begin-in-Some-2.ensures.0 c.requires.known c.requires.unserved plan c.in_ok-begin-in-Some-2.ensures.2))
 
 pub returns-clause-goes_on : goal.returns-clause-goes_on

@@ -1,4 +1,4 @@
--- The cell stands behind those of its rollup.
+-- The cell stands after those of its rollup.
 use Rattle.std.proofs.Common.{refl, ◌∙◌, ap, ◌∷◌, [], ◌++◌}
 use Rattle.std.proofs.lemmas.Option.{slice_get_read}
 use Rattle.olap_meaning.specs.declared.cells.Cell.{Cell}

@@ -1,4 +1,4 @@
--- The rows of the version of the loads lie behind the plan, so that what is rolled up is what the cells are worth.
+-- The rows of the version of the loads lie after the plan, so that what is rolled up is what the cells are worth.
 use Rattle.std.proofs.Common.{◌∙◌, ap, sym, subst, arith, List, All}
 use Rattle.std.specs.List.{AllZip}
 use Rattle.olap_meaning.specs.declared.cells.Cell.{Cell}

@@ -1,4 +1,4 @@
--- What the check finds over the present version of the table's cube is so of the base batch, or memory is wanting.
+-- What the check finds over the present version of the table's cube is so of the base batch, or there is no memory.
 use Rattle.std.proofs.Common.{◌≡◌, ◌∙◌, rules}
 use Rattle.std.proofs.lemmas.Result.{err_from_is_err_and}
 use Rattle.agg_tables.specs.declared.fault.AggFault.{AggFault}

@@ -1,4 +1,4 @@
--- What a reader refuses is the fault that is told, or memory is wanting.
+-- What a reader refuses is the fault that is told, or there is no memory.
 use Rattle.std.proofs.Common.{◌≡◌, ◌<◌, arith, length, rules}
 use Rattle.olap_meaning.specs.declared.schema.SchemaCube.{SchemaCube}
 use Rattle.fact_rows.specs.BatchFiles.{batch_of}

@@ -1,4 +1,4 @@
--- What a reader refuses is the fault that is told, or memory is wanting.
+-- What a reader refuses is the fault that is told, or there is no memory.
 use Rattle.std.proofs.Common.{◌≡◌, inl, refl, rules}
 use Rattle.cube_schema.specs.Schemas.{schema_of}
 use Rattle.cube_schema.specs.declared.fault.SchemaFault.TheVariants.{OutOfMemory}

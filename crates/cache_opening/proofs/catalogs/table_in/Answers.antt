@@ -1,4 +1,4 @@
--- What a reader refuses is the fault that is told, or memory is wanting.
+-- What a reader refuses is the fault that is told, or there is no memory.
 use Rattle.std.proofs.Common.{◌≡◌, rules, slice_get}
 use Rattle.olap_meaning.specs.declared.schema.SchemaDimension.{SchemaDimension}
 use Rattle.dim_tables.specs.TableFiles.{table_of}

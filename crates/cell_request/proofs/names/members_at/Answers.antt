@@ -5,7 +5,8 @@ use Rattle.std.proofs.lemmas.Result.{err_from_is_err_and}
 use Rattle.olap_meaning.specs.MemberOf.{IsMemberOf}
 use Rattle.query_meaning.specs.Resolution.{member_meant}
 use Rattle.cell_request.proofs.Faults.{fault_each}
-use Rattle.cell_request.proofs.Steps.{each_more, members_each}
+use Rattle.olap_meaning.proofs.Each.{each_more}
+use Rattle.cell_request.proofs.Steps.{members_each}
 use Rattle.cell_request.proofs.names.members_at.Goals as goal
 
 pub returns-in_err-member-clause-fault : goal.returns-in_err-member-clause-fault

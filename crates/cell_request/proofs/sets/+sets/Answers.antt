@@ -11,7 +11,8 @@ use Rattle.query_meaning.specs.View.{set_of}
 use Rattle.cell_request.specs.Parts.{item_of, part_meant, IsItemOf}
 use Rattle.cell_request.proofs.Faults.{fault_each, fault_on}
 use Rattle.cell_request.proofs.Sizes.{one_smaller}
-use Rattle.cell_request.proofs.Steps.{each_more, item_meant, items_each}
+use Rattle.olap_meaning.proofs.Each.{each_more}
+use Rattle.cell_request.proofs.Steps.{item_meant, items_each}
 use Rattle.cell_request.proofs.sets.+sets.Goals as goal
 
 pub set_part-item_parts-requires : goal.set_part-item_parts-requires

@@ -1,4 +1,4 @@
--- The items that are left, read behind those that were, give what all of them give.
+-- The items that are left, read after those that were, give what all of them give.
 use Rattle.std.proofs.Common.{◌≡◌, [], map, drop}
 use Rattle.serde_json.specs.View.{view}
 use Rattle.cube_schema.specs.Cubes.{use_of}

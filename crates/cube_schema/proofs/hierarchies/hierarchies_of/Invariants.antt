@@ -1,4 +1,4 @@
--- The hierarchies that are left, read behind those that were, give what all of them give.
+-- The hierarchies that are left, read after those that were, give what all of them give.
 use Rattle.std.proofs.Common.{◌≡◌, [], map, drop}
 use Rattle.serde_json.specs.View.{view}
 use Rattle.cube_schema.specs.Dimensions.{hierarchy_of}

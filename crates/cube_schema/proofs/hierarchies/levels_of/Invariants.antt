@@ -1,4 +1,4 @@
--- The levels that are left, read behind those that were, give what all of them give.
+-- The levels that are left, read after those that were, give what all of them give.
 use Rattle.std.proofs.Common.{◌≡◌, [], length, map, drop}
 use Rattle.serde_json.specs.View.{view}
 use Rattle.cube_schema.specs.Dimensions.{level_of}

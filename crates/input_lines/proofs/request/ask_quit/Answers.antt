@@ -1,17 +1,15 @@
 -- That `ask_quit` ensures `request` where the argument is white, and `one`: the end, or the one byte at which it stops.
-use Rattle.std.proofs.Common.{Err, subst}
-use Rattle.text_forms.specs.Forms.{Answers}
-use Rattle.text_forms.specs.declared.ReadFault.{ReadFault}
-use Rattle.command_arguments.specs.Blank.{IsBlank}
-use Rattle.input_lines.proofs.Arguments.{quits}
-use Rattle.input_lines.proofs.Only.{only_quit, only_quit_stop}
+use Rattle.std.specs.Prelude.{codes}
+use Rattle.input_lines.proofs.Arguments.{is_white_argument}
+use Rattle.input_lines.proofs.Commands.{quit}
+use Rattle.input_lines.proofs.Only.{only_stop, only_value}
 use Rattle.input_lines.proofs.request.ask_quit.Goals as goal
 
 pub returns-in-Ok-clause-request : goal.returns-in-Ok-clause-request
-returns-in-Ok-clause-request c = λ line utf8 is. (utf8, quits line c.args.argument.now c.in-Ok.field-0 is c.in-Ok.ensures.0)
+returns-in-Ok-clause-request c = λ line utf8 is. (utf8, is_white_argument (codes "QUIT") line c.args.argument.now c.in-Ok.field-0 is c.in-Ok.ensures.0)
 
 pub returns-in-Ok-clause-one : goal.returns-in-Ok-clause-one
-returns-in-Ok-clause-one c = only_quit c.args.argument.now c.in-Ok.field-0 c.in-Ok.ensures.0 c.in-Ok.ensures.1
+returns-in-Ok-clause-one c = only_value quit c.args.argument.now c.in-Ok.field-0 c.in-Ok.ensures.0 c.in-Ok.ensures.1
 
 pub returns-in-Err-StopsAt-clause-one : goal.returns-in-Err-StopsAt-clause-one
-returns-in-Err-StopsAt-clause-one c = only_quit_stop c.args.argument.now c.in-Err-StopsAt.byte (subst (λ (fault : ReadFault). Answers (λ v. v) IsBlank ⊥ c.args.argument.now (Err fault)) c.in-Err-StopsAt.field-0-is c.in-Err-StopsAt.ensures)
+returns-in-Err-StopsAt-clause-one c = only_stop quit c.args.argument.now c.in-Err-StopsAt.byte (rw c.in-Err-StopsAt.field-0-is at c.in-Err-StopsAt.ensures)

@@ -1,4 +1,4 @@
--- The place of the first table that is no earlier, or behind all.
+-- The place of the first table that is no earlier, or after all.
 use Rattle.std.proofs.Common.{◌∙◌, sym, arith, not}
 use Rattle.std.specs.Prelude.{nat_le}
 use Rattle.std.proofs.lemmas.List.Sums.{prefix_len-le-length}

@@ -1,4 +1,4 @@
--- What holds at each turn of `dims_text`: behind the first name stand the names so far, each behind a comma and a space.
+-- What holds at each turn of `dims_text`: after the first name stand the names so far, each after a comma and a space.
 use Rattle.std.proofs.Common.{◌≡◌, ◌++◌, codes, flat_map, map, string_bytes, take}
 use Rattle.olap_meaning.specs.Texts.{name_text}
 use Rattle.query_meaning.specs.RegionReplies.{dim_name}

@@ -27,7 +27,7 @@ returns-in-NoCommand-clause-answered g c =
 
 pub returns-in-Stops-clause-answered : goal.returns-in-Stops-clause-answered
 returns-in-Stops-clause-answered g c =
-    (None, [], 0, omega arith, sym (append-nil (g.D.Depot.answers c.args.depot.now)), none_theirs (g.D.Depot.files c.args.depot.now), rw c.in-Stops.is ((stands_still (g.P.Desk.seen c.args.desk.now), c.number.ensures), refl))
+    (None, [], 0, omega arith, sym (append-nil (g.D.Depot.answers c.args.depot.now)), none_theirs (g.D.Depot.files c.args.depot.now), rw c.in-Stops.is ((stands_still (g.P.Desk.seen c.args.desk.now), c.numbers.ensures), refl))
 
 pub returns-in-Quit-clause-answered : goal.returns-in-Quit-clause-answered
 returns-in-Quit-clause-answered g c =

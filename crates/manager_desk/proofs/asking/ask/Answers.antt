@@ -4,6 +4,7 @@ use Rattle.std.proofs.lemmas.List.Elements.{All-weaker}
 use Rattle.olap_meaning.specs.declared.cells.Who.{Who}
 use Rattle.olap_meaning.specs.declared.tables.Setting.{Setting}
 use Rattle.olap_meaning.specs.History.{Answer, Entry}
+use Rattle.olap_meaning.proofs.Lists.{on_err}
 use Rattle.segment_load.specs.Loads.{JobOf}
 use Rattle.history_core.specs.Cache.{CacheOf}
 use Rattle.history_core.specs.Groups.{load_count}
@@ -14,7 +15,6 @@ use Rattle.cache_manager.proofs.JobFacts.{apart_numbers}
 use Rattle.line_session.specs.Desks.{costs_behind}
 use Rattle.manager_desk.specs.Ends.{AddsEnded}
 use Rattle.manager_desk.specs.Keeping.{IsCount}
-use Rattle.manager_desk.proofs.Calling.{on_error}
 use Rattle.manager_desk.proofs.Counting.{count_one, count_starts}
 use Rattle.manager_desk.proofs.Joining.{IsStarted, adds_answer, adds_ended, all_delivered, jobs_own, next_again, none_allowed, none_lacking, numbers_are, only_started, cost_ended, cost_in_all, ready_again, still_idle}
 use Rattle.manager_desk.proofs.asking.ask.Goals as goal
@@ -99,7 +99,7 @@ returns-in_err-answer-in-Load-clause-refused g c =
       are = rw c.in-Load.is at c.in_ok-answer.ensures.jobs;
       legal = c.steps_are_legal-in-Load.ensures;
     } in
-    on_error c.from_residual-in_err-answer-in-Load.result
+    on_err c.from_residual-in_err-answer-in-Load.result
     (subst (λ (m : CacheOf). AddsEnded (Widened ((answers-value g.dyn-1).it c.args.widener.now)) c.args.manager.now m c.args.who c.args.cells.now) (sym c.in_err-answer-in-Load.ensures.unchanged)
     (adds_ended (Widened ((answers-value g.dyn-1).it c.args.widener.now)) c.args.manager.now c.look.new.self c.args.who c.args.cells.now (map (λ job. job.header) c.in-Load.jobs) c.in-Load.jobs look c.end_loads.new.manager c.end_loads.ensures.setting c.end_loads.ensures.ended))
 

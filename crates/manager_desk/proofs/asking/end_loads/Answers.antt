@@ -1,4 +1,4 @@
--- Each job in turn is ended, and the jobs behind it stay out.
+-- Each job in turn is ended, and the jobs after it stay out.
 use Rattle.std.proofs.Common.{◌≡◌, ◌∙◌, ◌+◌, ◌<◌, ◌++◌, ◌∷◌, [], List, ap, sym, subst, arith, length, drop, get_or, map, All, true}
 use Rattle.std.proofs.lemmas.Iterator.Adapters.{YieldsList-from_vec}
 use Rattle.std.proofs.lemmas.Iterator.Consumers.{YieldsList-turn}
@@ -7,12 +7,13 @@ use Rattle.std.proofs.lemmas.List.Elements.{All-get_or, All-head}
 use Rattle.std.proofs.lemmas.List.Sums.{sum_by_push}
 use Rattle.olap_meaning.specs.declared.tables.Setting.{Setting}
 use Rattle.olap_meaning.specs.History.{Entry}
+use Rattle.olap_meaning.proofs.Lists.{drop_step}
 use Rattle.segment_load.specs.Loads.{JobOf, job_cost}
 use Rattle.cache_manager.specs.Jobs.{IsJobOf}
 use Rattle.cache_manager.specs.Runs.{apart}
 use Rattle.manager_desk.specs.Ends.{AreOut, done_of, end_of}
 use Rattle.manager_desk.specs.Keeping.{IsCount}
-use Rattle.manager_desk.proofs.Ending.{drop_at, ended_more, rest_out}
+use Rattle.manager_desk.proofs.Ending.{ended_more, rest_out}
 use Rattle.manager_desk.proofs.asking.end_loads.Goals as goal
 
 pub end_load-run-requires : goal.end_load-run-requires
@@ -25,7 +26,7 @@ end_load-run-requires g c =
     record {
       job =
           All-head (IsJobOf c.loop-job.manager) c.in-Some.job (drop (length c.loop-job.yielded + 1) c.args.jobs)
-          (subst (λ (xs : List JobOf). All (IsJobOf c.loop-job.manager) xs) (drop_at c.args.jobs (length c.loop-job.yielded) c.in-Some.job within at) c.loop-job.invariant.jobs);
+          (subst (λ (xs : List JobOf). All (IsJobOf c.loop-job.manager) xs) (drop_step c.args.jobs (length c.loop-job.yielded) c.in-Some.job within at) c.loop-job.invariant.jobs);
       seat =
           subst (λ (job : JobOf). job.who.seat ≡ 1) (sym at) (All-get_or (λ (job : JobOf). job.who.seat ≡ 1) c.args.jobs (length c.loop-job.yielded) c.in-Some.job within c.requires.seats);
       count = subst (λ (s : Setting). IsCount s.catalog c.loop-job.manager.entries c.loop-job.read) (sym c.loop-job.invariant.setting) c.loop-job.invariant.count;
@@ -38,7 +39,7 @@ loop-job-preserved g c =
     let turn = YieldsList-turn yields c.loop-job.yielded c.loop-job.job-iterator c.loop-job.yielded_by c.next.result c.next.new.self c.in-Some.job c.in-Some.is c.next.ensures.steps in
     let within : length c.loop-job.yielded < length c.args.jobs = subst (λ (xs : List JobOf). length c.loop-job.yielded < length xs) c.into_vec-job-items.ensures turn.0 in
     let at : c.in-Some.job ≡ get_or c.args.jobs (length c.loop-job.yielded) c.in-Some.job = subst (λ (xs : List JobOf). c.in-Some.job ≡ get_or xs (length c.loop-job.yielded) c.in-Some.job) c.into_vec-job-items.ensures turn.1 in
-    let front = drop_at c.args.jobs (length c.loop-job.yielded) c.in-Some.job within at in
+    let front = drop_step c.args.jobs (length c.loop-job.yielded) c.in-Some.job within at in
     let out =
     rest_out c.loop-job.manager c.end_load-run.new.manager c.in-Some.job (drop (length c.loop-job.yielded + 1) c.args.jobs) c.end_load-run.result c.end_load-run.ensures.setting c.end_load-run.ensures.entry c.steps_are_legal.ensures
     (subst (λ (xs : List JobOf). All (IsJobOf c.loop-job.manager) xs) front c.loop-job.invariant.jobs)

@@ -5,7 +5,7 @@ use Rattle.mdx_reader.specs.declared.place.PathOf.TheVariants as path_of
 use Rattle.mdx_reader.specs.declared.place.Place.TheVariants as place
 use Rattle.mdx_reader.specs.AxisMoves as axes
 use Rattle.mdx_reader.specs.AxisMoves.{head_of}
-use Rattle.tokens.specs.Carried.{taken}
+use Rattle.text_forms.specs.Carried.{taken}
 use Rattle.mdx_reader.specs.Places.{rest_of}
 use Rattle.mdx_reader.proofs.in_axes.begin_slicer.Goals as goal
 

@@ -7,7 +7,7 @@ use Rattle.mdx_reader.specs.declared.place.Place.TheVariants as place
 use Rattle.query_meaning.specs.Keywords.{keyword_text}
 use Rattle.mdx_reader.specs.AxisMoves as axes
 use Rattle.mdx_reader.specs.AxisMoves.{head_of}
-use Rattle.tokens.specs.Carried.{taken}
+use Rattle.text_forms.specs.Carried.{taken}
 use Rattle.mdx_reader.specs.Places.{rest_of}
 use Rattle.mdx_reader.proofs.in_axes.end_axis.Goals as goal
 

@@ -8,7 +8,7 @@ use Rattle.query_meaning.specs.Keywords.{keyword_text}
 use Rattle.mdx_reader.specs.Places.{rest_of}
 use Rattle.mdx_reader.specs.AxisMoves as axes
 use Rattle.mdx_reader.specs.AxisMoves.{head_of}
-use Rattle.tokens.specs.Carried.{took_at}
+use Rattle.text_forms.specs.Carried.{took_at}
 use Rattle.mdx_reader.proofs.in_axes.end_columns.Goals as goal
 
 pub returns-then-is_sign-clause-takes : goal.returns-then-is_sign-clause-takes

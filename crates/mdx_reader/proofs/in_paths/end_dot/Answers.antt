@@ -5,7 +5,7 @@ use Rattle.query_meaning.specs.declared.keyword.Keyword.TheVariants as keyword
 use Rattle.mdx_reader.specs.declared.place.Place.TheVariants as place
 use Rattle.query_meaning.specs.Keywords.{keyword_text}
 use Rattle.mdx_reader.specs.PathMoves as paths
-use Rattle.tokens.specs.Carried.{at_both, taken}
+use Rattle.text_forms.specs.Carried.{at_both, taken}
 use Rattle.mdx_reader.specs.Places.{rest_of}
 use Rattle.mdx_reader.proofs.in_paths.end_dot.Goals as goal
 

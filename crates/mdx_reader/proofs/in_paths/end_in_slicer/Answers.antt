@@ -6,7 +6,7 @@ use Rattle.mdx_reader.specs.declared.place.PathOf.TheVariants as path_of
 use Rattle.mdx_reader.specs.declared.place.Place.TheVariants as place
 use Rattle.mdx_reader.specs.Places.{rest_of, sliced}
 use Rattle.mdx_reader.specs.PathMoves as paths
-use Rattle.tokens.specs.Carried.{taken, refused}
+use Rattle.text_forms.specs.Carried.{taken, refused}
 use Rattle.mdx_reader.proofs.in_paths.end_in_slicer.Goals as goal
 
 pub returns-then-is_sign-clause-takes : goal.returns-then-is_sign-clause-takes

@@ -2,14 +2,14 @@
 use Rattle.std.proofs.Common.{refl, sym, ap, subst, Some}
 use Rattle.query_meaning.specs.declared.token.Token.TheVariants.{Sign}
 use Rattle.query_meaning.specs.Tokens.{At}
-use Rattle.tokens.specs.Grammars.{Took}
+use Rattle.text_forms.specs.Grammars.{Took}
 use Rattle.mdx_reader.specs.declared.place.PathOf.{PathOf}
 use Rattle.mdx_reader.specs.declared.place.PathOf.TheVariants as path_of
 use Rattle.mdx_reader.specs.declared.place.Place.TheVariants as place
 use Rattle.mdx_reader.specs.Places.{rest_of}
 use Rattle.mdx_reader.specs.PathMoves as paths
-use Rattle.mdx_reader.proofs.Answering.{ok_map}
-use Rattle.tokens.specs.Carried.{at_both, refused}
+use Rattle.text_forms.specs.Carried.{at_both, refused}
+use Rattle.text_forms.proofs.Turns.{on_ok}
 use Rattle.mdx_reader.proofs.in_paths.end_name.Goals as goal
 
 pub returns-then-is_sign-clause-takes : goal.returns-then-is_sign-clause-takes
@@ -17,11 +17,11 @@ returns-then-is_sign-clause-takes c = λ at. let a = c.args in at_both rest_of (
 
 pub returns-in-Alone-clause-takes : goal.returns-in-Alone-clause-takes
 returns-in-Alone-clause-takes c = let a = c.args in let p = c.in-Alone in
-    ok_map _ _ c.end_set.result (λ o h at. subst (λ x. Took rest_of (rest_of (place.AfterName x a.path)) (At at a.token.now) o) (sym p.is) (paths.alone_ends p.head p.around p.from a.path at a.token.now o c.if-is_sign.ensures (subst (λ s. Took rest_of (rest_of (place.AfterSet p.head p.around s)) (At at a.token.now) o) c.picked-set.ensures (h at)))) c.end_set.ensures.takes
+    on_ok _ _ c.end_set.result (λ o h at. subst (λ x. Took rest_of (rest_of (place.AfterName x a.path)) (At at a.token.now) o) (sym p.is) (paths.alone_ends p.head p.around p.from a.path at a.token.now o c.if-is_sign.ensures (subst (λ s. Took rest_of (rest_of (place.AfterSet p.head p.around s)) (At at a.token.now) o) c.picked-set.ensures (h at)))) c.end_set.ensures.takes
 
 pub returns-in-InTuple-clause-takes : goal.returns-in-InTuple-clause-takes
 returns-in-InTuple-clause-takes c = let a = c.args in let p = c.in-InTuple in
-    ok_map _ _ c.end_in_tuple.result (λ o h at. subst (λ (x : PathOf). Took rest_of (rest_of (place.AfterName x a.path)) (At at a.token.now) o) (sym p.is) (h at)) c.end_in_tuple.ensures.takes
+    on_ok _ _ c.end_in_tuple.result (λ o h at. subst (λ (x : PathOf). Took rest_of (rest_of (place.AfterName x a.path)) (At at a.token.now) o) (sym p.is) (h at)) c.end_in_tuple.ensures.takes
 
 pub returns-in-Slicer-clause-takes : goal.returns-in-Slicer-clause-takes
 returns-in-Slicer-clause-takes c = λ at. let a = c.args in let p = c.in-Slicer in
@@ -30,4 +30,4 @@ returns-in-Slicer-clause-takes c = λ at. let a = c.args in let p = c.in-Slicer 
 
 pub returns-clause-takes : goal.returns-clause-takes
 returns-clause-takes c = let a = c.args in let p = c.in-InSlicer in
-    ok_map _ _ c.end_in_slicer.result (λ o h at. subst (λ (x : PathOf). Took rest_of (rest_of (place.AfterName x a.path)) (At at a.token.now) o) (sym p.is) (h at)) c.end_in_slicer.ensures.takes
+    on_ok _ _ c.end_in_slicer.result (λ o h at. subst (λ (x : PathOf). Took rest_of (rest_of (place.AfterName x a.path)) (At at a.token.now) o) (sym p.is) (h at)) c.end_in_slicer.ensures.takes

@@ -9,7 +9,7 @@ use Rattle.query_meaning.specs.Keywords.{keyword_text}
 use Rattle.mdx_reader.specs.Words.{suffix_key}
 use Rattle.query_meaning.specs.Tree.{Picked}
 use Rattle.mdx_reader.specs.PathMoves as paths
-use Rattle.tokens.specs.Carried.{taken}
+use Rattle.text_forms.specs.Carried.{taken}
 use Rattle.mdx_reader.specs.Places.{rest_of}
 use Rattle.mdx_reader.proofs.in_paths.end_picked.Goals as goal
 

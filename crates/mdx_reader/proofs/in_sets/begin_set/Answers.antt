@@ -4,9 +4,9 @@ use Rattle.query_meaning.specs.declared.token.Token.TheVariants.{Sign, Name}
 use Rattle.mdx_reader.specs.declared.place.PathOf.TheVariants as path_of
 use Rattle.mdx_reader.specs.declared.place.Place.TheVariants as place
 use Rattle.mdx_reader.specs.Begins.{no_set}
-use Rattle.tokens.specs.Kinds.{word_no_name}
+use Rattle.text_forms.specs.Kinds.{word_no_name}
 use Rattle.mdx_reader.specs.SetMoves as sets
-use Rattle.tokens.specs.Carried.{taken}
+use Rattle.text_forms.specs.Carried.{taken}
 use Rattle.mdx_reader.specs.Places.{rest_of}
 use Rattle.mdx_reader.proofs.in_sets.begin_set.Goals as goal
 

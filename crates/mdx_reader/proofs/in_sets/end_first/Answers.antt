@@ -4,7 +4,7 @@ use Rattle.query_meaning.specs.declared.token.Token.TheVariants.{Sign}
 use Rattle.mdx_reader.specs.declared.place.Frame.TheVariants as frame
 use Rattle.mdx_reader.specs.declared.place.Place.TheVariants as place
 use Rattle.mdx_reader.specs.SetMoves as sets
-use Rattle.tokens.specs.Carried.{taken}
+use Rattle.text_forms.specs.Carried.{taken}
 use Rattle.mdx_reader.specs.Places.{rest_of}
 use Rattle.mdx_reader.proofs.in_sets.end_first.Goals as goal
 

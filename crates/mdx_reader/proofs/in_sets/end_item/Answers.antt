@@ -6,7 +6,7 @@ use Rattle.mdx_reader.specs.declared.place.Frame.TheVariants as frame
 use Rattle.mdx_reader.specs.declared.place.Place.TheVariants as place
 use Rattle.query_meaning.specs.Tree.{Braces, pushed}
 use Rattle.mdx_reader.specs.SetMoves as sets
-use Rattle.tokens.specs.Carried.{taken, refused}
+use Rattle.text_forms.specs.Carried.{taken, refused}
 use Rattle.mdx_reader.specs.Places.{rest_of}
 use Rattle.mdx_reader.proofs.in_sets.end_item.Goals as goal
 

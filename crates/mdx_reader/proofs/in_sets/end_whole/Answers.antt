@@ -6,7 +6,7 @@ use Rattle.mdx_reader.specs.declared.place.Place.TheVariants as place
 use Rattle.query_meaning.specs.Keywords.{keyword_text}
 use Rattle.mdx_reader.specs.Places.{axis_of, rest_of}
 use Rattle.mdx_reader.specs.SetMoves as sets
-use Rattle.tokens.specs.Carried.{taken}
+use Rattle.text_forms.specs.Carried.{taken}
 use Rattle.mdx_reader.proofs.in_sets.end_whole.Goals as goal
 
 pub returns-then-is_word-clause-takes : goal.returns-then-is_word-clause-takes

@@ -2,7 +2,7 @@
 use Rattle.std.proofs.Common.{subst, Err}
 use Rattle.text_forms.specs.declared.ReadFault.{ReadFault}
 use Rattle.text_forms.specs.Forms.{Answers}
-use Rattle.tokens.specs.Modes.{Reads}
+use Rattle.text_forms.specs.Modes.{Reads}
 use Rattle.query_meaning.specs.declared.query.Query.{Query}
 use Rattle.mdx_reader.specs.declared.place.Place.TheVariants.{Start}
 use Rattle.mdx_reader.specs.Places.{rest_of}

@@ -1,7 +1,7 @@
 -- That `take_around_axes` ensures what it says.
 use Rattle.std.proofs.Common.{refl}
 use Rattle.mdx_reader.specs.declared.place.Place.TheVariants as place
-use Rattle.tokens.specs.Carried.{at_both}
+use Rattle.text_forms.specs.Carried.{at_both}
 use Rattle.mdx_reader.specs.Places.{rest_of}
 use Rattle.mdx_reader.proofs.query_reader.take_around_axes.Goals as goal
 

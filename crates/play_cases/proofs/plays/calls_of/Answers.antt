@@ -1,4 +1,4 @@
--- A call that may be made, behind others that may.
+-- A call that may be made, after others that may.
 use Rattle.std.proofs.Common.{All, List, [], ◌∷◌, subst, sym}
 use Rattle.std.proofs.lemmas.List.Elements.{All-append, All-cons, All-nil}
 use Rattle.cache_manager.specs.Runs.{MayCall}

@@ -8,7 +8,8 @@ use Rattle.query_meaning.specs.RegionTree as tree
 use Rattle.query_meaning.specs.RegionView.{region_of}
 use Rattle.region_algebra.specs.Regions.{IsBoundedOf}
 use Rattle.region_algebra.proofs.FaultFacts.{fault_each}
-use Rattle.region_algebra.proofs.Steps.{each_more, one_smaller, parts_each}
+use Rattle.olap_meaning.proofs.Each.{each_more}
+use Rattle.region_algebra.proofs.Steps.{one_smaller, parts_each}
 use Rattle.region_algebra.proofs.flushes.+regions.Goals as goal
 
 pub region_of-regions_of-requires : goal.region_of-regions_of-requires

@@ -3,7 +3,7 @@ use Rattle.std.proofs.Common.{[], ap}
 use Rattle.query_meaning.specs.declared.token.Token.TheVariants.{Sign}
 use Rattle.query_meaning.specs.Tokens.{At}
 use Rattle.query_meaning.specs.RegionTree.{Member, Range}
-use Rattle.tokens.specs.Carried.{taken, refused}
+use Rattle.text_forms.specs.Carried.{taken, refused}
 use Rattle.region_reader.specs.declared.place.PathOf.TheVariants as path_of
 use Rattle.region_reader.specs.declared.place.Place.TheVariants.{AName, AfterName, AfterRegion}
 use Rattle.region_reader.specs.Places.{rest_of}

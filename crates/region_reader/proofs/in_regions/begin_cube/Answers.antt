@@ -1,7 +1,7 @@
 -- That `begin_cube` ensures what it says.
 use Rattle.std.proofs.Common.{[], refl, ap}
 use Rattle.query_meaning.specs.declared.token.Token.TheVariants.{Name}
-use Rattle.tokens.specs.Carried.{taken}
+use Rattle.text_forms.specs.Carried.{taken}
 use Rattle.region_reader.specs.declared.place.Place.TheVariants.{ACube, ARegion}
 use Rattle.region_reader.specs.Places.{rest_of}
 use Rattle.region_reader.proofs.Moves.{cube_taken}

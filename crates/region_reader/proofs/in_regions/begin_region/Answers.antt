@@ -4,7 +4,7 @@ use Rattle.query_meaning.specs.declared.token.Token.TheVariants.{Word}
 use Rattle.query_meaning.specs.declared.keyword.Keyword.TheVariants as keyword
 use Rattle.query_meaning.specs.Keywords.{keyword_text}
 use Rattle.query_meaning.specs.RegionTree.{Measures}
-use Rattle.tokens.specs.Carried.{taken}
+use Rattle.text_forms.specs.Carried.{taken}
 use Rattle.region_reader.specs.declared.place.Place.TheVariants.{ARegion, AfterRegion}
 use Rattle.region_reader.specs.Places.{rest_of}
 use Rattle.region_reader.proofs.Moves.{measures_taken, region_refused, no_region}

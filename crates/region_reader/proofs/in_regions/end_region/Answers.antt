@@ -2,7 +2,7 @@
 use Rattle.std.proofs.Common.{◌∷◌, ◌∙◌, ap}
 use Rattle.query_meaning.specs.declared.token.Token.TheVariants.{Sign}
 use Rattle.query_meaning.specs.RegionTree.{Parts, pushed}
-use Rattle.tokens.specs.Carried.{taken}
+use Rattle.text_forms.specs.Carried.{taken}
 use Rattle.region_reader.specs.declared.place.Place.TheVariants.{ARegion, AfterRegion}
 use Rattle.region_reader.specs.Places.{rest_of}
 use Rattle.region_reader.proofs.Moves.{parts_closed, part_followed, end_refused, frame_of}

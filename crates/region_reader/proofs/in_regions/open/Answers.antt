@@ -2,7 +2,7 @@
 use Rattle.std.proofs.Common.{[], ◌∷◌, ◌∙◌, ap}
 use Rattle.query_meaning.specs.declared.token.Token.TheVariants.{Sign}
 use Rattle.query_meaning.specs.RegionTree.{none}
-use Rattle.tokens.specs.Carried.{taken}
+use Rattle.text_forms.specs.Carried.{taken}
 use Rattle.region_reader.specs.declared.place.Opens.TheVariants as opens
 use Rattle.region_reader.specs.declared.place.PathOf.TheVariants as path_of
 use Rattle.region_reader.specs.declared.place.Place.TheVariants.{ARegion, Opening, AName}

@@ -2,7 +2,7 @@
 use Rattle.std.proofs.Common.{subst, Err}
 use Rattle.text_forms.specs.declared.ReadFault.{ReadFault}
 use Rattle.text_forms.specs.Forms.{Answers}
-use Rattle.tokens.specs.Modes.{Reads}
+use Rattle.text_forms.specs.Modes.{Reads}
 use Rattle.query_meaning.specs.declared.region_text.RegionText.{RegionText}
 use Rattle.region_reader.specs.declared.place.Place.TheVariants.{ACube}
 use Rattle.region_reader.specs.Places.{rest_of}

@@ -1,4 +1,4 @@
--- What holds at each turn of `cache_text`: behind the first line stand those of the loads so far.
+-- What holds at each turn of `cache_text`: after the first line stand those of the loads so far.
 use Rattle.std.proofs.Common.{◌≡◌, ◌++◌, flat_map, string_bytes, take}
 use Rattle.olap_meaning.specs.Texts.{line}
 use Rattle.result_layout.specs.CacheTexts.{load_text}

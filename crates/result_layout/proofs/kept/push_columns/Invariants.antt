@@ -1,4 +1,4 @@
--- What holds at each turn of `push_columns`: behind the first column stand those so far, each behind a space.
+-- What holds at each turn of `push_columns`: after the first column stand those so far, each after a space.
 use Rattle.std.proofs.Common.{◌≡◌, ◌++◌, codes, flat_map, map, string_bytes, take}
 use Rattle.result_layout.specs.CacheTexts.{allowance_text}
 use Rattle.result_layout.proofs.kept.push_columns.Given as goal

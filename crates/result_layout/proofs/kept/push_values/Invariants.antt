@@ -1,4 +1,4 @@
--- What holds at each turn of `push_values`: behind the first name text stand those so far, each behind a comma.
+-- What holds at each turn of `push_values`: after the first name text stand those so far, each after a comma.
 use Rattle.std.proofs.Common.{◌≡◌, ◌++◌, codes, flat_map, map, string_bytes, take}
 use Rattle.result_layout.specs.CacheTexts.{value_text}
 use Rattle.result_layout.proofs.kept.push_values.Given as goal

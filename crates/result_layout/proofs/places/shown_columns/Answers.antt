@@ -1,8 +1,9 @@
 -- That `shown_columns` keeps what holds at each turn.
 use Rattle.std.proofs.Common.{◌∙◌, ◌||◌, Bool, ℕ, not, sym, ap}
+use Rattle.std.proofs.lemmas.Bool.{or_from, or_left, or_right}
 use Rattle.query_meaning.specs.Grids.{is_column_filled}
 use Rattle.result_layout.specs.Axes.{values_of}
-use Rattle.result_layout.proofs.PlaceFacts.{dropped_more, kept_more, or_left, or_none, or_right}
+use Rattle.result_layout.proofs.PlaceFacts.{dropped_more, kept_more}
 use Rattle.result_layout.proofs.places.shown_columns.Goals.{then-not-axes+in_ok-push, then-not-axes-via-then-not-axes, then-not-axes-via-else-not-axes+then-is_column_filled, else-not-axes+else-is_column_filled}
 use Rattle.result_layout.proofs.places.shown_columns.Goals as goal
 
@@ -21,5 +22,5 @@ loop-column-preserved c =
           ])
       | else-not-axes+else-is_column_filled w ↦
           dropped_more test c.loop-column.column c.loop-column.places.items c.if-not-axes.places.items c.loop-column.invariant
-          (ap (λ v. v.items) w.places-is) (or_none all filled (ap not w.if-not-axes.false) (sym w.is_column_filled.ensures ∙ w.if-is_column_filled.false))
+          (ap (λ v. v.items) w.places-is) (or_from all filled (ap not w.if-not-axes.false) (sym w.is_column_filled.ensures ∙ w.if-is_column_filled.false))
     ]

@@ -1,12 +1,13 @@
 -- That `path_title` ensures what it says, may call `value_name`, keeps what holds at each turn and stays within its
 -- numbers.
 use Rattle.std.proofs.Common.{◌∙◌, ◌++◌, ap, sym, subst, codes, string_bytes, append-nil}
+use Rattle.olap_catalog.proofs.MemberFacts.{column_there}
 use Rattle.olap_meaning.specs.declared.cells.LevelRef.TheVariants.{Whole}
 use Rattle.olap_meaning.specs.Catalog.{root_name}
 use Rattle.olap_meaning.specs.Texts.{name_text}
 use Rattle.result_layout.specs.Named.{IsNamed}
 use Rattle.result_layout.proofs.NamedFacts.{named_below, named_one}
-use Rattle.result_layout.proofs.PathFacts.{path_own, path_deep, path_there, column_known, title_more, title_whole}
+use Rattle.result_layout.proofs.PathFacts.{path_own, path_deep, path_there, title_more, title_whole}
 use Rattle.result_layout.proofs.titles.path_title.Goals as goal
 
 pub bounds-levels-i : goal.bounds-levels-i
@@ -19,7 +20,7 @@ value_name-requires c =
     let own = path_own c.args.catalog.now c.args.h c.args.path.now c.as_slice-levels.result.now c.hierarchy.result.now c.requires.path c.hierarchy.ensures c.as_slice-levels.ensures in
     let there = path_there c.args.catalog.now c.as_slice-levels.result.now c.args.path.now c.loop-i.i c.index-levels-i.result c.index-path-i.result own c.loop-i-test.true c.index-levels-i.is c.index-path-i.is in
     record {
-      known = column_known c.args.catalog.now c.index-levels-i.result c.index-path-i.result there;
+      known = column_there c.args.catalog.now c.index-levels-i.result c.index-path-i.result there;
       there = there;
     }
 

@@ -1,9 +1,9 @@
 use Rattle.std.proofs.Common.{◌∙◌, sym, ap, rules, not, Bor}
 use Rattle.std.proofs.lemmas.Fn.{filter_same}
+use Rattle.olap_meaning.proofs.Lists.{filter-map}
 use Rattle.cache_flush.specs.Loads.{kept_of}
 use Rattle.cache_flush.specs.declared.kept.Kept.{Kept}
 use Rattle.rollup_plan.specs.Picks.{are_kin, lent}
-use Rattle.rollup_plan.proofs.ListFacts.{filter-map}
 use Rattle.rollup_plan.proofs.kinds.leave_kin.Goals as goal
 
 pub returns : goal.returns

@@ -3,9 +3,10 @@ use Rattle.std.specs.Prelude.{Contains}
 use Rattle.std.proofs.lemmas.List.Elements.{All-contains}
 use Rattle.cache_flush.specs.Loads.{kept_of}
 use Rattle.olap_meaning.specs.Rolled.{header_columns}
+use Rattle.olap_meaning.proofs.Lists.{none_found}
 use Rattle.rollup_plan.specs.Picks.{is_whole, lent}
 use Rattle.rollup_plan.proofs.PickFacts.{picked_splits}
-use Rattle.rollup_plan.proofs.ListFacts.{found_passes, none_found}
+use Rattle.rollup_plan.proofs.ListFacts.{found_passes}
 use Rattle.rollup_plan.proofs.parts.parts_along.Goals as goal
 
 pub part_of_whole-requires : goal.part_of_whole-requires

@@ -7,7 +7,7 @@ use Rattle.agg_tables.specs.Tables.{table_columns}
 use Rattle.agg_tables.proofs.RightFacts.{AreSeen}
 use Rattle.agg_tables.proofs.checker.Checker.check_each.Given as goal
 
--- the faults of the records that are left, behind those that were seen, are those of all
+-- the faults of the records that are left, after those that were seen, are those of all
 abbrev pub invariant-loop-n : goal.invariant-loop-n
 invariant-loop-n l = record {
   rest : records_fault l.self.file.catalog l.self.file.declared l.self.file.header l.self.rows (values_in l.seen) l.rows ≡ records_fault l.self.file.catalog l.self.file.declared l.self.file.header l.self.rows [] l.initial.rows;

@@ -1,7 +1,7 @@
 -- That `groups` ensures what it says.
 use Rattle.std.proofs.Common.{◌∙◌, List, ℕ, ℤ, Option, length, ap, arith}
 use Rattle.std.proofs.lemmas.List.{length-map}
-use Rattle.catalog_tables.proofs.FieldFacts.{appearances_le}
+use Rattle.olap_meaning.proofs.Lists.{appearances_le}
 use Rattle.segment_body.specs.BodyOf.{BodyOf, different_values}
 use Rattle.fact_reader.proofs.BatchFacts.{different_texts}
 use Rattle.agg_tables.specs.Places.{CheckerOf}

@@ -4,7 +4,7 @@ use Rattle.std.specs.List.{list_any}
 use Rattle.std.proofs.lemmas.Bool.{and_parts}
 use Rattle.std.proofs.lemmas.List.Elements.{Contains-get_or}
 use Rattle.std.proofs.lemmas.List.Quantifiers.{position-Some}
-use Rattle.fact_reader.proofs.RowFacts.{position_of}
+use Rattle.olap_meaning.proofs.Lists.{position_there}
 use Rattle.agg_tables.specs.Costs.{serves}
 use Rattle.agg_tables.proofs.TableFacts.{groups_shared}
 use Rattle.agg_tables.proofs.table.AggTable.body_for.Goals as goal
@@ -12,7 +12,7 @@ use Rattle.agg_tables.proofs.table.AggTable.body_for.Goals as goal
 pub unwrap-requires : goal.unwrap-requires
 unwrap-requires c =
     let some = (and_parts c.args.self.now.measured (list_any (serves c.args.header.now) c.args.self.now.bodies) c.requires).1 in
-    let at = position_of (serves c.args.header.now) c.args.self.now.bodies some in
+    let at = position_there (serves c.args.header.now) c.args.self.now.bodies some in
     rw (c.place_serving.ensures, c.bodies-bodies.ensures.bodies, at.1) refl
 
 pub returns-clause-serves : goal.returns-clause-serves

@@ -1,14 +1,15 @@
 -- That `shut` has the rooms and keeps the numbers different.
 use Rattle.std.proofs.Common.{◌<◌, map}
+use Rattle.olap_meaning.proofs.Lists.{all_of_map}
 use Rattle.cache_flush.specs.Flights.{flight_of, shut_off}
 use Rattle.cache_flush.proofs.ListFacts.{changed_length, written_over}
-use Rattle.cache_flush.proofs.Shelves.{all_seen, same_flights}
+use Rattle.cache_flush.proofs.Shelves.{same_flights}
 use Rattle.cache_flush.proofs.flights.Flights.shut.Goals as goal
 
 pub shut_each-requires-clause-rooms : goal.shut_each-requires-clause-rooms
 shut_each-requires-clause-rooms c =
     rw c.deref_mut.ensures.value
-    (all_seen (λ room. 0 < room) (λ one. one.shut.spare) c.self.inside.flights.items (rw (← c.self.view_is) at c.requires.rooms))
+    (all_of_map (λ room. 0 < room) (λ one. one.shut.spare) c.self.inside.flights.items (rw (← c.self.view_is) at c.requires.rooms))
 
 pub invariant_of-self : goal.invariant_of-self
 invariant_of-self c =

@@ -1,8 +1,8 @@
 -- That `version` ensures what it says.
 use Rattle.std.proofs.Common.{refl}
 use Rattle.std.specs.Prelude.{◌==◌}
-use Rattle.cache_flush.specs.Flights.{flight_of}
 use Rattle.cache_flush.proofs.ListFacts.{find_map}
+use Rattle.cache_flush.specs.Flights.{flight_of}
 use Rattle.cache_flush.proofs.flights.Flights.version.Goals as goal
 
 pub returns : goal.returns

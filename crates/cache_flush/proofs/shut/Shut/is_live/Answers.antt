@@ -2,8 +2,8 @@
 use Rattle.std.proofs.Common.{◌≡◌, ◌∙◌, ap, get_or, not, sym, true}
 use Rattle.std.proofs.lemmas.List.Folds.{list_any_none}
 use Rattle.olap_meaning.specs.Covering.{region_covers}
+use Rattle.olap_meaning.proofs.Lists.{any_map}
 use Rattle.cache_flush.specs.Named.{is_ruled_out}
-use Rattle.cache_flush.proofs.ListFacts.{any_map}
 use Rattle.cache_flush.proofs.Naming.{ruled_out}
 use Rattle.cache_flush.proofs.shut.Shut.is_live.Goals as goal
 

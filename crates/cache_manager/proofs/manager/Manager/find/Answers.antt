@@ -6,11 +6,11 @@ use Rattle.history_core.specs.Cache.{CacheOf}
 use Rattle.history_core.specs.Groups.{wanting}
 use Rattle.cache_manager.specs.Found.{AreServed, IsPlaced, cells_of, wants}
 use Rattle.cell_groups.specs.Lent.{lent}
+use Rattle.cell_groups.proofs.GroupFacts.{length-lent}
 use Rattle.cache_manager.specs.Rollups.{AreKept}
 use Rattle.cache_manager.specs.declared.findings.Hit.{Hit}
 use Rattle.cache_manager.specs.declared.rollups.Rollup.{Rollup}
 use Rattle.cache_manager.proofs.Ends.{cache_of}
-use Rattle.cache_manager.proofs.Lending.{length-lent}
 use Rattle.cache_manager.proofs.Searching.{all_found, all_placed, all_served, wanted_found}
 use Rattle.cache_manager.proofs.manager.Manager.find.Goals as goal
 

@@ -1,14 +1,14 @@
--- Each group has its cells, of which its first one is, and its load is numbered behind the last one.
+-- Each group has its cells, of which its first one is, and its load is numbered after the last one.
 use Rattle.std.proofs.Common.{◌≡◌, ◌∙◌, ◌+◌, ◌<◌, List, subst, arith, filter, get_or, length, map, take}
 use Rattle.std.proofs.lemmas.List.{length-map, length-take-le, map_push}
 use Rattle.olap_meaning.specs.declared.cells.Cell.{Cell}
+use Rattle.olap_meaning.proofs.Lists.{take_step}
 use Rattle.segment_header.specs.contracts.widener.WidenerAllowsValues.TheImpl.{answers-value}
 use Rattle.segment_header.specs.Widening.{Widened}
 use Rattle.history_core.specs.Groups.{alike}
 use Rattle.cell_groups.specs.Lent.{lent}
 use Rattle.cell_groups.specs.declared.groups.Group.{Group}
 use Rattle.cache_manager.specs.Plans.{IsPrepared}
-use Rattle.cache_manager.proofs.Fronts.{front_more}
 use Rattle.cache_manager.proofs.Grouping.{contains_at, first_wanted, group_at, group_known, group_place}
 use Rattle.cache_manager.proofs.Looking.{kept_pass}
 use Rattle.cache_manager.proofs.Starting.{prepared_more}
@@ -46,7 +46,7 @@ loop-group-preserved g c =
     length-map (take c.loop-group.group-index c.as_slice-group-items.result.now) first ∙ length-take-le c.loop-group.group-index c.as_slice-group-items.result.now c.loop-group.auto.group-index-end in
     record {
       planned =
-          rw (front_more c.as_slice-group-items.result.now c.loop-group.group-index c.group-item.result c.loop-group-test.true c.group-item.is, map_push first (take c.loop-group.group-index c.as_slice-group-items.result.now) c.group-item.result, c.in_ok-push.ensures.items)
+          rw (take_step c.as_slice-group-items.result.now c.loop-group.group-index c.group-item.result c.loop-group-test.true c.group-item.is, map_push first (take c.loop-group.group-index c.as_slice-group-items.result.now) c.group-item.result, c.in_ok-push.ensures.items)
           (prepared_more (Widened ((answers-value g.dyn-1).it c.args.widener.now)) c.args.self.now c.args.who (lent c.args.wanted.now) (length c.args.self.now.entries + 1) _ c.loop-group.plans.items c.loop-group.load c.group-item.result.first.now _ c.loop-group.invariant.planned
           (omega (arith, c.loop-group.invariant.number, many))
           (subst (λ (cs : List Cell). IsPrepared (Widened ((answers-value g.dyn-1).it c.args.widener.now)) c.args.self.now c.args.who cs c.loop-group.load c.group-item.result.first.now c.in_ok-plan.field-0) own c.in_ok-plan.ensures));

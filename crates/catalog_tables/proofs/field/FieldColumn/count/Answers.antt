@@ -2,7 +2,8 @@
 use Rattle.std.proofs.Common.{arith, subst, le_trans, length, ◌≤◌, List, ℕ}
 use Rattle.olap_meaning.specs.Catalog.{first_appearances}
 use Rattle.olap_meaning.specs.declared.schema.TheConstants.{RECORD_LIMIT}
-use Rattle.catalog_tables.proofs.FieldFacts.{appearances_le, count_fits}
+use Rattle.olap_meaning.proofs.Lists.{appearances_le}
+use Rattle.catalog_tables.proofs.FieldFacts.{count_fits}
 use Rattle.catalog_tables.proofs.field.FieldColumn.count.Goals as goal
 
 pub overflow_cast-result : goal.overflow_cast-result

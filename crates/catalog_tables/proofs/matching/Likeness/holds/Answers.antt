@@ -1,4 +1,4 @@
--- Names that are the same in lower case are the same but for case.
+-- Names that are the same in lower case are the same except for case.
 use Rattle.std.proofs.Common.{rules}
 use Rattle.std.proofs.lemmas.Slice.Eq.{bytes_eq-Decides}
 use Rattle.catalog_tables.proofs.matching.Likeness.holds.Goals as goal

@@ -1,13 +1,13 @@
 -- Key by key, the leaf that is found is the one that the record's field means, or the fault is the definition's.
 use Rattle.std.proofs.Common.{◌≡◌, ◌∙◌, ◌++◌, ap, sym, arith, length, map, Some, None, append_assoc, ◌<◌}
 use Rattle.std.proofs.lemmas.List.{append-nil}
+use Rattle.olap_catalog.proofs.WalkFacts.{drop_past}
 use Rattle.olap_meaning.specs.Catalog.{find_leaf}
 use Rattle.olap_meaning.specs.Records.{column_place, field_in}
 use Rattle.fact_rows.specs.declared.fault.BatchFault.TheVariants.{UnknownKey}
 use Rattle.fact_rows.specs.BatchFiles.{HasDimensions, key_fault, leaves_in}
 use Rattle.fact_rows.specs.Bound.{AreKeysPlaced, key_pair}
 use Rattle.csv_records.proofs.PlaceFacts.{csv_parts, field_there, place_within, same_at}
-use Rattle.fact_rows.proofs.PlaceFacts.{nothing_from}
 use Rattle.fact_rows.proofs.RowFacts.{each_leaf, keys_from, row_fits, told_or_not}
 use Rattle.fact_rows.proofs.bound.BoundCube.read_leaves.Goals as goal
 
@@ -54,8 +54,8 @@ pub returns-clause-each : goal.returns-clause-each
 returns-clause-each c =
     let v = c.args.self.now in
     let paired : HasDimensions v.catalog v.cube = rw (← c.self.view_is) c.self.invariant.paired in
-    let sound = sym c.loop-key.invariant.rest_faults ∙ ap (λ rest. key_fault v.catalog v.header c.args.n c.args.row.now (map key_pair rest)) (nothing_from c.as_slice-key-items.result.now c.loop-key.key-index c.loop-key-test.false) in
-    let read = sym c.loop-key.invariant.rest_leaves ∙ ap (λ rest. c.loop-key.leaves.items ++ leaves_in v.catalog v.header c.args.row.now (map key_pair rest)) (nothing_from c.as_slice-key-items.result.now c.loop-key.key-index c.loop-key-test.false) ∙ append-nil c.loop-key.leaves.items in
+    let sound = sym c.loop-key.invariant.rest_faults ∙ ap (λ rest. key_fault v.catalog v.header c.args.n c.args.row.now (map key_pair rest)) (drop_past c.as_slice-key-items.result.now c.loop-key.key-index c.loop-key-test.false) in
+    let read = sym c.loop-key.invariant.rest_leaves ∙ ap (λ rest. c.loop-key.leaves.items ++ leaves_in v.catalog v.header c.args.row.now (map key_pair rest)) (drop_past c.as_slice-key-items.result.now c.loop-key.key-index c.loop-key-test.false) ∙ append-nil c.loop-key.leaves.items in
     ap length (sym read) ∙ each_leaf v.catalog v.cube v.header c.args.n c.args.row.now paired sound
 
 pub returns-clause-fit : goal.returns-clause-fit
@@ -63,5 +63,5 @@ returns-clause-fit c =
     let v = c.args.self.now in
     let paired : HasDimensions v.catalog v.cube = rw (← c.self.view_is) c.self.invariant.paired in
     let known : v.cube < length v.catalog.cubes = rw (← c.self.view_is) c.self.invariant.known in
-    let sound = sym c.loop-key.invariant.rest_faults ∙ ap (λ rest. key_fault v.catalog v.header c.args.n c.args.row.now (map key_pair rest)) (nothing_from c.as_slice-key-items.result.now c.loop-key.key-index c.loop-key-test.false) in
+    let sound = sym c.loop-key.invariant.rest_faults ∙ ap (λ rest. key_fault v.catalog v.header c.args.n c.args.row.now (map key_pair rest)) (drop_past c.as_slice-key-items.result.now c.loop-key.key-index c.loop-key-test.false) in
     row_fits v.catalog v.cube v.header c.args.n c.args.row.now known paired sound

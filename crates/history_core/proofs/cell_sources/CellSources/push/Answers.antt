@@ -1,6 +1,7 @@
 -- That `push` ensures what it says.
 use Rattle.std.proofs.Common.{◌≡◌, ◌∙◌, ◌++◌, OnOk, map}
-use Rattle.history_core.proofs.PackFacts.{on_err, packed_after, packed_grown, same_lists, unpacked_after, unpacked_err, unpacked_grown}
+use Rattle.olap_meaning.proofs.Lists.{on_err}
+use Rattle.history_core.proofs.PackFacts.{packed_after, packed_grown, same_lists, unpacked_after, unpacked_err, unpacked_grown}
 use Rattle.history_core.proofs.cell_sources.CellSources.push.Goals as goal
 
 pub invariant_of-self : goal.invariant_of-self

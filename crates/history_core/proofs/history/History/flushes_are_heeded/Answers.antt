@@ -1,4 +1,4 @@
--- What a flush is worth behind itself, at this history.
+-- What a flush is worth after itself, at this history.
 use Rattle.history_core.proofs.Flushes.{heeded}
 use Rattle.history_core.proofs.history.History.flushes_are_heeded.Goals as goal
 

@@ -3,12 +3,13 @@ use Rattle.std.proofs.Common.{◌+◌, ◌∙◌, ap, refl, subst, sym}
 use Rattle.olap_meaning.specs.declared.cells.Who.{Who}
 use Rattle.olap_meaning.specs.declared.tables.Setting.{Setting}
 use Rattle.olap_meaning.specs.Legal.{is_next_call}
+use Rattle.olap_meaning.proofs.Lists.{on_err}
 use Rattle.history_core.specs.Cache.{CacheOf}
 use Rattle.segment_header.specs.contracts.widener.WidenerAllowsValues.TheImpl.{answers-value}
 use Rattle.segment_header.specs.Widening.{Widened}
 use Rattle.line_session.specs.Desks.{HasAsked, HasNotAsked}
 use Rattle.manager_desk.specs.Keeping.{IsCount}
-use Rattle.manager_desk.proofs.Calling.{desk_of, has_asked, has_not_asked, next_answered, next_refused, nothing_asked, on_error}
+use Rattle.manager_desk.proofs.Calling.{desk_of, has_asked, has_not_asked, next_answered, next_refused, nothing_asked}
 use Rattle.manager_desk.proofs.seat.ManagerDeskDesk.ask.Goals as goal
 
 pub returns-in_default-clause-refused : goal.returns-in_default-clause-refused
@@ -25,7 +26,7 @@ invariant_of-self g c = record {
 
 pub returns-in_err-answer-clause-refused : goal.returns-in_err-answer-clause-refused
 returns-in_err-answer-clause-refused g c =
-    on_error c.from_residual.result
+    on_err c.from_residual.result
     (subst (λ (cache : CacheOf). HasNotAsked (Widened ((answers-value g.dyn-1).it c.args.widener.now)) (desk_of cache) (desk_of c.ask.new.manager) c.args.cells.now) c.self.view_is
     (has_not_asked (Widened ((answers-value g.dyn-1).it c.args.widener.now)) c.self.inside.manager c.in-Some.who c.args.cells.now c.ask.new.manager c.self.invariant.idle c.ask.ensures.idle (ap (λ (who : Who). who.seat) c.in-Some.ensures.next)
     (ap (is_next_call c.self.inside.manager.entries) c.in-Some.ensures.next ∙ c.self.invariant.next) c.in_err-answer.ensures.refused))

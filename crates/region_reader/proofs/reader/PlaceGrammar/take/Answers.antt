@@ -1,6 +1,6 @@
 -- That `take` ensures what it says.
 use Rattle.std.proofs.Common.{refl}
-use Rattle.tokens.specs.Carried.{at_both}
+use Rattle.text_forms.specs.Carried.{at_both}
 use Rattle.region_reader.specs.declared.place.Place.TheVariants.{ACube, ARegion, AfterName}
 use Rattle.region_reader.specs.Places.{rest_of}
 use Rattle.region_reader.proofs.reader.PlaceGrammar.take.Goals as goal

@@ -3,7 +3,8 @@ use Rattle.std.proofs.Common.{◌≡◌, ◌∙◌, ◌+◌, ◌≤◌, ap, sym,
 use Rattle.std.specs.Option.{option_copied_mut}
 use Rattle.std.specs.Vec.{vec_len, vec_capacity}
 use Rattle.std.specs.Map.{lookup}
-use Rattle.segment_index.proofs.GroupFacts.{loads-same, places-same, places-changed, room-found, room-set, room-insert, on_err}
+use Rattle.olap_meaning.proofs.Lists.{on_err}
+use Rattle.segment_index.proofs.GroupFacts.{loads-same, places-same, places-changed, room-found, room-set, room-insert}
 use Rattle.segment_index.proofs.groups.Groups.reserve.Goals as goal
 
 pub overflow_add-group : goal.overflow_add-group

@@ -2,14 +2,14 @@
 use Rattle.std.proofs.Common.{nat_eq}
 use Rattle.std.proofs.lemmas.List.Filters.{dedup_is}
 use Rattle.std.proofs.lemmas.Map.Keys.{IsStrictlyIncreasing-dedup}
-use Rattle.cache_flush.proofs.Sorting.{rising}
+use Rattle.olap_meaning.proofs.Orders.{rise_from}
 use Rattle.segment_index.proofs.CandidateFacts.{candidates_found}
 use Rattle.segment_index.proofs.index.SegmentIndexCacheShelf.candidates.Goals as goal
 
 pub returns-clause-rising : goal.returns-clause-rising
 returns-clause-rising c =
     let left = dedup_is nat_eq c.sort_unstable.new.self.items c.dedup.new.self.items c.dedup.ensures.filtered in
-    rw (c.from_vec.ensures, left) (rising _ (IsStrictlyIncreasing-dedup c.sort_unstable.new.self.items c.sort_unstable.ensures.sorted))
+    rw (c.from_vec.ensures, left) (rise_from _ (IsStrictlyIncreasing-dedup c.sort_unstable.new.self.items c.sort_unstable.ensures.sorted))
 
 pub returns-clause-members : goal.returns-clause-members
 returns-clause-members c n =
