@@ -204,7 +204,7 @@ def judge(session, kept, fields, calls, status, text, errors):
         if reply.startswith("SEEN "):
             seen.append((place, position))
         if position is not None and position < last + (not reply.startswith("SEEN ")):
-            return None, f"{told[place].splitlines()[0]} comes behind the position {last}"
+            return None, f"{told[place].splitlines()[0]} comes after the position {last}"
         last = position or last
     # A call between two looks at the front, with at most lines without an entry beside it, has made one entry, or none.
     for call in calls:

@@ -1,5 +1,5 @@
 """The steps of a session that flushes, over the files of group_sales.py: as lines of `olapd`, as words of the programs beside it, and
-with what `olapd` has to reply but for the values of its grids.
+with what `olapd` has to reply except for the values of its grids.
 
 A step is a list: what it is, and the number of a member where it has one.
 

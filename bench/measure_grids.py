@@ -68,7 +68,7 @@ def cases_of(rows, cities):
 
 
 def grids(text):
-    """The grids of an output, each without its position: the numbers of columns and rows, and the lines behind them."""
+    """The grids of an output, each without its position: the numbers of columns and rows, and the lines after them."""
     found = []
     for line in text.splitlines():
         if line.startswith("GRID "):
@@ -87,7 +87,7 @@ def agrees(aggregator, mine, other):
 
 
 def compare(size, mine, other, queries):
-    """Ends with an error where the plain program, or a grid behind the first, tells another grid."""
+    """Ends with an error where the plain program, or a grid after the first, tells another grid."""
     mine, other = grids(mine), grids(other)
     if len(mine) != queries or any(it != mine[0] for it in mine):
         sys.exit(f"{size}: olapd's answers to one query differ, or are not {queries}")
