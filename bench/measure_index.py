@@ -17,7 +17,7 @@ programs, rounds = dict(index=sys.argv[1], plain=sys.argv[2]), int(sys.argv[3])
 
 def run(shelf, sets, times):
     with open("asked", "w") as it:
-        it.write(f"{sets} {times}")
+        it.write(f"{sets} {times} 0")
     with open("asked") as asked, open("told", "w") as told:
         ran = subprocess.Popen([programs[shelf]], stdin=asked, stdout=told)
         _, status, used = os.wait4(ran.pid, 0)

@@ -27,10 +27,11 @@ use Rattle.olap_meaning.specs.Worth.{row_value}
 use Rattle.olap_meaning.proofs.Lists.{mapped_from}
 use Rattle.fact_versions.specs.FactRows.{FactRows}
 use Rattle.segment_body.specs.BodyOf.{BodyOf}
-use Rattle.segment_body.specs.Narrowed.{IsNarrowed, allowed_values, if_allowed, narrowed_row, narrowed_values, value_in}
+use Rattle.segment_body.specs.Narrowed.{IsNarrowed, narrowed_row, narrowed_values, value_in}
+use Rattle.olap_meaning.specs.Budget.{allowed_values, if_allowed, row_values}
 use Rattle.segment_body.proofs.Places.{missed}
 use Rattle.segment_body.proofs.ValueFacts.{first_allowed}
-use Rattle.fact_reader.specs.BodyRows.{HoldsRows, are_batches, body_rows, is_batch, row_number, row_values, rows_in}
+use Rattle.fact_reader.specs.BodyRows.{HoldsRows, are_batches, body_rows, is_batch, row_number, rows_in}
 use Rattle.fact_reader.specs.Laws.{RowsAreValued}
 use Rattle.fact_reader.proofs.BatchFacts.{body_rows-append, body_rows-fit}
 use Rattle.agg_tables.specs.declared.declared.Declared.{Declared}

@@ -20,6 +20,7 @@ use Rattle.olap_meaning.specs.declared.CellValue.TheVariants.{Whole}
 use Rattle.olap_meaning.specs.declared.tables.Catalog.{Catalog}
 use Rattle.olap_meaning.specs.declared.tables.Row.{Row}
 use Rattle.olap_meaning.proofs.Lists.{same_text}
+use Rattle.olap_meaning.proofs.Different.{appearances_differ, contained, filter_distinct, later_differs, no_more, nothing_distinct, same_texts, seen_in}
 use Rattle.agg_tables.specs.declared.declared.Declared.{Declared}
 use Rattle.agg_tables.specs.declared.declared.FileColumn.{FileColumn}
 use Rattle.agg_tables.specs.declared.declared.TableLevel.{TableLevel}
@@ -35,64 +36,6 @@ neither (Some e) rest h = absurd (cc)
 
 one_more : (n : ℕ) → nat_lt 0 (suc n) ≡ true
 one_more n = grind (arith, nat_tests)
-
--- a text that equals one of some texts is one of them
-contained : (x : List ℕ) (xs : List (List ℕ)) → list_any (bytes_eq x) xs ≡ true → Contains xs x
-contained x [] h = absurd (cc)
-contained x (y ∷ ys) h = elim (cases_Bool (bytes_eq x y)) [
-  | inl same ↦ (zero, omega arith, sym (same_text x y same))
-  | inr other ↦ let rest = contained x ys (rw other at h) in (suc rest.0, omega (arith, rest.1), rest.2)
-]
-
-seen_in : (x : List ℕ) (xs : List (List ℕ)) → Contains xs x → list_any (bytes_eq x) xs ≡ true
-seen_in x xs h = list_any-from_Contains nat_list_eq_equiv x xs h
-
--- each of the texts after one that differs from them differs from it
-later_differs : (x y : List ℕ) (xs : List (List ℕ)) → AllByRecursion (λ z. bytes_eq x z ≡ false) xs → Contains xs y → bytes_eq x y ≡ false
-later_differs x y [] each at = absurd (omega (arith, at.1))
-later_differs x y (z ∷ zs) each (zero, within, is) = subst (λ w. bytes_eq x w ≡ false) is each.0
-later_differs x y (z ∷ zs) each (suc k, within, is) = later_differs x y zs each.1 (k, omega (arith, within), is)
-
--- what is left of some texts without one of them
-record IsLeft (x : List ℕ) (xs ys : List (List ℕ)) : Type 0 where
-  rest : List (List ℕ)
-  moved : IsPermutation ys (x ∷ rest)
-  within : (z : List ℕ) → Contains xs z → Contains rest z
-
--- different texts are among others: the first one is taken out of these
-taken_out : (x : List ℕ) (xs ys : List (List ℕ)) → IsDistinct bytes_eq (x ∷ xs) → ((z : List ℕ) → Contains (x ∷ xs) z → Contains ys z) → IsLeft x xs ys
-taken_out x xs ys different within =
-    let at = within x (zero, omega arith, refl) in
-    let moved : IsPermutation ys (x ∷ remove ys at.0) = IsPermutation-remove ys at.0 x at.1 (sym at.2) in
-    record {
-      rest = remove ys at.0;
-      moved = moved;
-      within = λ z there. by (remove ys at.0) z (later_differs x z xs (IsDistinct-head bytes_eq x xs different) there)
-          (Contains-permutation ys (x ∷ remove ys at.0) z moved (within z (suc there.0, omega (arith, there.1), there.2)));
-    }
-  where
-    by : (rest : List (List ℕ)) (z : List ℕ) → bytes_eq x z ≡ false → Contains (x ∷ rest) z → Contains rest z
-    by rest z apart (zero, within, is) = let same : bytes_eq x x ≡ true = nat_list_eq_equiv.refl x in let bad : bytes_eq x x ≡ false = subst (λ w. bytes_eq x w ≡ false) (sym is) apart in absurd (cc)
-    by rest z apart (suc k, within, is) = (k, omega (arith, within), is)
-
--- different texts that are among others are no more than these
-no_more : (xs ys : List (List ℕ)) → IsDistinct bytes_eq xs → ((x : List ℕ) → Contains xs x → Contains ys x) → length xs ≤ length ys
-no_more [] ys different within = omega arith
-no_more (x ∷ xs) ys different within =
-    let left = taken_out x xs ys different within in
-    let long : length (x ∷ left.rest) ≡ length ys = length_permutation ys (x ∷ left.rest) left.moved in
-    let few = no_more xs left.rest (IsDistinct-tail bytes_eq x xs different) left.within in
-    omega (arith, few, long)
-
--- and where they are no fewer, they are these except for their order
-same_texts : (xs ys : List (List ℕ)) → IsDistinct bytes_eq xs → ((x : List ℕ) → Contains xs x → Contains ys x) → length ys ≤ length xs → IsPermutation ys xs
-same_texts [] [] different within few = IsPermutation-refl []
-same_texts [] (y ∷ ys) different within few = absurd (omega (arith, few))
-same_texts (x ∷ xs) ys different within few =
-    let left = taken_out x xs ys different within in
-    let long : length (x ∷ left.rest) ≡ length ys = length_permutation ys (x ∷ left.rest) left.moved in
-    IsPermutation-trans ys (x ∷ left.rest) (x ∷ xs) left.moved
-    (IsPermutation-cons x left.rest xs (same_texts xs left.rest (IsDistinct-tail bytes_eq x xs different) left.within (omega (arith, few, long))))
 
 -- a text among some and one more is among these or the one
 pushed_in : (xs : List (List ℕ)) (y z : List ℕ) → Contains (xs ++ y ∷ []) z → Contains xs z ⊎ (z ≡ y)
@@ -114,39 +57,6 @@ before_differs (x ∷ xs) ys y different =
     middle : (zs : List (List ℕ)) → AllByRecursion (λ z. bytes_eq x z ≡ false) (zs ++ y ∷ ys) → bytes_eq x y ≡ false
     middle [] each = each.0
     middle (z ∷ zs) each = middle zs each.1
-
--- each text but once is different from the others
-filter_differs : (x : List ℕ) (xs : List (List ℕ)) → AllByRecursion (λ z. bytes_eq x z ≡ false) (filter (λ other. not (bytes_eq x other)) xs)
-filter_differs x [] = tt
-filter_differs x (y ∷ ys) = elim (cases_Bool (bytes_eq x y)) [
-  | inl same ↦ rw same (filter_differs x ys)
-  | inr other ↦ rw other (other, filter_differs x ys)
-]
-
-filter_recursion : (P : List ℕ → Type 0) (p : List ℕ → Bool) (xs : List (List ℕ)) → AllByRecursion P xs → AllByRecursion P (filter p xs)
-filter_recursion P p [] each = tt
-filter_recursion P p (x ∷ xs) each = elim (cases_Bool (p x)) [
-  | inl is ↦ rw is (each.0, filter_recursion P p xs each.1)
-  | inr is ↦ rw is (filter_recursion P p xs each.1)
-]
-
-filter_distinct : (p : List ℕ → Bool) (xs : List (List ℕ)) → IsDistinct bytes_eq xs → IsDistinct bytes_eq (filter p xs)
-filter_distinct p [] different = different
-filter_distinct p (x ∷ xs) different =
-    let rest = filter_distinct p xs (IsDistinct-tail bytes_eq x xs different) in
-    elim (cases_Bool (p x)) [
-      | inl is ↦ rw is (IsDistinct-cons bytes_eq x (filter p xs) (filter_recursion (λ z. bytes_eq x z ≡ false) p xs (IsDistinct-head bytes_eq x xs different)) rest)
-      | inr is ↦ rw is rest
-    ]
-
-nothing_distinct : IsDistinct bytes_eq []
-unfolding IsDistinct
-nothing_distinct = tt
-
-appearances_differ : (xs : List (List ℕ)) → IsDistinct bytes_eq (first_appearances xs)
-appearances_differ [] = nothing_distinct
-appearances_differ (x ∷ xs) =
-    IsDistinct-cons bytes_eq x _ (filter_differs x (first_appearances xs)) (filter_distinct (λ other. not (bytes_eq x other)) (first_appearances xs) (appearances_differ xs))
 
 module _ (catalog : Catalog) (declared : Declared) (header : List (List ℕ)) (rows : List Row) where
   abbrev Own : List (List ℕ) → Type 0

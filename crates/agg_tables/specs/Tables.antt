@@ -9,7 +9,8 @@ use Rattle.olap_meaning.specs.declared.tables.Row.{Row}
 use Rattle.olap_meaning.specs.Catalog.{first_appearances}
 use Rattle.fact_versions.specs.FactRows.{FactRows}
 use Rattle.segment_body.specs.BodyOf.{BodyOf}
-use Rattle.fact_reader.specs.BodyRows.{AreAlike, body_rows, row_values, rows_in, values_in}
+use Rattle.fact_reader.specs.BodyRows.{AreAlike, body_rows, rows_in, values_in}
+use Rattle.olap_meaning.specs.Budget.{row_values}
 use Rattle.agg_tables.specs.declared.declared.Declared.{Declared}
 use Rattle.agg_tables.specs.declared.declared.Fold.{Fold}
 use Rattle.agg_tables.specs.declared.declared.TableMeasure.{TableMeasure}

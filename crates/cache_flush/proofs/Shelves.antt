@@ -1,54 +1,15 @@
--- Kept loads and loads in flight, as they are seen: their numbers, their rooms, and what is left where one is taken out.
-use Rattle.std.proofs.Common.{◌≡◌, ◌∙◌, ◌++◌, ℕ, suc, true, false, not, List, [], ◌∷◌, Some, refl, ap, map, take, drop, slice_get, filter, option_map}
-use Rattle.std.specs.Prelude.{◌==◌}
-use Rattle.std.proofs.lemmas.Option.{slice_get-map}
+-- Kept loads, as they are seen.
+use Rattle.std.proofs.Common.{◌≡◌, List, [], ◌∷◌, refl, ap, map}
 use Rattle.olap_meaning.specs.declared.regions.Region.{Region}
-use Rattle.olap_meaning.specs.Covering.{among}
-use Rattle.olap_meaning.proofs.Lists.{option_map-map}
-use Rattle.cache_flush.specs.Flights as flying
-use Rattle.cache_flush.specs.Flights.{FlightOf, flight_of}
 use Rattle.cache_flush.specs.Loads as loads
-use Rattle.cache_flush.specs.Loads.{KeptOf, are_different}
-use Rattle.cache_flush.specs.declared.flights.Flight.{Flight}
-use Rattle.cache_flush.proofs.Differing.{differ_fewer, differ_more, found_by, left_by}
-use Rattle.cache_flush.proofs.ListFacts.{map_append, remove_mapped}
+use Rattle.cache_flush.specs.Loads.{KeptOf}
 
 module _ {X Y Z : Type 0} where
   pub map_mapped : (g : Y → Z) (f : X → Y) (xs : List X) → map g (map f xs) ≡ map (λ x. g (f x)) xs
   map_mapped g f [] = refl
   map_mapped g f (x ∷ xs) = ap (λ (zs : List _). g (f x) ∷ zs) (map_mapped g f xs)
 
-module _ {X Y : Type 0} where
-  -- with one more of another number none stands twice
-  pub differ_with : (g : Y → ℕ) (f : X → Y) (xs : List X) (x : X) → are_different (map g (map f xs)) ≡ true → among (map g (map f xs)) (g (f x)) ≡ false → are_different (map g (map f (xs ++ x ∷ []))) ≡ true
-  differ_with g f xs x differ another =
-      rw (map_append f xs (x ∷ []), map_append g (map f xs) (f x ∷ [])) (differ_more (map g (map f xs)) (g (f x)) differ another)
-
 -- regions change no number
 pub same_loads : (region : Region) (kept : List KeptOf) → loads.numbers_of (map (loads.shut_off region) kept) ≡ loads.numbers_of kept
 same_loads region [] = refl
 same_loads region (k ∷ kept) = ap (λ (zs : List _). k.load ∷ zs) (same_loads region kept)
-
-pub same_flights : (region : Region) (flights : List FlightOf) → flying.numbers_of (map (flying.shut_off region) flights) ≡ flying.numbers_of flights
-same_flights region [] = refl
-same_flights region (f ∷ flights) = ap (λ (zs : List _). f.load ∷ zs) (same_flights region flights)
-
--- a place, as it is seen
-seen_place : (flights : List Flight) (place load : ℕ) → option_map (λ flight. flight.load) (slice_get flights place) ≡ Some load → option_map (λ flight. flight.load) (slice_get (map flight_of flights) place) ≡ Some load
-seen_place flights place load is = rw (slice_get-map flight_of flights place, option_map-map (λ flight. flight.load) flight_of (slice_get flights place)) is
-
--- the loads in flight that are left where one is taken out
-pub left_flights : (flights : List Flight) (place load : ℕ) → are_different (flying.numbers_of (map flight_of flights)) ≡ true → option_map (λ flight. flight.load) (slice_get flights place) ≡ Some load → map flight_of (take place flights ++ drop (suc place) flights) ≡ filter (λ flight. not (flight.load == load)) (map flight_of flights)
-left_flights flights place load differ is =
-    remove_mapped flight_of flights place
-    ∙ left_by (λ flight. flight.load) (map flight_of flights) place load differ (seen_place flights place load is)
-
--- their numbers still differ
-pub left_differ : (flights : List Flight) (place load : ℕ) → are_different (flying.numbers_of (map flight_of flights)) ≡ true → option_map (λ flight. flight.load) (slice_get flights place) ≡ Some load → are_different (flying.numbers_of (map flight_of (take place flights ++ drop (suc place) flights))) ≡ true
-left_differ flights place load differ is =
-    rw (left_flights flights place load differ is) (differ_fewer (λ flight. flight.load) (λ flight. not (flight.load == load)) (map flight_of flights) differ)
-
--- what shuts off part of the load that is taken out
-pub taken_shut : (flights : List Flight) (place load : ℕ) (taken : Flight) → are_different (flying.numbers_of (map flight_of flights)) ≡ true → option_map (λ flight. flight.load) (slice_get flights place) ≡ Some load → slice_get flights place ≡ Some taken → option_map (λ flight. flight.shut) (flying.flight_at (map flight_of flights) load) ≡ Some taken.shut.regions
-taken_shut flights place load taken differ is at =
-    rw (found_by (λ flight. flight.load) (map flight_of flights) place load differ (seen_place flights place load is), slice_get-map flight_of flights place, at) refl

@@ -2,4 +2,3 @@ pub mod Shuts
 pub mod Named
 pub mod Handles
 pub mod Loads
-pub mod Flights

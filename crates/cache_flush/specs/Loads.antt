@@ -1,10 +1,10 @@
 -- Kept loads, as a list.
-use Rattle.std.specs.Prelude.{ℕ, ◌≡◌, ◌≤◌, ◌++◌, ◌∷◌, [], ◌&&◌, List, Bool, true, false, not, All, Contains, Option, Some, None, map}
+use Rattle.std.specs.Prelude.{ℕ, ◌≡◌, ◌≤◌, ◌++◌, ◌∷◌, [], ◌&&◌, List, Bool, true, false, not, All, Contains, Option, Some, None, length, map}
 use Rattle.std.specs.List.{list_any}
 use Rattle.olap_meaning.specs.declared.cells.Cell.{Cell}
 use Rattle.olap_meaning.specs.declared.regions.Region.{Region}
 use Rattle.olap_meaning.specs.Covering.{among, concerning, header_covers, just_covers, names_column}
-use Rattle.segment_body.specs.BodyOf.{BodyOf}
+use Rattle.segment_body.specs.BodyOf.{BodyOf, different_values}
 use Rattle.cache_flush.specs.Shuts.{is_live}
 use Rattle.cache_flush.specs.declared.kept.Kept.{Kept}
 
@@ -58,6 +58,16 @@ IsGreatest loads cell None = All (λ kept. serves kept cell ≡ false) loads
 IsGreatest loads cell (Some best) =
     Contains loads best × (serves best cell ≡ true)
     × All (λ kept. serves kept cell ≡ true → kept.load ≤ best.load) loads
+
+-- how many groups a kept load holds: the different lists of values of its rows
+abbrev pub group_count : KeptOf → ℕ
+group_count kept = length (different_values kept.body.rows)
+
+-- the least number of kept loads, if there is one
+abbrev pub IsOldest : List KeptOf → Option ℕ → Type 0
+IsOldest loads None = loads ≡ []
+IsOldest loads (Some oldest) =
+    (among (numbers_of loads) oldest ≡ true) × All (λ kept. oldest ≤ kept.load) loads
 
 -- a region shuts off part of a kept load, where it concerns the load's header
 abbrev pub shut_off : Region → KeptOf → KeptOf

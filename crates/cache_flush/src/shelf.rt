@@ -9,7 +9,7 @@ pub trait Shelf {
     ghost use Rattle.std.specs.List.{find};
     ghost use Rattle.cache_flush.specs.Loads.{KeptOf, are_different, kept_of, numbers_of};
 
-    // the kept loads, in the order in which they were put in
+    // the kept loads: each that is put in comes last, and the order may change where one is taken out
     ghost loads: { Self → List KeptOf };
 
     /// The kept load of a number, None exactly where there is none. It takes no memory.
@@ -22,15 +22,17 @@ pub trait Shelf {
         ensures { IsTrue (are_different (numbers_of (loads self.now))) };
 }
 
-/// A shelf of kept loads, as a cache uses it: loads are put in, found by the cells that they serve, and shut off in part by
-/// flushes. All room is made by `reserve` and `reserve_shut`.
+/// A shelf of kept loads, as a cache uses it: loads are put in, found by the cells that they serve, shut off in part by
+/// flushes, and taken out. All room is made by `reserve` and `reserve_shut`.
 pub trait CacheShelf: Shelf {
-    ghost use Rattle.std.specs.Prelude.{ℕ, ◌≡◌, ◌++◌, ◌∷◌, [], List, IfOk, IsTrue, OnOk, false, filter, length, map, option_copied, option_map};
+    ghost use Rattle.std.specs.Prelude.{ℕ, ◌≡◌, ◌==◌, ◌++◌, ◌∷◌, [], List, IfOk, IsTrue, OnOk, false, filter, length, map, not, option_copied, option_map, sum_by};
+    ghost use Rattle.std.specs.List.{find};
+    ghost use Rattle.std.specs.List.Sorted.{IsPermutation};
     ghost use Rattle.olap_meaning.specs.declared.cells.Header.{Header};
     ghost use Rattle.olap_meaning.specs.Covering.{among};
     ghost use Rattle.olap_meaning.specs.Legal.{rise};
     ghost use Rattle.cache_flush.specs.Handles.{AreHandles};
-    ghost use Rattle.cache_flush.specs.Loads.{IsGreatest, is_candidate, kept_of, numbers_of, shut_off};
+    ghost use Rattle.cache_flush.specs.Loads.{IsGreatest, IsOldest, group_count, is_candidate, kept_of, numbers_of, shut_off};
 
     // there is a place for a load of each of these headers
     ghost has_places: { Self → List Header → Type 0 };
@@ -53,6 +55,14 @@ pub trait CacheShelf: Shelf {
         ensures rising { IfOk result (λ numbers. IsTrue (rise numbers)) }
         ensures members { IfOk result (λ numbers. (load : ℕ)
             → among numbers load ≡ among (numbers_of (Self.loads self.now)) load) };
+
+    /// The least number of a kept load, None exactly where none is kept. It takes no memory.
+    fn oldest(&self) -> Option<u64>
+        ensures { IsOldest (Self.loads self.now) result };
+
+    /// How many groups the kept loads hold in all. It takes no memory.
+    fn groups(&self) -> u128
+        ensures { result ≡ sum_by group_count (Self.loads self.now) };
 
     /// Of the kept loads that cover a cell with just the cell's columns and are live for it, the one with the greatest
     /// number, None exactly where there is none. It takes no memory.
@@ -86,9 +96,29 @@ pub trait CacheShelf: Shelf {
             → has_places self.new (before ++ after) }
         ensures loads { Self.loads self.new ≡ Self.loads self.old ++ kept_of kept ∷ [] };
 
+    /// Gives back a place that was made for a load of a header, where none is to come any more. It takes no memory.
+    fn release(&mut self, header: &Header)
+        requires place { (before : List Header) × (after : List Header)
+            × has_places self.old (before ++ header.now ∷ after) }
+        ensures places { (before : List Header) (after : List Header)
+            → has_places self.old (before ++ header.now ∷ after)
+            → has_places self.new (before ++ after) }
+        ensures loads { Self.loads self.new ≡ Self.loads self.old };
+
+    /// Takes a load out and hands it over, None exactly where no load of this number is kept. The others may change their
+    /// order. It takes no memory.
+    fn remove(&mut self, load: u64) -> Option<Kept>
+        ensures taken { option_map kept_of result
+            ≡ find (λ kept. kept.load == load) (Self.loads self.old) }
+        ensures left { IsPermutation
+            (filter (λ kept. not (kept.load == load)) (Self.loads self.old))
+            (Self.loads self.new) }
+        ensures places { (headers : List Header)
+            → has_places self.old headers → has_places self.new headers };
+
     /// Makes room for one region more in what shuts off part of each kept load, and as many handles of the region as loads
-    /// are kept. The room is there until a load is put in or room is made again. The loads stay as they were, also where memory
-    /// is wanting.
+    /// are kept. The room is there until a load is put in or taken out, or room is made again. The loads stay as they were, also
+    /// where there is no memory.
     fn reserve_shut(&mut self, region: &Arc<Region>) -> Result<List<Arc<Region>>, OutOfMemory>
         ensures handles { IfOk result
             (AreHandles region.now.value (length (Self.loads self.old))) }

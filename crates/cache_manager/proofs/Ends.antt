@@ -1,6 +1,7 @@
 -- What the ends of loads ask for.
-use Rattle.std.proofs.Common.{◌≡◌, refl, sym, ◌∙◌, ap, subst, ℕ, ◌<◌, List, [], ◌∷◌, ◌++◌, map, true, false, arith, Some, option_map, All, ◌==◌}
-use Rattle.std.specs.Prelude.{IsTrue}
+use Rattle.std.proofs.Common.{◌≡◌, refl, sym, ◌∙◌, ap, subst, ℕ, ◌<◌, List, [], ◌∷◌, ◌++◌, map, true, false, arith, Some, option_map, All, ◌==◌, Option, None}
+use Rattle.std.specs.Prelude.{IsSome, IsTrue, option_copied}
+use Rattle.std.specs.Borrow.{Bor}
 use Rattle.std.specs.List.{AllByRecursion}
 use Rattle.std.proofs.lemmas.Bool.{false_from_ne_true, both_ways, eqb-true}
 use Rattle.std.proofs.lemmas.List.Elements.{All-weaker, recursion_from_All}
@@ -9,7 +10,7 @@ use Rattle.olap_meaning.specs.declared.cells.Who.{Who}
 use Rattle.olap_meaning.specs.declared.regions.Region.{Region}
 use Rattle.olap_meaning.specs.declared.tables.Row.{Row}
 use Rattle.olap_meaning.specs.Covering.{among}
-use Rattle.olap_meaning.specs.History.{Done, Load, flying, load_at, load_version, rows_of, shutting}
+use Rattle.olap_meaning.specs.History.{Done, Entry, Load, flying, load_at, load_version, rows_of, shutting}
 use Rattle.olap_meaning.specs.Legal.{IsLegalEnd, Legal}
 use Rattle.olap_meaning.proofs.Versions.{rows_stay}
 use Rattle.fact_versions.specs.Facts.{FactsOf}
@@ -17,14 +18,14 @@ use Rattle.history_core.specs.History.{HistoryOf}
 use Rattle.history_core.specs.Cache.{CacheOf}
 use Rattle.agg_tables.specs.Tables.{TableOf}
 use Rattle.cache_flush.specs.Loads.{KeptOf}
-use Rattle.cache_flush.specs.Flights.{FlightOf, flight_at}
+use Rattle.load_sharing.specs.Flights.{FlightOf, flight_at}
 use Rattle.cache_manager.specs.Jobs.{IsOwn, IsOwnBody}
-use Rattle.cache_manager.specs.Kept.{IsFlight, IsKept, IsManager}
+use Rattle.cache_manager.specs.Kept.{IsFlight, IsKept, IsManager, headers_of}
 use Rattle.segment_body.specs.BodyOf.{BodyOf}
 use Rattle.segment_header.specs.Headers.{is_header}
 use Rattle.fact_reader.specs.BodyRows.{HoldsRows}
 use Rattle.cache_manager.proofs.Pushes.{kept_landed, kept_new, load_on, recorded, shutting_on}
-use Rattle.cache_manager.proofs.Managing.{flight_found, length-others, numbers_kept}
+use Rattle.cache_manager.proofs.Managing.{flight_found, length-others, numbers_kept, others, place_of_one}
 use Rattle.cache_manager.proofs.Own.{own_ends, own_flies}
 
 -- a history as the cache of its setting and entries
@@ -68,7 +69,7 @@ pub keeps :
 keeps cache history who j v body shut is legal own at formed told = record {
   load = here.load;
   started = load_on history.entries (Done who j) j here.load here.flies.started;
-  delivered = kept_new history.setting history.entries who j legal;
+  delivered = kept_new history.setting history.entries who j legal (own_flies (cache_of history) who j here.load legal here.flies);
   version =
       let both : Some here.load.version ≡ Some v = sym (ap (option_map (λ (l : Load). l.version)) here.flies.started) ∙ at in
       cc;
@@ -101,3 +102,32 @@ headers_own cache history who j body is own flights all = recursion_from_All (λ
         let both : Some flies.load ≡ Some here.load = sym flies.started ∙ ap (load_at history.entries) (eqb-true f.load j at) ∙ here.flies.started in
         let one : flies.load ≡ here.load = cc in
         flies.header ∙ ap (λ (load : Load). load.header) one ∙ sym holds_here.own_header
+
+-- all that is in flight of a number has one header
+pub headers_alike : (entries : List Entry) (j : ℕ) (flights : List FlightOf) → All (IsFlight entries) flights → (f : FlightOf) → IsFlight entries f → f.load ≡ j → AllByRecursion (λ g. (g.load == j) ≡ true → g.header ≡ f.header) flights
+headers_alike entries j flights all f is number = recursion_from_All (λ g. (g.load == j) ≡ true → g.header ≡ f.header) flights (All-weaker (IsFlight entries) (λ g. (g.load == j) ≡ true → g.header ≡ f.header) same flights all)
+  where
+    same : (g : FlightOf) → IsFlight entries g → (g.load == j) ≡ true → g.header ≡ f.header
+    same g flies at =
+        let both : Some flies.load ≡ Some is.load = sym flies.started ∙ ap (load_at entries) (eqb-true g.load j at ∙ sym number) ∙ is.started in
+        let one : flies.load ≡ is.load = cc in
+        flies.header ∙ ap (λ (load : Load). load.header) one ∙ sym is.header
+
+-- the header of a load in flight is there
+pub header_there : (entries : List Entry) (j : ℕ) (flights : List FlightOf) → All (IsFlight entries) flights → among (map (λ f. f.load) flights) j ≡ true → (header : Option (Bor Header)) → option_copied header ≡ option_map (λ f. f.header) (flight_at flights j) → IsSome header
+header_there entries j flights all there header told = let found = flight_found entries j flights all there in some header found.0.header (told ∙ ap (option_map (λ (f : FlightOf). f.header)) found.1)
+  where
+    some : (o : Option (Bor Header)) (h : Header) → option_copied o ≡ Some h → IsSome o
+    some None h is = absurd (cc)
+    some (Some r) h is = refl
+
+-- a load in flight has a place of its header
+pub place_in_flight :
+    (entries : List Entry) (j : ℕ) (flights : List FlightOf) → All (IsFlight entries) flights → among (map (λ f. f.load) flights) j ≡ true → (header : Option (Bor Header)) → option_copied header ≡ option_map (λ f. f.header) (flight_at flights j)
+    → (r : Bor Header) → header ≡ Some r → (front : List FlightOf) × (rest : List FlightOf) × (headers_of flights ≡ headers_of front ++ r.now ∷ headers_of rest) × (others j flights ≡ others j (front ++ rest))
+place_in_flight entries j flights all there header told r is =
+    let found = flight_found entries j flights all there in
+    let both : ◌≡◌ {A = Option Header} (Some r.now) (Some found.0.header) = ap option_copied (sym is) ∙ told ∙ ap (option_map (λ (f : FlightOf). f.header)) found.1 in
+    let one : found.0.header ≡ r.now = cc in
+    place_of_one j r.now flights
+    (subst (λ (h : Header). AllByRecursion (λ g. (g.load == j) ≡ true → g.header ≡ h) flights) one (headers_alike entries j flights all found.0 found.2 found.3)) there

@@ -1,12 +1,12 @@
--- Jobs that are out, while an entry is added to the history; and the numbers of loads.
-use Rattle.std.proofs.Common.{◌≡◌, refl, sym, ◌∙◌, ap, subst, ℕ, zero, suc, ◌<◌, List, [], ◌∷◌, ◌++◌, map, Bool, true, false, ◌==◌, inl, inr, arith, All}
+-- Jobs that are out, while entries are added to the history.
+use Rattle.std.proofs.Common.{◌≡◌, refl, sym, ◌∙◌, ap, subst, ℕ, List, [], ◌∷◌, ◌++◌, false, ◌||◌}
 use Rattle.std.specs.List.{list_any}
-use Rattle.std.proofs.lemmas.Bool.{and_from, both_ways, eqb-true, eq-eqb, false_from_ne_true, not_from_false, or_cases, or_left, or_right}
-use Rattle.std.proofs.lemmas.List.{append-nil}
-use Rattle.std.proofs.lemmas.List.Elements.{All-cons, All-head, All-nil, All-tail, filter-append}
+use Rattle.std.proofs.lemmas.Bool.{both_ways, false_from_ne_true, or_from, or_left, or_right}
+use Rattle.std.proofs.lemmas.List.{append-nil, append_assoc}
+use Rattle.std.proofs.lemmas.List.Elements.{filter-append}
+use Rattle.std.proofs.lemmas.List.Folds.{list_any-append}
 use Rattle.olap_meaning.specs.declared.cells.Who.{Who}
 use Rattle.olap_meaning.specs.declared.tables.Setting.{Setting}
-use Rattle.olap_meaning.specs.Covering.{among}
 use Rattle.olap_meaning.specs.History.{Entry, ends, load_at, rows_of}
 use Rattle.olap_meaning.specs.Legal.{Legal}
 use Rattle.olap_meaning.specs.declared.cells.Header.{Header}
@@ -16,14 +16,14 @@ use Rattle.fact_reader.specs.BodyRows.{HoldsRows, rows_in}
 use Rattle.load_costs.specs.Costs.{cost, reads}
 use Rattle.load_costs.proofs.CostFacts.{cost_on, reads_on}
 use Rattle.olap_meaning.specs.declared.tables.Catalog.{Catalog}
+use Rattle.olap_meaning.proofs.Steps.{prefixes_are_legal}
 use Rattle.olap_meaning.proofs.Versions.{rows_stay}
 use Rattle.segment_load.specs.Loads.{JobOf}
 use Rattle.history_core.specs.Cache.{CacheOf}
 use Rattle.cache_manager.specs.Jobs.{IsJobOf, IsOwnBody}
+use Rattle.cache_manager.specs.Laws.{JobsStay}
 use Rattle.history_core.specs.Seats.{entries_of, is_of_seat}
-use Rattle.history_core.specs.Groups.{numbers_from}
-use Rattle.cache_manager.specs.Runs.{apart}
-use Rattle.cache_manager.proofs.Pushes.{any_none, load_on, recorded}
+use Rattle.cache_manager.proofs.Pushes.{load_on, recorded}
 
 -- what a job has come to, which holds the rows of its snapshot, is the body of an own load
 pub own_body : (cache : CacheOf) (job : JobOf) (body : BodyOf) → IsJobOf cache job → HoldsRows job.catalog job.header (rows_in job.snapshot) body → IsOwnBody cache job.who job.load body
@@ -36,18 +36,15 @@ own_body cache job body is holds = record {
 }
 
 module _ (before after : CacheOf) (entry : Entry) (same : after.setting ≡ before.setting) (grown : after.entries ≡ before.entries ++ entry ∷ []) (legal : Legal before.setting before.entries) where
-  unended_on : (who : Who) (j : ℕ) → ends j entry ≡ false → list_any (ends j) (entries_of before.entries who.seat) ≡ false → list_any (ends j) (entries_of after.entries who.seat) ≡ false
+  unended_on : (who : Who) (j : ℕ) → list_any (ends j) (entries_of (entry ∷ []) who.seat) ≡ false → list_any (ends j) (entries_of before.entries who.seat) ≡ false → list_any (ends j) (entries_of after.entries who.seat) ≡ false
   unended_on who j other none =
       ap (λ (es : List Entry). list_any (ends j) (entries_of es who.seat)) grown
       ∙ ap (list_any (ends j)) (filter-append (is_of_seat who.seat) before.entries (entry ∷ []))
-      ∙ by (is_of_seat who.seat entry) refl
-    where
-      by : (b : Bool) → is_of_seat who.seat entry ≡ b → list_any (ends j) (entries_of before.entries who.seat ++ entries_of (entry ∷ []) who.seat) ≡ false
-      by true e = rw e (any_none (ends j) (entries_of before.entries who.seat) entry none other)
-      by false e = rw (e, append-nil (entries_of before.entries who.seat)) none
+      ∙ list_any-append (ends j) (entries_of before.entries who.seat) (entries_of (entry ∷ []) who.seat)
+      ∙ or_from (list_any (ends j) (entries_of before.entries who.seat)) (list_any (ends j) (entries_of (entry ∷ []) who.seat)) none other
 
-  -- a job stays one of the cache's, where the entry does not end its load
-  job_stays : (job : JobOf) → ends job.load entry ≡ false → IsJobOf before job → IsJobOf after job
+  -- a job stays one of the cache's, where the entry is none of its seat that ends its load
+  pub job_stays : (job : JobOf) → list_any (ends job.load) (entries_of (entry ∷ []) job.who.seat) ≡ false → IsJobOf before job → IsJobOf after job
   job_stays job other is =
       let rows : rows_of after.entries is.load.header.cube is.load.version ≡ rows_of before.entries is.load.header.cube is.load.version =
       ap (λ (es : List Entry). rows_of es is.load.header.cube is.load.version) grown
@@ -73,29 +70,15 @@ module _ (before after : CacheOf) (entry : Entry) (same : after.setting ≡ befo
             ∙ ap (λ (s : Setting). cost s.catalog after.entries job.load) (sym same);
       }
 
-  -- and so do jobs, where it ends none of their loads
-  pub jobs_stay : (jobs : List JobOf) → All (λ job. ends job.load entry ≡ false) jobs → All (IsJobOf before) jobs → All (IsJobOf after) jobs
-  jobs_stay [] others all = All-nil (IsJobOf after)
-  jobs_stay (job ∷ jobs) others all =
-      All-cons (IsJobOf after) job jobs (job_stays job (All-head (λ j. ends j.load entry ≡ false) job jobs others) (All-head (IsJobOf before) job jobs all))
-      (jobs_stay jobs (All-tail (λ j. ends j.load entry ≡ false) job jobs others) (All-tail (IsJobOf before) job jobs all))
-
--- the other jobs have other loads, where a load is not among theirs
-pub other_loads : (v : ℕ) (jobs : List JobOf) → among (map (λ job. job.load) jobs) v ≡ false → All (λ job. (v == job.load) ≡ false) jobs
-other_loads v [] none = All-nil (λ job. (v == job.load) ≡ false)
-other_loads v (x ∷ xs) none =
-    All-cons (λ job. (v == job.load) ≡ false) x xs
-    (false_from_ne_true (v == x.load) (λ h. both_ways _ none (or_left (x.load == v) (among (map (λ job. job.load) xs) v) (eq-eqb x.load v (sym (eqb-true v x.load h))))))
-    (other_loads v xs (false_from_ne_true _ (λ h. both_ways _ none (or_right (x.load == v) (among (map (λ job. job.load) xs) v) h))))
-
-above_numbers : (v first count : ℕ) → v < first → among (numbers_from first count) v ≡ false
-above_numbers v first zero l = refl
-above_numbers v first (suc count) l = false_from_ne_true _ (λ h. elim (or_cases (first == v) (among (numbers_from (suc first) count) v) h) [
-  | inl here ↦ let e : first ≡ v = eqb-true first v here in omega (arith, e, l)
-  | inr there ↦ both_ways _ (above_numbers v (suc first) count (omega (arith, l))) there
-])
-
--- numbers from one on are all different
-pub apart_numbers : (first count : ℕ) → apart (numbers_from first count) ≡ true
-apart_numbers first zero = refl
-apart_numbers first (suc count) = and_from _ _ (not_from_false _ (above_numbers first (suc first) count (omega arith))) (apart_numbers (suc first) count)
+-- a job stays over many entries of which none of its seat ends its load
+pub job_stays_on : JobsStay
+job_stays_on cache job [] legal none is = rw (append-nil cache.entries) is
+job_stays_on cache job (e ∷ es) legal none is =
+    let parted : (list_any (ends job.load) (entries_of (e ∷ []) job.who.seat) || list_any (ends job.load) (entries_of es job.who.seat)) ≡ false =
+    sym (list_any-append (ends job.load) (entries_of (e ∷ []) job.who.seat) (entries_of es job.who.seat)) ∙ ap (list_any (ends job.load)) (sym (filter-append (is_of_seat job.who.seat) (e ∷ []) es)) ∙ none in
+    let here : list_any (ends job.load) (entries_of (e ∷ []) job.who.seat) ≡ false = false_from_ne_true _ (λ h. both_ways _ parted (or_left (list_any (ends job.load) (entries_of (e ∷ []) job.who.seat)) (list_any (ends job.load) (entries_of es job.who.seat)) h)) in
+    let rest : list_any (ends job.load) (entries_of es job.who.seat) ≡ false = false_from_ne_true _ (λ h. both_ways _ parted (or_right (list_any (ends job.load) (entries_of (e ∷ []) job.who.seat)) (list_any (ends job.load) (entries_of es job.who.seat)) h)) in
+    let next : CacheOf = record { setting = cache.setting; entries = cache.entries ++ e ∷ [] } in
+    let whole : cache.entries ++ e ∷ es ≡ next.entries ++ es = sym (append_assoc cache.entries (e ∷ []) es) in
+    let first : IsJobOf next job = job_stays cache next e refl refl (prefixes_are_legal cache.setting cache.entries (e ∷ es) legal) job here is in
+    subst (λ (entries : List Entry). IsJobOf (record { setting = cache.setting; entries = entries }) job) (sym whole) (job_stays_on next job es (subst (Legal cache.setting) whole legal) rest first)

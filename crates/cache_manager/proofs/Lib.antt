@@ -25,4 +25,8 @@ pub mod Ready
 pub mod JobFacts
 pub mod Offering
 pub mod Installing
-pub mod Running
+pub mod Firsts
+pub mod Budgeting
+pub mod Evicting
+pub mod Awaiting
+pub mod Outcomes

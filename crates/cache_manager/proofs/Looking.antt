@@ -1,29 +1,27 @@
 -- The loads that a look starts.
-use Rattle.std.proofs.Common.{◌≡◌, refl, sym, ap, subst, ℕ, suc, ◌+◌, ◌≤◌, List, [], ◌∷◌, ◌++◌, length, map, Bool, true, false, not, ◌&&◌, None, filter, arith, All}
+use Rattle.std.proofs.Common.{◌≡◌, refl, sym, ap, subst, ℕ, suc, ◌+◌, ◌≤◌, List, [], ◌∷◌, ◌++◌, length, map, Bool, true, false, not, ◌&&◌, ◌<◌, Option, Some, None, is_some, filter, arith, All, Contains}
 use Rattle.std.specs.List.{list_all}
-use Rattle.std.proofs.lemmas.Bool.{and_from, and_parts, both_ways, false_from_ne_true}
+use Rattle.std.proofs.lemmas.Bool.{and_from, and_parts, both_ways, false_from_ne_true, not-true}
 use Rattle.std.proofs.lemmas.List.{length-append, length-map}
-use Rattle.std.proofs.lemmas.List.Elements.{All-cons, All-head, All-nil, All-tail}
+use Rattle.std.proofs.lemmas.List.Elements.{All-cons, All-contains, All-contains_itself, All-filter, All-head, All-nil, All-tail, filter_passes}
 use Rattle.olap_meaning.specs.declared.cells.Cell.{Cell}
 use Rattle.olap_meaning.specs.declared.cells.CellSource.{CellSource}
 use Rattle.olap_meaning.specs.declared.cells.Header.{Header}
 use Rattle.olap_meaning.specs.declared.cells.Who.{Who}
 use Rattle.olap_meaning.specs.declared.tables.Setting.{Setting}
-use Rattle.olap_meaning.specs.History.{Entry, awaited, awaited_load, flushed_after, flying, load_just_covers}
+use Rattle.olap_meaning.specs.History.{Entry, awaited_load}
 use Rattle.olap_meaning.specs.Legal.{IsSource, Legal, has_source, is_cell}
 use Rattle.olap_meaning.proofs.RolledSources.{sources_are_decided}
-use Rattle.olap_meaning.proofs.Sources.{none_latest}
 use Rattle.fact_versions.specs.Facts.{FactsOf}
 use Rattle.agg_tables.specs.Tables.{TableOf}
 use Rattle.cache_flush.specs.Loads.{KeptOf}
-use Rattle.cache_flush.specs.Flights.{FlightOf}
+use Rattle.load_sharing.specs.Flights.{FlightOf}
 use Rattle.cache_manager.specs.declared.starts.Planned.{Planned}
 use Rattle.history_core.specs.Cache.{CacheOf}
-use Rattle.history_core.specs.Groups.{firsts, wanting}
+use Rattle.history_core.specs.Groups.{firsts, wanted_of, wanting}
 use Rattle.history_core.specs.Answers.{HasSource, SomeWants}
 use Rattle.cache_manager.specs.Jobs.{IsJobOf}
-use Rattle.history_core.specs.Seats.{NoneFlies}
-use Rattle.cache_manager.specs.Kept.{IsFlight, IsManager, headers_of}
+use Rattle.cache_manager.specs.Kept.{IsFlight, IsManager, closing, headers_of}
 use Rattle.cache_manager.specs.Plans.{AreLegalSteps, AreNew, ArePrepared, flight_for}
 use Rattle.segment_header.specs.Widening.{Allowing}
 use Rattle.cache_manager.proofs.Grouping.{contains_at}
@@ -31,14 +29,26 @@ use Rattle.cache_manager.proofs.Managing.{flights_below}
 use Rattle.cache_manager.proofs.Planning.{all_jobs, all_started, anywhere, header_of, planned_new, planned_steps, prepared_headers, step_of}
 use Rattle.cache_manager.proofs.Wanting.{steps_legal}
 
--- where no load flies, none is awaited
-pub idle_unawaited : (entries : List Entry) (cell : Cell) → NoneFlies entries → awaited_load entries cell ≡ None
-idle_unawaited entries cell none = none_latest (length entries) (λ j. awaited entries j cell)
-    (λ j l. false_from_ne_true _ (λ h. both_ways _ (none j) (and_parts (flying entries j) (load_just_covers entries j cell) (and_parts (flying entries j && load_just_covers entries j cell) (not (flushed_after entries j cell)) h).0).0))
+-- there is none
+pub none_there : {A : Type 0} (o : Option A) → is_some o ≡ false → o ≡ None
+none_there None h = refl
+none_there (Some x) h = absurd (cc)
+
+-- the first of some cells
+a_first : (cells : List Cell) → 0 < length cells → (cell : Cell) × Contains cells cell
+a_first [] some = absurd (omega (arith, some))
+a_first (cell ∷ cells) some = (cell, (0, omega arith, refl))
+
+-- a cell that a test keeps is one of all, and passes
+pub kept_cells : (keep : Cell → Bool) (cells : List Cell) (cell : Cell) → Contains (filter keep cells) cell → Contains cells cell × (keep cell ≡ true)
+kept_cells keep cells cell held = (
+  All-contains (Contains cells) (filter keep cells) cell (All-filter keep (Contains cells) cells (All-contains_itself cells)) held,
+  All-contains (λ c. keep c ≡ true) (filter keep cells) cell (filter_passes keep cells) held,
+)
 
 -- other room
 pub refit :
-    (setting : Setting) (entries : List Entry) (spare left : ℕ) (facts : FactsOf) (held : List KeptOf) (places now : List Header → Type 0) (flights : List FlightOf) (tables : List TableOf) → IsManager setting entries spare facts held places flights tables → length flights ≤ left → now (headers_of flights)
+    (setting : Setting) (entries : List Entry) (spare left : ℕ) (facts : FactsOf) (held : List KeptOf) (places now : List Header → Type 0) (flights : List FlightOf) (tables : List TableOf) → IsManager setting entries spare facts held places flights tables → closing flights held ≤ left → now (headers_of flights)
     → IsManager setting entries left facts held now flights tables
 refit setting entries spare left facts held places now flights tables is room fit = record {
   facts_are = is.facts_are;
@@ -56,11 +66,11 @@ headers_started [] [] = refl
 headers_started [] (p ∷ ps) = ap (λ (hs : List Header). p.flight.header ∷ hs) (headers_started [] ps)
 headers_started (f ∷ fs) plans = ap (λ (hs : List Header). f.header ∷ hs) (headers_started fs plans)
 
-module _ (allowing : Allowing) (cache : CacheOf) (who : Who) (wanted : List Cell) (plans : List Planned) (legal : Legal cache.setting cache.entries) (known : list_all (is_cell cache.setting.catalog) wanted ≡ true) (unserved : list_all (λ cell. not (has_source cache.setting.catalog cache.entries cell)) wanted ≡ true) (idle : NoneFlies cache.entries) (are : ArePrepared allowing cache who wanted (length cache.entries + 1) (firsts [] wanted) plans) where
+module _ (allowing : Allowing) (cache : CacheOf) (who : Who) (wanted : List Cell) (plans : List Planned) (legal : Legal cache.setting cache.entries) (known : list_all (is_cell cache.setting.catalog) wanted ≡ true) (unserved : list_all (λ cell. not (has_source cache.setting.catalog cache.entries cell)) wanted ≡ true) (unawaited : list_all (λ cell. not (is_some (awaited_load cache.entries cell))) wanted ≡ true) (are : ArePrepared allowing cache who wanted (length cache.entries + 1) (firsts [] wanted) plans) where
   pub all_legal : AreLegalSteps cache.setting cache.entries (map step_of plans)
   all_legal =
       subst (λ (steps : List Entry). AreLegalSteps cache.setting cache.entries steps) (sym (planned_steps allowing cache who wanted (length cache.entries + 1) (firsts [] wanted) plans are))
-      (steps_legal allowing cache.setting cache.entries who wanted cache.entries [] wanted (map header_of plans) legal (λ cube. refl) (λ cell here none apart. (none, idle_unawaited cache.entries cell idle)) known unserved (λ k c at. contains_at wanted k c at)
+      (steps_legal allowing cache.setting cache.entries who wanted cache.entries [] wanted (map header_of plans) legal (λ cube. refl) (λ cell here none waits apart. (none, waits)) known unserved unawaited (λ k c at. contains_at wanted k c at)
       (prepared_headers allowing cache who wanted (length cache.entries + 1) (firsts [] wanted) plans are))
 
   pub jobs_started : All (IsJobOf (record { setting = cache.setting; entries = cache.entries ++ map step_of plans })) (map (λ p. p.job) plans)
@@ -68,7 +78,7 @@ module _ (allowing : Allowing) (cache : CacheOf) (who : Who) (wanted : List Cell
       all_jobs allowing cache who wanted plans cache.entries [] (length cache.entries + 1) (firsts [] wanted) legal refl all_legal are (omega arith) (λ cube. refl) (λ cube. refl) (All-nil (IsJobOf (record { setting = cache.setting; entries = cache.entries })))
 
   pub manager_started :
-      (facts : FactsOf) (held : List KeptOf) (spare left : ℕ) (places now : List Header → Type 0) (flights : List FlightOf) (tables : List TableOf) → IsManager cache.setting cache.entries spare facts held places flights tables → length flights + length plans ≤ left
+      (facts : FactsOf) (held : List KeptOf) (spare left : ℕ) (places now : List Header → Type 0) (flights : List FlightOf) (tables : List TableOf) → IsManager cache.setting cache.entries spare facts held places flights tables → closing flights held + length plans + length plans ≤ left
       → now (headers_of flights ++ map (λ p. p.flight.header) plans)
       → IsManager cache.setting (cache.entries ++ map step_of plans) left facts held now (flights ++ map (λ p. flight_for p.flight) plans) tables
   manager_started facts held spare left places now flights tables is room fit =
@@ -109,13 +119,17 @@ kept_pass keep (cell ∷ cells) = by (keep cell) refl (kept_pass keep cells)
     by true e rest = rw e (and_from _ _ e rest)
     by false e rest = rw e rest
 
--- where cells want a source, some cell has none
-pub some_wants : (cache : CacheOf) (cells : List Cell) → (length (wanting cache.setting.catalog cache.entries cells) ≡ 0 → ⊥) → SomeWants cache cells
-some_wants cache [] many = absurd (many refl)
-some_wants cache (cell ∷ cells) many = by (has_source cache.setting.catalog cache.entries cell) refl (some_wants cache cells)
-  where
-    by : (b : Bool) → has_source cache.setting.catalog cache.entries cell ≡ b → ((length (wanting cache.setting.catalog cache.entries cells) ≡ 0 → ⊥) → SomeWants cache cells) → SomeWants cache (cell ∷ cells)
-    by true e rest =
-        let later = rest (λ few. many (rw e few)) in
-        (later.0, (suc later.1.0, omega (arith, later.1.1), later.1.2), later.2)
-    by false e rest = (cell, (0, omega arith, refl), e)
+-- where some cells have no source, one of them has none
+pub some_unserved : (cache : CacheOf) (cells : List Cell) → 0 < length (wanting cache.setting.catalog cache.entries cells) → (cell : Cell) × Contains cells cell × (has_source cache.setting.catalog cache.entries cell ≡ false)
+some_unserved cache cells many =
+    let cell = a_first (wanting cache.setting.catalog cache.entries cells) many in
+    let held = kept_cells (λ cell. not (has_source cache.setting.catalog cache.entries cell)) cells cell.0 cell.1 in
+    (cell.0, held.0, not-true (has_source cache.setting.catalog cache.entries cell.0) held.1)
+
+-- where some of these await no load in flight, some cell wants a load
+pub some_wants : (cache : CacheOf) (cells : List Cell) → 0 < length (wanted_of cache cells) → SomeWants cache cells
+some_wants cache cells many =
+    let cell = a_first (wanted_of cache cells) many in
+    let free = kept_cells (λ cell. not (is_some (awaited_load cache.entries cell))) (wanting cache.setting.catalog cache.entries cells) cell.0 cell.1 in
+    let held = kept_cells (λ cell. not (has_source cache.setting.catalog cache.entries cell)) cells cell.0 free.0 in
+    (cell.0, held.0, not-true (has_source cache.setting.catalog cache.entries cell.0) held.1, none_there (awaited_load cache.entries cell.0) (not-true (is_some (awaited_load cache.entries cell.0)) free.1))

@@ -19,17 +19,17 @@ use Rattle.olap_meaning.proofs.Versions.{rows_stay}
 use Rattle.fact_reader.specs.BodyRows.{HoldsRows}
 use Rattle.cache_flush.specs.Loads as of_loads
 use Rattle.cache_flush.specs.Loads.{KeptOf}
-use Rattle.cache_flush.specs.Flights as of_flights
-use Rattle.cache_flush.specs.Flights.{FlightOf, numbers_of}
+use Rattle.load_sharing.specs.Flights as of_flights
+use Rattle.load_sharing.specs.Flights.{FlightOf, numbers_of}
 use Rattle.cache_manager.specs.Kept.{IsKept, IsFlight, headers_of}
 use Rattle.cache_manager.proofs.Pushes.{flying_back, flying_on, kept_back, kept_stays, load_on, load_within, recorded}
 
 -- nothing is shut off by an entry that flushes nothing
-nothing_more : (shut : List Region) (header : Header) (entry : Entry) → flushed entry ≡ None → shut ≡ shut ++ concerning header (option_to_list (flushed entry))
+pub nothing_more : (shut : List Region) (header : Header) (entry : Entry) → flushed entry ≡ None → shut ≡ shut ++ concerning header (option_to_list (flushed entry))
 nothing_more shut header entry none = sym (ap (λ (o : Option Region). shut ++ concerning header (option_to_list o)) none ∙ append-nil shut)
 
 -- a kept load stays one, with the region that an entry flushes
-kept_grown :
+pub kept_grown :
     (setting : Setting) (entries : List Entry) (entry : Entry) (k : KeptOf) (shut : List Region) → Legal setting entries → evicts k.load entry ≡ false → shut ≡ k.shut ++ concerning k.body.header (option_to_list (flushed entry)) → IsKept setting.catalog entries k
     → IsKept setting.catalog (entries ++ entry ∷ []) (record k { shut = shut })
 kept_grown setting entries entry k shut legal stays more is = record {

@@ -1,7 +1,7 @@
 -- A manager after each of its calls.
 use Rattle.std.proofs.Common.{◌≡◌, refl, sym, ◌∙◌, ap, subst, ℕ, suc, ◌+◌, ◌<◌, ◌≤◌, List, [], ◌∷◌, ◌++◌, length, map, Some, true, arith, inl, inr}
 use Rattle.std.proofs.lemmas.Bool.{eqb-true}
-use Rattle.std.proofs.lemmas.List.{length-append, length-map, map-append}
+use Rattle.std.proofs.lemmas.List.{length-append, length-map, length_push, map-append}
 use Rattle.std.proofs.lemmas.List.Elements.{All-push}
 use Rattle.olap_meaning.specs.declared.cells.CellSource.{CellSource}
 use Rattle.olap_meaning.specs.declared.cells.Header.{Header}
@@ -23,9 +23,9 @@ use Rattle.agg_tables.specs.Tables.{TableOf, built_over}
 use Rattle.installed_tables.specs.Installed.{put}
 use Rattle.installed_tables.proofs.BuiltFacts.{tables_built_more}
 use Rattle.load_costs.proofs.BuiltFacts.{tables_stay}
-use Rattle.cache_flush.specs.Flights as of_flights
-use Rattle.cache_flush.specs.Flights.{FlightOf}
-use Rattle.cache_manager.specs.Kept.{IsFlight, IsKept, IsManager, headers_of}
+use Rattle.load_sharing.specs.Flights as of_flights
+use Rattle.load_sharing.specs.Flights.{FlightOf}
+use Rattle.cache_manager.specs.Kept.{IsFlight, IsKept, IsManager, closing, headers_of}
 use Rattle.cache_manager.proofs.Facts.{facts_more, facts_on}
 use Rattle.cache_manager.proofs.Managing.{all_flights_on, all_flights_shut, all_kept_on, all_kept_shut, among_last, flight_headers_shut, flight_numbers_shut, flights_all_but, flights_all_on, flights_but, kept_all_on, kept_numbers_shut, length-others, others}
 use Rattle.cache_manager.proofs.Pushes.{flying_back, kept_back, load_last, starts_flying}
@@ -33,10 +33,12 @@ use Rattle.cache_manager.proofs.Pushes.{flying_back, kept_back, load_last, start
 module _ (setting : Setting) (entries : List Entry) (facts : FactsOf) (held : List KeptOf) (places : List Header → Type 0) (flights : List FlightOf) (tables : List TableOf) (legal : Legal setting entries) where
   -- a load is given up
   pub dropped :
-      (spare left : ℕ) (who : Who) (j : ℕ) → IsManager setting entries spare facts held places flights tables → flying entries j ≡ true → left + 1 ≡ spare → places (headers_of (others j flights))
-      → IsManager setting (entries ++ Drop who j ∷ []) left facts held places (others j flights) tables
-  dropped spare left who j is flies room fit =
+      (spare left : ℕ) (now : List Header → Type 0) (who : Who) (j : ℕ) → IsManager setting entries spare facts held places flights tables → flying entries j ≡ true → left + 1 ≡ spare → now (headers_of (others j flights))
+      → IsManager setting (entries ++ Drop who j ∷ []) left facts held now (others j flights) tables
+  dropped spare left now who j is flies room fit =
       let gone = length-others j flights (is.flights_all j flies) in
+      let before : length flights + length flights + length held ≤ spare = is.ends_fit in
+      let after : length (others j flights) + length (others j flights) + length held ≤ left = omega (arith, gone, before, room) in
       record {
         facts_are = facts_on setting entries facts (Drop who j) (λ cube. refl) refl is.facts_are;
         kept_are = all_kept_on setting entries (Drop who j) held (λ i. refl) refl legal is.kept_are;
@@ -44,7 +46,7 @@ module _ (setting : Setting) (entries : List Entry) (facts : FactsOf) (held : Li
         flights_are = flights_but j entries (Drop who j) flights (λ i. refl) refl is.flights_are;
         flights_all = flights_all_but j entries (Drop who j) flights (λ i. refl) refl is.flights_all;
         tables_are = is.tables_are ∙ sym (tables_stay setting entries (Drop who j) legal refl);
-        ends_fit = omega (arith, gone, is.ends_fit, room);
+        ends_fit = after;
         places_fit = fit;
       }
 
@@ -54,6 +56,8 @@ module _ (setting : Setting) (entries : List Entry) (facts : FactsOf) (held : Li
       → IsKept setting.catalog (entries ++ Done who j ∷ []) k → IsManager setting (entries ++ Done who j ∷ []) left facts (held ++ k ∷ []) now (others j flights) tables
   delivered spare left now who j k is flies room fit same keeps =
       let gone = length-others j flights (is.flights_all j flies) in
+      let before : length flights + length flights + length held ≤ spare = is.ends_fit in
+      let after : length (others j flights) + length (others j flights) + length (held ++ k ∷ []) ≤ left = omega (arith, gone, before, room, length_push held k) in
       record {
         facts_are = facts_on setting entries facts (Done who j) (λ cube. refl) refl is.facts_are;
         kept_are = All-push (IsKept setting.catalog (entries ++ Done who j ∷ [])) held k (all_kept_on setting entries (Done who j) held (λ i. refl) refl legal is.kept_are) keeps;
@@ -65,12 +69,12 @@ module _ (setting : Setting) (entries : List Entry) (facts : FactsOf) (held : Li
         flights_are = flights_but j entries (Done who j) flights (λ i. refl) refl is.flights_are;
         flights_all = flights_all_but j entries (Done who j) flights (λ i. refl) refl is.flights_all;
         tables_are = is.tables_are ∙ sym (tables_stay setting entries (Done who j) legal refl);
-        ends_fit = omega (arith, gone, is.ends_fit, room);
+        ends_fit = after;
         places_fit = fit;
       }
 
   -- cells are answered
-  pub answered : (spare left : ℕ) (who : Who) (cells : List CellSource) → IsManager setting entries spare facts held places flights tables → length flights ≤ left → IsManager setting (entries ++ Answer who cells ∷ []) left facts held places flights tables
+  pub answered : (spare left : ℕ) (who : Who) (cells : List CellSource) → IsManager setting entries spare facts held places flights tables → closing flights held ≤ left → IsManager setting (entries ++ Answer who cells ∷ []) left facts held places flights tables
   answered spare left who cells is room = record {
     facts_are = facts_on setting entries facts (Answer who cells) (λ cube. refl) refl is.facts_are;
     kept_are = all_kept_on setting entries (Answer who cells) held (λ i. refl) refl legal is.kept_are;
@@ -83,7 +87,7 @@ module _ (setting : Setting) (entries : List Entry) (facts : FactsOf) (held : Li
   }
 
   -- what is kept is shown
-  pub shown : (spare left : ℕ) (who : Who) → IsManager setting entries spare facts held places flights tables → length flights ≤ left → IsManager setting (entries ++ Saw who ∷ []) left facts held places flights tables
+  pub shown : (spare left : ℕ) (who : Who) → IsManager setting entries spare facts held places flights tables → closing flights held ≤ left → IsManager setting (entries ++ Saw who ∷ []) left facts held places flights tables
   shown spare left who is room = record {
     facts_are = facts_on setting entries facts (Saw who) (λ cube. refl) refl is.facts_are;
     kept_are = all_kept_on setting entries (Saw who) held (λ i. refl) refl legal is.kept_are;
@@ -97,7 +101,7 @@ module _ (setting : Setting) (entries : List Entry) (facts : FactsOf) (held : Li
 
   -- a region is flushed: what it covers is shut off in each load
   pub flushed :
-      (spare left : ℕ) (now : List Header → Type 0) (who : Who) (region : Region) → IsManager setting entries spare facts held places flights tables → length flights ≤ left → ((headers : List Header) → places headers → now headers)
+      (spare left : ℕ) (now : List Header → Type 0) (who : Who) (region : Region) → IsManager setting entries spare facts held places flights tables → closing flights held ≤ left → ((headers : List Header) → places headers → now headers)
       → IsManager setting (entries ++ Flush who region ∷ []) left facts (map (of_loads.shut_off region) held) now (map (of_flights.shut_off region) flights) tables
   flushed spare left now who region is room on = record {
     facts_are = facts_on setting entries facts (Flush who region) (λ cube. refl) refl is.facts_are;
@@ -108,13 +112,13 @@ module _ (setting : Setting) (entries : List Entry) (facts : FactsOf) (held : Li
     flights_all = subst (λ (loads : List ℕ). (j : ℕ) → flying (entries ++ Flush who region ∷ []) j ≡ true → among loads j ≡ true) (sym (flight_numbers_shut region flights))
         (flights_all_on entries (Flush who region) (map (λ f. f.load) flights) refl is.flights_all);
     tables_are = is.tables_are ∙ sym (tables_stay setting entries (Flush who region) legal refl);
-    ends_fit = omega (arith, length-map flights (of_flights.shut_off region), room);
+    ends_fit = omega (arith, length-map flights (of_flights.shut_off region), length-map held (of_loads.shut_off region), room);
     places_fit = subst now (sym (flight_headers_shut region flights)) (on (headers_of flights) is.places_fit);
   }
 
   -- a batch is appended
   pub appended :
-      (spare left : ℕ) (who : Who) (cube v : ℕ) (batch : FactRows) → IsManager setting entries spare facts held places flights tables → length flights ≤ left → cube < length facts.cubes → is_batch setting.catalog cube batch ≡ true
+      (spare left : ℕ) (who : Who) (cube v : ℕ) (batch : FactRows) → IsManager setting entries spare facts held places flights tables → closing flights held ≤ left → cube < length facts.cubes → is_batch setting.catalog cube batch ≡ true
       → IsManager setting (entries ++ Append who cube v batch.rows ∷ []) left (with_batch facts cube batch) held places flights tables
   appended spare left who cube v batch is room known fits = record {
     facts_are = facts_more setting entries facts who cube v batch known fits is.facts_are;
@@ -129,7 +133,7 @@ module _ (setting : Setting) (entries : List Entry) (facts : FactsOf) (held : Li
 
   -- a load is started, of which no part is shut off
   pub starts :
-      (spare left : ℕ) (load : Load) (flight : FlightOf) → IsManager setting entries spare facts held places flights tables → length flights + 1 ≤ left → places (headers_of (flights ++ flight ∷ []))
+      (spare left : ℕ) (load : Load) (flight : FlightOf) → IsManager setting entries spare facts held places flights tables → closing flights held + 2 ≤ left → places (headers_of (flights ++ flight ∷ []))
       → flight ≡ record { load = suc (length entries); who = load.who; header = load.header; version = load.version; shut = [] }
       → IsManager setting (entries ++ Start load ∷ []) left facts held places (flights ++ flight ∷ []) tables
   starts spare left load flight is room fit made =
@@ -161,7 +165,7 @@ module _ (setting : Setting) (entries : List Entry) (facts : FactsOf) (held : Li
 
   -- an aggregate table is installed
   pub installs :
-      (spare left : ℕ) (who : Who) (table : TableOf) (cube : ℕ) → IsManager setting entries spare facts held places flights tables → length flights ≤ left → table_cube setting.catalog table.table ≡ Some cube → table.version ≤ version entries cube
+      (spare left : ℕ) (who : Who) (table : TableOf) (cube : ℕ) → IsManager setting entries spare facts held places flights tables → closing flights held ≤ left → table_cube setting.catalog table.table ≡ Some cube → table.version ≤ version entries cube
       → built_over setting.catalog table.table table.version (rows_of entries cube table.version) ≡ Some table
       → IsManager setting (entries ++ Agg who table.table table.version ∷ []) left facts held places flights (put table tables)
   installs spare left who table cube is room known reached own =

@@ -1,9 +1,10 @@
 -- What is prepared for some loads, and the manager and the jobs after they are started.
 use Rattle.std.proofs.Common.{◌≡◌, refl, sym, ◌∙◌, ap, subst, ℕ, suc, ◌+◌, ◌<◌, ◌≤◌, List, [], ◌∷◌, ◌++◌, append_assoc, length, map, filter, Bool, true, false, ◌==◌, inl, inr, arith, All}
+use Rattle.std.specs.Prelude.{IsTrue}
 use Rattle.std.specs.List.{AllZip, list_any}
 use Rattle.std.proofs.lemmas.Bool.{both_ways, false_from_ne_true, or_cases, or_left, or_right}
 use Rattle.std.proofs.lemmas.List.{append-nil, length_push}
-use Rattle.std.proofs.lemmas.List.Elements.{All-push, All-weaker, filter-append}
+use Rattle.std.proofs.lemmas.List.Elements.{All-cons, All-nil, All-push, All-weaker, filter-append}
 use Rattle.olap_meaning.specs.declared.cells.Cell.{Cell}
 use Rattle.olap_meaning.specs.declared.cells.Header.{Header}
 use Rattle.olap_meaning.specs.declared.cells.Who.{Who}
@@ -24,16 +25,17 @@ use Rattle.load_costs.specs.Costs.{builds, cost, reads, start_read, tables_built
 use Rattle.load_costs.proofs.CostFacts.{cost_at, cost_on, reads_at, reads_on}
 use Rattle.segment_load.specs.Loads.{JobOf}
 use Rattle.cache_flush.specs.Loads.{KeptOf}
-use Rattle.cache_flush.specs.Flights.{FlightOf}
+use Rattle.load_sharing.specs.Flights.{FlightOf}
 use Rattle.cache_manager.specs.declared.starts.Flying.{Flying}
 use Rattle.cache_manager.specs.declared.starts.Planned.{Planned}
 use Rattle.history_core.specs.Cache.{CacheOf}
 use Rattle.history_core.specs.Groups.{IsHeaderFor, alike, load_with, loads_over}
+use Rattle.segment_header.specs.Headers.{is_header}
 use Rattle.segment_header.specs.Widening.{Allowing}
 use Rattle.cache_manager.specs.Jobs.{IsJobOf, IsOwn}
 use Rattle.history_core.specs.Seats.{entries_of, is_of_seat}
 use Rattle.history_core.specs.Groups.{numbers_from}
-use Rattle.cache_manager.specs.Kept.{IsManager}
+use Rattle.cache_manager.specs.Kept.{IsManager, closing}
 use Rattle.cache_manager.specs.Plans.{AreLegalSteps, AreNew, ArePrepared, IsPrepared, flight_for}
 use Rattle.cache_manager.proofs.Managing.{among_back}
 use Rattle.cache_manager.proofs.Moves.{starts}
@@ -72,6 +74,14 @@ prepared_headers allowing cache who wanted n [] (p ∷ ps) are = absurd are
 prepared_headers allowing cache who wanted n (c ∷ cs) [] are = absurd are
 prepared_headers allowing cache who wanted n (c ∷ cs) (p ∷ ps) are = (are.0.allowed, prepared_headers allowing cache who wanted (suc n) cs ps are.1)
 
+-- the header of each load that is prepared is well formed
+pub prepared_formed :
+    (allowing : Allowing) (cache : CacheOf) (who : Who) (wanted : List Cell) (n : ℕ) (cells : List Cell) (plans : List Planned) → ArePrepared allowing cache who wanted n cells plans → All (λ p. IsTrue (is_header p.flight.header)) plans
+prepared_formed allowing cache who wanted n [] [] are = All-nil (λ p. IsTrue (is_header p.flight.header))
+prepared_formed allowing cache who wanted n [] (p ∷ ps) are = absurd are
+prepared_formed allowing cache who wanted n (c ∷ cs) [] are = absurd are
+prepared_formed allowing cache who wanted n (c ∷ cs) (p ∷ ps) are = All-cons (λ p. IsTrue (is_header p.flight.header)) p ps are.0.formed (prepared_formed allowing cache who wanted (suc n) cs ps are.1)
+
 module _ (allowing : Allowing) (cache : CacheOf) (who : Who) (wanted : List Cell) where
   abbrev load_of : Cell → Planned → Load
   load_of cell planned = load_with cache who cell planned.job.header
@@ -104,7 +114,7 @@ module _ (allowing : Allowing) (cache : CacheOf) (who : Who) (wanted : List Cell
   -- the manager after the loads are started
   pub all_started :
       (facts : FactsOf) (held : List KeptOf) (tables : List TableOf) (left : ℕ) (plans : List Planned) (entries : List Entry) (flights : List FlightOf) (n : ℕ) (cells : List Cell) → Legal cache.setting entries → AreLegalSteps cache.setting entries (map step_of plans)
-      → ArePrepared allowing cache who wanted n cells plans → n ≡ suc (length entries) → IsManager cache.setting entries left facts held anywhere flights tables → length flights + length plans ≤ left
+      → ArePrepared allowing cache who wanted n cells plans → n ≡ suc (length entries) → IsManager cache.setting entries left facts held anywhere flights tables → closing flights held + length plans + length plans ≤ left
       → IsManager cache.setting (entries ++ map step_of plans) left facts held anywhere (flights ++ map (λ p. flight_for p.flight) plans) tables
   all_started facts held tables left [] entries flights n cells legal steps are number is room = rw (append-nil entries, append-nil flights) is
   all_started facts held tables left (p ∷ ps) entries flights n [] legal steps are number is room = absurd are

@@ -1,21 +1,22 @@
 -- One more entry in a history.
-use Rattle.std.proofs.Common.{◌≡◌, refl, sym, ◌∙◌, ap, ℕ, zero, suc, ◌+◌, ◌<◌, ◌≤◌, List, [], ◌∷◌, ◌++◌, length, take_all, Bool, true, false, not, ◌||◌, ◌⊎◌, inl, inr, Option, Some, None, arith, is_some, option_and_then, option_to_list}
+use Rattle.std.proofs.Common.{◌≡◌, refl, sym, ◌∙◌, ap, subst, ℕ, zero, suc, ◌+◌, ◌<◌, ◌≤◌, List, [], ◌∷◌, ◌++◌, drop, length, take, take_all, Bool, true, false, not, ◌||◌, ◌⊎◌, inl, inr, Option, Some, None, arith, is_some, option_and_then, option_to_list}
 use Rattle.std.specs.List.{list_any}
-use Rattle.std.proofs.lemmas.Bool.{both_ways, and_parts, and_from, eq-eqb, or_cases, or_left, or_right, or_from, not-true, not_from_false, false_from_ne_true}
-use Rattle.std.proofs.lemmas.List.{append-nil}
+use Rattle.std.proofs.lemmas.Bool.{both_ways, and_parts, and_from, eq-eqb, eqb-true, or_cases, or_left, or_right, or_from, not-true, not_from_false, false_from_ne_true}
+use Rattle.std.proofs.lemmas.List.{append-nil, take-append-drop}
 use Rattle.std.proofs.lemmas.List.Folds.{list_any-append}
 use Rattle.olap_meaning.specs.declared.cells.Who.{Who}
 use Rattle.olap_meaning.specs.declared.tables.Setting.{Setting}
 use Rattle.olap_meaning.specs.declared.regions.Region.{Region}
 use Rattle.olap_meaning.specs.Covering.{concerning}
 use Rattle.olap_meaning.specs.History.{Entry, Append, Agg, Flush, Start, Done, Drop, Evict, Answer, Saw, Load, entry_at, started, load_at, delivered, delivers, ends, evicts, flushed, flying, kept, shutting, version}
-use Rattle.olap_meaning.specs.Legal.{Legal}
-use Rattle.olap_meaning.proofs.Positions.{get_last, get_push, entry-append, entry_within, after_passes}
+use Rattle.olap_meaning.specs.Legal.{IsLegalEviction, Legal}
+use Rattle.olap_meaning.proofs.Positions.{get_last, get_push, entry-append, entry_from-take, entry_within, after_passes, passes_after}
 use Rattle.olap_meaning.proofs.Loads.{load_start, start_load}
 use Rattle.olap_meaning.proofs.Shutting.{shutting_grows}
-use Rattle.olap_meaning.proofs.Steps.{none_evicted}
+use Rattle.olap_meaning.proofs.Steps.{prefixes_are_legal}
+use Rattle.olap_meaning.proofs.Evicting.{oldest_is_least}
 use Rattle.olap_meaning.proofs.Versions.{versions_rise}
-use Rattle.olap_meaning.proofs.Sources.{unended}
+use Rattle.olap_meaning.proofs.Sources.{delivery_ends, unended}
 
 -- a load that was started
 pub some_load : (o : Option Load) → is_some o ≡ true → (load : Load) × (o ≡ Some load)
@@ -104,11 +105,42 @@ kept_back history entry j h =
       | inr new ↦ inr new
     ]
 
+-- in a legal history a load that was evicted was delivered before
+pub evicted_ended : (setting : Setting) (history : List Entry) → Legal setting history → (j : ℕ) → list_any (evicts j) history ≡ true → flying history j ≡ false
+evicted_ended setting history legal j h =
+    let found : (q : ℕ) × (e : Entry) × (entry_at history q ≡ Some e) × (0 < q) × (evicts j e ≡ true) = after_passes (evicts j) 0 history h in
+    at found.0 found.1 found.2 found.4
+  where
+    front_legal : (b : ℕ) → Legal setting (take b history)
+    front_legal b = prefixes_are_legal setting (take b history) (drop b history) (subst (Legal setting) (sym (take-append-drop b history)) legal)
+
+    one : (e : Entry) → evicts j e ≡ true → e ≡ Evict j
+    one (Append w c v r) d = absurd (cc)
+    one (Agg w t v) d = absurd (cc)
+    one (Flush w r) d = absurd (cc)
+    one (Start l) d = absurd (cc)
+    one (Done w k) d = absurd (cc)
+    one (Drop w k) d = absurd (cc)
+    one (Evict k) d = ap Evict (eqb-true k j d)
+    one (Answer w cs) d = absurd (cc)
+    one (Saw w) d = absurd (cc)
+
+    at : (q : ℕ) (e : Entry) → entry_at history q ≡ Some e → evicts j e ≡ true → flying history j ≡ false
+    at zero e here d = absurd (cc)
+    at (suc b) e here d =
+        let step : IsLegalEviction setting (take b history) j = legal b (Evict j) (here ∙ ap Some (one e d)) in
+        let was : kept (take b history) j ≡ true = ((oldest_is_least setting (take b history) j (front_legal b)).0 step.oldest).is_kept in
+        let came : list_any (delivers j) (take b history) ≡ true = (and_parts (delivered (take b history) j) (not (list_any (evicts j) (take b history))) was).0 in
+        let some = after_passes (delivers j) 0 (take b history) came in
+        let stood = entry_from-take b history some.0 some.1 some.2 in
+        let ended : list_any (ends j) history ≡ true = passes_after (ends j) 0 history some.0 some.1 stood.0 some.3 (delivery_ends j some.1 some.4) in
+        false_from_ne_true _ (λ flies. both_ways _ (flying_parts history j flies).2 ended)
+
 -- what is delivered is kept
-pub kept_new : (setting : Setting) (history : List Entry) (who : Who) (j : ℕ) → Legal setting history → kept (history ++ Done who j ∷ []) j ≡ true
-kept_new setting history who j legal =
+pub kept_new : (setting : Setting) (history : List Entry) (who : Who) (j : ℕ) → Legal setting history → flying history j ≡ true → kept (history ++ Done who j ∷ []) j ≡ true
+kept_new setting history who j legal flies =
     and_from (delivered (history ++ Done who j ∷ []) j) (not (list_any (evicts j) (history ++ Done who j ∷ []))) (any_last (delivers j) history (Done who j) (eq-eqb j j refl))
-    (not_from_false _ (any_none (evicts j) history (Done who j) (none_evicted setting history legal j) refl))
+    (not_from_false _ (any_none (evicts j) history (Done who j) (false_from_ne_true _ (λ h. both_ways _ (evicted_ended setting history legal j h) flies)) refl))
 
 -- what was delivered does not fly
 pub kept_landed : (history : List Entry) (j : ℕ) → kept history j ≡ true → flying history j ≡ false

@@ -1,10 +1,10 @@
 -- After the loads of a look were delivered, each of its cells has a source.
-use Rattle.std.proofs.Common.{◌≡◌, refl, sym, ◌∙◌, ap, subst, ℕ, zero, suc, ◌+◌, ◌<◌, ◌≤◌, List, [], ◌∷◌, ◌++◌, append_assoc, length, map, filter, filter_map, Bool, true, false, not, ◌&&◌, ◌||◌, ◌⊎◌, inl, inr, Option, Some, None, is_some, option_map, slice_get, arith, All}
+use Rattle.std.proofs.Common.{◌≡◌, refl, sym, ◌∙◌, ap, subst, ℕ, zero, suc, ◌+◌, ◌<◌, ◌≤◌, List, [], ◌∷◌, ◌++◌, append_assoc, length, map, filter, filter_map, Bool, true, false, not, ◌&&◌, ◌||◌, ◌⊎◌, inl, inr, Option, Some, None, is_some, option_map, slice_get, arith, All, drop}
 use Rattle.std.specs.Prelude.{IsTrue}
 use Rattle.std.specs.List.{AllZip, list_all, list_any, zip}
-use Rattle.std.proofs.lemmas.Bool.{and_from, and_parts, both_ways, false_from_ne_true, not_from_false, or_cases, or_left, or_right}
-use Rattle.std.proofs.lemmas.List.{append-nil}
-use Rattle.std.proofs.lemmas.List.Elements.{All-cons, All-head, All-nil, All-tail, All-weaker}
+use Rattle.std.proofs.lemmas.Bool.{and_from, and_parts, both_ways, false_from_ne_true, not-true, not_from_false, or_cases, or_from, or_left, or_right}
+use Rattle.std.proofs.lemmas.List.{append-nil, drop-append-le}
+use Rattle.std.proofs.lemmas.List.Elements.{All-cons, All-contains, All-head, All-nil, All-tail, All-weaker}
 use Rattle.std.proofs.lemmas.List.Folds.{list_any-append}
 use Rattle.std.proofs.lemmas.Option.{slice_get-map, slice_get_within}
 use Rattle.cell_groups.proofs.Alike.{Alike, alike_from, alike_self, alike_told}
@@ -12,18 +12,20 @@ use Rattle.olap_meaning.specs.declared.cells.Cell.{Cell}
 use Rattle.olap_meaning.specs.declared.cells.Header.{Header}
 use Rattle.olap_meaning.specs.declared.cells.Who.{Who}
 use Rattle.olap_meaning.specs.Covering.{header_covers, just_covers, names_column}
-use Rattle.olap_meaning.specs.History.{Entry, Start, Load, entry_at, evicts, exact_source, flushed_after, flushes, is_some_and, kept, live, load_at, load_covers, load_just_covers}
+use Rattle.olap_meaning.specs.History.{Entry, Start, Load, entry_at, evicts, exact_source, flushed_after, flushes, is_some_and, kept, live, load_at, load_covers, load_just_covers, awaited, awaited_load, flying}
 use Rattle.olap_meaning.proofs.Loads.{live_load, live_on, load_start, some_and, start_load}
 use Rattle.olap_meaning.proofs.Positions.{after_passes, entry_within, get-append, latest_bounds, latest_found}
 use Rattle.olap_meaning.specs.declared.tables.Catalog.{Catalog}
 use Rattle.history_core.specs.Answers.{HasSource}
 use Rattle.history_core.specs.Cache.{CacheOf}
-use Rattle.history_core.specs.Groups.{AreHeadersFor, IsHeaderFor, alike, firsts, load_count, load_with, loads_with, wanted_of, wanting}
+use Rattle.history_core.specs.Groups.{AreHeadersFor, IsHeaderFor, alike, awaited_loads, firsts, load_count, load_with, loads_with, wanted_of, wanting}
 use Rattle.segment_header.specs.Widening.{Allowing, Serves}
 use Rattle.olap_meaning.specs.Legal.{has_source, is_cell}
 use Rattle.olap_meaning.specs.Rolled.{IsRolled, IsRolledSource, Offer, has_rolled_source, offered, value_count}
 use Rattle.olap_meaning.proofs.RolledSources.{rolled_decided, rolled_found}
-use Rattle.olap_meaning.proofs.Lists.{any_at}
+use Rattle.olap_meaning.proofs.Earliest.{earliest_found}
+use Rattle.olap_meaning.proofs.Members.{filter_map_member}
+use Rattle.olap_meaning.proofs.Lists.{any_at, contains_at}
 use Rattle.olap_meaning.proofs.Growing.{load_stays}
 use Rattle.history_core.specs.Groups.{numbers_from}
 use Rattle.cache_manager.specs.Laws.{DeliveredLooksAreReady}
@@ -138,7 +140,7 @@ zip_at R (z ∷ zs) (y ∷ ys) (suc k) x all at = zip_at R zs ys k x all.1 at
 
 module _ (cache : CacheOf) (who : Who) (cells : List Cell) (headers : List Header) (later : List Entry) (own : AreHeadersFor Serves cache.setting.catalog (wanted_of cache cells) headers) where
   abbrev wanted : List Cell
-  wanted = wanting cache.setting.catalog cache.entries cells
+  wanted = wanted_of cache cells
 
   abbrev loads : List Load
   loads = loads_with cache who cells headers
@@ -220,10 +222,48 @@ module _ (cache : CacheOf) (who : Who) (cells : List Cell) (headers : List Heade
       by (Some j) e = or_left (is_some (exact_source final cell)) (has_rolled_source cache.setting.catalog final cell) (exact_still cell j e none (stays j))
       by None e = or_right (is_some (exact_source final cell)) (has_rolled_source cache.setting.catalog final cell) (rolled_still cell (rw e at has) none stays)
 
-  -- each cell, with its place among all
+  -- a cell that awaited a load has it
+  awaited_served : (cell : Cell) (j : ℕ) → awaited_load cache.entries cell ≡ Some j → list_any (flushes cell) later ≡ false → kept final j ≡ true → is_some (exact_source final cell) ≡ true
+  awaited_served cell j awaits none delivered =
+      let found = earliest_found (length cache.entries) (λ k. awaited cache.entries k cell) j awaits in
+      let parts = and_parts (flying cache.entries j && load_just_covers cache.entries j cell) (not (flushed_after cache.entries j cell)) found.passes in
+      let covers = (and_parts (flying cache.entries j) (load_just_covers cache.entries j cell) parts.0).1 in
+      let load : (load : Load) × (load_at cache.entries j ≡ Some load) × (just_covers load.header cell ≡ true) = some_and (λ (l : Load). just_covers l.header cell) (load_at cache.entries j) covers in
+      let at_final = load_stays cache.entries (map Start loads ++ later) j load.0 load.1 in
+      let just : load_just_covers final j cell ≡ true = ap (is_some_and (λ (l : Load). just_covers l.header cell)) at_final ∙ load.2 in
+      let wide : load_covers final j cell ≡ true =
+      ap (is_some_and (λ (l : Load). header_covers l.header cell)) at_final
+      ∙ (and_parts (header_covers load.0.header cell) (list_all (λ column. names_column cell column.0) load.0.header.columns) load.2).0 in
+      let open_still : flushed_after final j cell ≡ false =
+      ap (list_any (flushes cell)) (drop-append-le j cache.entries (map Start loads ++ later) found.within)
+      ∙ list_any-append (flushes cell) (drop j cache.entries) (map Start loads ++ later)
+      ∙ or_from (flushed_after cache.entries j cell) (list_any (flushes cell) (map Start loads ++ later)) (not-true _ parts.1) (starts_flush_none cell loads later none) in
+      serves_source final j cell load.0 at_final
+      (and_from (kept final j && load_covers final j cell) (not (flushed_after final j cell)) (and_from _ _ delivered wide) (not_from_false _ open_still)) just
+
+  -- the loads that started for the look, and those that its cells awaited
+  abbrev AreDelivered : Type 0
+  AreDelivered =
+      All (λ j. IsTrue (kept final j)) (numbers_from (length cache.entries + 1) (load_count cache cells))
+      × All (λ j. IsTrue (kept final j)) (awaited_loads cache.entries (wanting cache.setting.catalog cache.entries cells))
+
+  -- so has each cell without a source
+  wanting_served : (i : ℕ) (cell : Cell) → is_cell cache.setting.catalog cell ≡ true → slice_get (wanting cache.setting.catalog cache.entries cells) i ≡ Some cell → list_any (flushes cell) later ≡ false → AreDelivered → is_some (exact_source final cell) ≡ true
+  wanting_served i cell known at none all = by (awaited_load cache.entries cell) refl
+    where
+      by : (o : Option ℕ) → awaited_load cache.entries cell ≡ o → is_some (exact_source final cell) ≡ true
+      by (Some j) e =
+          awaited_served cell j e none
+          (All-contains (λ k. IsTrue (kept final k)) (awaited_loads cache.entries (wanting cache.setting.catalog cache.entries cells)) j all.1
+          (filter_map_member (awaited_load cache.entries) (wanting cache.setting.catalog cache.entries cells) cell j (contains_at (wanting cache.setting.catalog cache.entries cells) i cell at) e))
+      by None e =
+          let place = kept_place (λ c. not (is_some (awaited_load cache.entries c))) (wanting cache.setting.catalog cache.entries cells) i cell at (ap (λ (o : Option ℕ). not (is_some o)) e) in
+          wanted_served place.0 cell known place.1 none all.0
+
+  -- each cell, with its place among those without a source
   all_sourced :
-      (some : List Cell) → ((i : ℕ) (cell : Cell) → slice_get some i ≡ Some cell → has_source cache.setting.catalog cache.entries cell ≡ false → (k : ℕ) × (slice_get wanted k ≡ Some cell))
-      → list_all (is_cell cache.setting.catalog) some ≡ true → All (λ cell. list_any (flushes cell) later ≡ false) some → ((j : ℕ) → list_any (evicts j) later ≡ false) → All (λ j. IsTrue (kept final j)) (numbers_from (length cache.entries + 1) (load_count cache cells))
+      (some : List Cell) → ((i : ℕ) (cell : Cell) → slice_get some i ≡ Some cell → has_source cache.setting.catalog cache.entries cell ≡ false → (k : ℕ) × (slice_get (wanting cache.setting.catalog cache.entries cells) k ≡ Some cell))
+      → list_all (is_cell cache.setting.catalog) some ≡ true → All (λ cell. list_any (flushes cell) later ≡ false) some → ((j : ℕ) → list_any (evicts j) later ≡ false) → AreDelivered
       → All (HasSource (record { setting = cache.setting; entries = final })) some
   all_sourced [] places known none stays all = All-nil _
   all_sourced (cell ∷ others) places known none stays all =
@@ -238,9 +278,9 @@ module _ (cache : CacheOf) (who : Who) (cells : List Cell) (headers : List Heade
       by true e = served_still cell e unflushed stays
       by false e =
           let place = places 0 cell refl e in
-          or_left (is_some (exact_source final cell)) (has_rolled_source cache.setting.catalog final cell) (wanted_served place.0 cell (and_parts _ _ known).0 place.1 unflushed all)
+          or_left (is_some (exact_source final cell)) (has_rolled_source cache.setting.catalog final cell) (wanting_served place.0 cell (and_parts _ _ known).0 place.1 unflushed all)
 
 pub delivered_looks_are_ready : DeliveredLooksAreReady
-delivered_looks_are_ready cache who cells headers later known own none stays all =
+delivered_looks_are_ready cache who cells headers later known own none stays started awaited =
     all_sourced cache who cells headers later own cells
-    (λ i cell at unserved. kept_place (λ c. not (has_source cache.setting.catalog cache.entries c)) cells i cell at (not_from_false _ unserved)) known none stays all
+    (λ i cell at unserved. kept_place (λ c. not (has_source cache.setting.catalog cache.entries c)) cells i cell at (not_from_false _ unserved)) known none stays (started, awaited)

@@ -1,5 +1,5 @@
 -- What was found for cells, as the history has it.
-use Rattle.std.proofs.Common.{◌≡◌, refl, sym, ◌∙◌, ap, subst, List, [], ◌∷◌, length, map, filter, false, Some, All}
+use Rattle.std.proofs.Common.{◌≡◌, refl, sym, ◌∙◌, ap, subst, List, [], ◌∷◌, length, map, filter, false, Some, All, Contains}
 use Rattle.std.specs.Borrow.{Bor}
 use Rattle.std.proofs.lemmas.List.{length-map}
 use Rattle.olap_meaning.specs.declared.cells.Cell.{Cell}
@@ -10,13 +10,14 @@ use Rattle.history_core.specs.declared.answers.Answered.{Answered}
 use Rattle.history_core.specs.Cache.{CacheOf}
 use Rattle.history_core.specs.Groups.{wanting}
 use Rattle.cache_flush.specs.Loads.{KeptOf}
-use Rattle.cache_manager.specs.Found.{AreServed, IsHit, IsPlaced, cells_of, source_found, wants}
+use Rattle.cache_manager.specs.Found.{AreServed, IsFirst, IsHit, IsPlaced, cells_of, source_found, wants}
 use Rattle.cell_groups.specs.Lent.{lent}
 use Rattle.cell_groups.proofs.GroupFacts.{length-lent}
 use Rattle.cache_manager.specs.Rollups.{AreKept, IsRollup}
 use Rattle.cache_manager.specs.declared.findings.Hit.{Hit}
 use Rattle.cache_manager.specs.declared.rollups.Rollup.{Rollup}
 use Rattle.cache_manager.proofs.Finding.{none_wants, placed_found, sources_found, wanting_found}
+use Rattle.cache_manager.proofs.Firsts.{same_sources}
 
 cells_sourced : (rollups : List Rollup) (hits : List Hit) → map (λ source. source.cell) (map (source_found rollups) hits) ≡ cells_of hits
 cells_sourced rollups [] = refl
@@ -36,13 +37,16 @@ module _ (cache : CacheOf) (loads : List KeptOf) (kept : AreKept cache.setting.c
   pub all_placed : All (λ hit. IsPlaced rollups hit.found) hits
   all_placed = placed_found cache.setting.catalog cache.entries loads kept rollups rolled hits are
 
-  pub all_served : (answered : List Answered) (sources : List CellSource) → All (λ hit. wants hit ≡ false) hits → sources ≡ map (source_found rollups) hits
+  pub all_served : (answered : List Answered) (sources : List CellSource) → All (λ hit. IsFirst loads rollups hit.cell.now hit.found) hits → All (λ hit. wants hit ≡ false) hits → sources ≡ map (source_found rollups) hits
       → map (worth cache.setting.catalog cache.entries) (map (source_found rollups) hits) ≡ map (λ one. Some one.value) answered → map (answered_version cache.entries) (map (source_found rollups) hits) ≡ map (λ one. Some one.version) answered
       → AreServed cache cells answered sources
-  all_served answered sources some is values versions = record {
+  all_served answered sources firsts some is values versions = record {
     sources_are = record {
       of_cells = ap (map (λ source. source.cell)) is ∙ cells_sourced rollups hits ∙ looked;
       own = subst (All (λ source. IsSource cache.setting.catalog cache.entries source.cell source.loads)) (sym is) (sources_found cache.setting.catalog cache.entries loads kept rollups rolled hits are some);
+      same = λ one other held too.
+          same_sources cache.setting.catalog cache.entries loads kept rollups rolled hits are firsts some one other
+          (subst (λ (found : List CellSource). Contains found one) is held) (subst (λ (found : List CellSource). Contains found other) is too);
     };
     values = ap (map (worth cache.setting.catalog cache.entries)) is ∙ values;
     versions = ap (map (answered_version cache.entries)) is ∙ versions;

@@ -12,7 +12,7 @@ use Rattle.olap_meaning.specs.declared.cells.Who.{Who}
 use Rattle.olap_meaning.proofs.Lists.{take_step}
 use Rattle.cache_manager.specs.declared.starts.Planned.{Planned}
 use Rattle.history_core.specs.Cache.{CacheOf}
-use Rattle.cache_flush.specs.Flights.{FlightOf, numbers_of}
+use Rattle.load_sharing.specs.Flights.{FlightOf, numbers_of}
 use Rattle.cache_manager.specs.Plans.{AreLegalSteps, AreNew, ArePrepared, IsPrepared, flight_for}
 use Rattle.segment_header.specs.Widening.{Allowing}
 use Rattle.history_core.specs.Groups.{alike}

@@ -14,7 +14,7 @@ use Rattle.history_core.specs.Groups.{wanting}
 use Rattle.cache_flush.specs.Loads.{KeptOf, kept_of}
 use Rattle.cache_manager.specs.Kept.{IsKept}
 use Rattle.cell_groups.specs.Lent.{lent}
-use Rattle.cache_manager.specs.Rollups.{cell_at}
+use Rattle.cache_manager.specs.Rollups.{cell_at, first_serving}
 use Rattle.cache_manager.specs.declared.findings.Found.{Found}
 use Rattle.cache_manager.specs.declared.findings.Found.TheVariants.{Exact, Rolled, Nothing}
 use Rattle.cache_manager.specs.declared.findings.Hit.{Hit}
@@ -40,6 +40,13 @@ IsFound catalog entries rollups cell Nothing = has_source catalog entries cell �
 -- so it is for a cell with what was found
 abbrev pub IsHit : Catalog → List Entry → List Rollup → Hit → Type 0
 IsHit catalog entries rollups hit = IsFound catalog entries rollups hit.cell.now hit.found
+
+-- a rollup that was found for a cell is the first that serves the cell
+abbrev pub IsFirst : List KeptOf → List Rollup → Cell → Found → Type 0
+IsFirst loads rollups cell (Exact kept) = ⊤
+IsFirst loads rollups cell (Rolled rollup place) =
+    first_serving loads rollups cell ≡ Some rollup
+IsFirst loads rollups cell Nothing = ⊤
 
 -- nothing was found
 abbrev pub is_nothing : Found → Bool

@@ -1,7 +1,8 @@
 -- Jobs and deliveries of the loads in flight.
-use Rattle.std.specs.Prelude.{ℕ, ◌≡◌, Some, false, length}
+use Rattle.std.specs.Prelude.{ℕ, ◌≡◌, ◌∷◌, [], ◌&&◌, Bool, List, Some, false, true, length, not}
 use Rattle.std.specs.List.{list_any}
 use Rattle.olap_meaning.specs.declared.cells.Who.{Who}
+use Rattle.olap_meaning.specs.Covering.{among}
 use Rattle.olap_meaning.specs.History.{Load, ends, load_at, rows_of}
 use Rattle.load_costs.specs.Costs.{cost, reads}
 use Rattle.segment_body.specs.BodyOf.{BodyOf}
@@ -16,6 +17,12 @@ pub record IsOwn (cache : CacheOf) (who : Who) (j : ℕ) (load : Load) : Type 0 
   pub started : load_at cache.entries j ≡ Some load
   pub own : load.who ≡ who
   pub unended : list_any (ends j) (entries_of cache.entries who.seat) ≡ false
+
+-- what a load has come to: its number, the call that it is for, and its body
+pub record DeliveryOf : Type 0 where
+  pub load : ℕ
+  pub who : Who
+  pub body : BodyOf
 
 -- some own load of this number flies
 abbrev pub IsOwnLoad : CacheOf → Who → ℕ → Type 0
@@ -39,3 +46,8 @@ pub record IsJobOf (cache : CacheOf) (job : JobOf) : Type 0 where
   pub version : length job.snapshot ≡ load.version
   pub read : job.read ≡ reads cache.setting.catalog cache.entries job.load
   pub costs : job_cost job ≡ cost cache.setting.catalog cache.entries job.load
+
+-- numbers that are all different
+abbrev pub apart : List ℕ → Bool
+apart [] = true
+apart (n ∷ ns) = not (among ns n) && apart ns

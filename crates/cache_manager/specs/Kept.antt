@@ -1,5 +1,5 @@
 -- What a manager keeps beside its history, and what that means in the history.
-use Rattle.std.specs.Prelude.{ℕ, ◌≡◌, ◌≤◌, List, All, IsTrue, Some, filter_map, length, map}
+use Rattle.std.specs.Prelude.{ℕ, ◌≡◌, ◌≤◌, ◌+◌, List, All, IsTrue, Some, filter_map, length, map}
 use Rattle.olap_meaning.specs.declared.TheConstants.{ROW_LIMIT}
 use Rattle.olap_meaning.specs.declared.cells.Header.{Header}
 use Rattle.olap_meaning.specs.declared.tables.Catalog.{Catalog}
@@ -15,8 +15,8 @@ use Rattle.cache_flush.specs.Loads as kept
 use Rattle.cache_flush.specs.Loads.{KeptOf}
 use Rattle.agg_tables.specs.Tables.{TableOf}
 use Rattle.load_costs.specs.Costs.{tables_built}
-use Rattle.cache_flush.specs.Flights as flight
-use Rattle.cache_flush.specs.Flights.{FlightOf}
+use Rattle.load_sharing.specs.Flights as flight
+use Rattle.load_sharing.specs.Flights.{FlightOf}
 
 -- the facts are those that the history has appended to each cube, each batch is one of its cube, and the limit of rows is
 -- no greater than may be
@@ -56,9 +56,14 @@ pub record IsFlight (entries : List Entry) (flight : FlightOf) : Type 0 where
 abbrev pub headers_of : List FlightOf → List Header
 headers_of flights = map (λ flight. flight.header) flights
 
+-- how many entries close what a manager has opened: of each load in flight its end and its eviction, and the eviction of
+-- each kept load
+abbrev pub closing : List FlightOf → List KeptOf → ℕ
+closing flights loads = length flights + length flights + length loads
+
 -- what a manager keeps is what its history says: the facts, each kept load and no other, each load in flight and no
--- other, and of each aggregate table the one that was built last; and there is room for the end of each load in flight,
--- and a place on the shelf
+-- other, and of each aggregate table the one that was built last; and there is room for the entries that close all of this,
+-- and a place on the shelf for each load in flight
 pub record IsManager (setting : Setting) (entries : List Entry) (spare : ℕ) (facts : FactsOf)
     (loads : List KeptOf) (has_places : List Header → Type 0) (flights : List FlightOf)
     (tables : List TableOf) : Type 0 where
@@ -70,5 +75,5 @@ pub record IsManager (setting : Setting) (entries : List Entry) (spare : ℕ) (f
   pub flights_all : (j : ℕ) → IsTrue (flying entries j)
       → IsTrue (among (flight.numbers_of flights) j)
   pub tables_are : tables ≡ tables_built setting.catalog entries
-  pub ends_fit : length flights ≤ spare
+  pub ends_fit : closing flights loads ≤ spare
   pub places_fit : has_places (headers_of flights)

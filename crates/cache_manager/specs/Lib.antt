@@ -3,7 +3,6 @@ pub mod Jobs
 pub mod Kept
 pub mod Plans
 pub mod Laws
-pub mod Runs
 pub mod Rollups
 pub mod Tables
 pub mod Found

@@ -1,5 +1,5 @@
 -- What a look prepares before it starts loads.
-use Rattle.std.specs.Prelude.{ℕ, suc, ◌≡◌, ⊤, List, [], ◌∷◌, ◌++◌, Option, IsFalse, filter, length}
+use Rattle.std.specs.Prelude.{ℕ, suc, ◌≡◌, ⊤, List, [], ◌∷◌, ◌++◌, Option, IsFalse, IsTrue, filter, length}
 use Rattle.olap_meaning.specs.declared.cells.Cell.{Cell}
 use Rattle.olap_meaning.specs.declared.cells.Header.{Header}
 use Rattle.olap_meaning.specs.declared.cells.Who.{Who}
@@ -14,8 +14,9 @@ use Rattle.fact_reader.specs.BodyRows.{rows_in}
 use Rattle.load_costs.specs.Costs.{tables_built}
 use Rattle.history_core.specs.Cache.{CacheOf}
 use Rattle.history_core.specs.Groups.{IsHeaderFor, alike, load_with}
+use Rattle.segment_header.specs.Headers.{is_header}
 use Rattle.segment_header.specs.Widening.{Allowing}
-use Rattle.cache_flush.specs.Flights.{FlightOf}
+use Rattle.load_sharing.specs.Flights.{FlightOf}
 use Rattle.cache_manager.specs.declared.starts.Flying.{Flying}
 use Rattle.cache_manager.specs.declared.starts.Planned.{Planned}
 
@@ -49,6 +50,7 @@ pub record IsPrepared (allowing : Allowing) (cache : CacheOf) (who : Who) (cells
         header = planned.job.header;
         version = version cache.entries first.cube;
       }
+  pub formed : IsTrue (is_header planned.flight.header)
   pub load : planned.job.load ≡ number
   pub who_is : planned.job.who ≡ who
   pub catalog : planned.job.catalog ≡ cache.setting.catalog

@@ -1,5 +1,5 @@
 -- Cells that are rolled up from kept loads.
-use Rattle.std.specs.Prelude.{ℕ, ◌≡◌, ◌<◌, List, [], ◌∷◌, ◌++◌, Bool, true, Option, Some, None, All, IsTrue, filter, length, map, slice_get, slice_set}
+use Rattle.std.specs.Prelude.{ℕ, ◌≡◌, ◌<◌, List, [], ◌∷◌, ◌++◌, ◌&&◌, Bool, true, Option, Some, None, All, position, IsTrue, filter, length, map, slice_get, slice_set}
 use Rattle.std.specs.List.{AllZip, list_all}
 use Rattle.std.specs.Option.{option_and_then}
 use Rattle.olap_meaning.specs.declared.cells.Cell.{Cell}
@@ -7,7 +7,7 @@ use Rattle.olap_meaning.specs.declared.tables.Catalog.{Catalog}
 use Rattle.olap_meaning.specs.declared.tables.Measure.{Measure}
 use Rattle.olap_meaning.specs.Covering.{among}
 use Rattle.olap_meaning.specs.History as history
-use Rattle.olap_meaning.specs.History.{Entry, exact_source}
+use Rattle.olap_meaning.specs.History.{Entry, exact_source, is_some_and}
 use Rattle.olap_meaning.specs.Legal.{is_cell}
 use Rattle.olap_meaning.specs.Rolled.{value_count}
 use Rattle.olap_meaning.specs.Values.{aggregate}
@@ -71,6 +71,16 @@ pub record MayJoin (loads : List KeptOf) (rollup : Rollup) (cell : Cell) : Type 
   pub served : IsTrue (plan_serves loads rollup.plan cell)
   pub rolls : ServesAlike loads rollup.plan cell
 
+-- whether it may, as a decision
+abbrev pub may_join : List KeptOf → Cell → Rollup → Bool
+may_join loads cell rollup =
+    is_some_and (λ first. alike first cell) (slice_get rollup.cells.items 0)
+    && plan_serves loads rollup.plan cell
+
+-- the place of the first rollup by whose plan a cell may be rolled up
+abbrev pub first_serving : List KeptOf → List Rollup → Cell → Option ℕ
+first_serving loads rollups cell = position (may_join loads cell) rollups
+
 -- a cell was added to a rollup, after those that were there, and nothing else has changed
 pub record HasJoined (before after : List Rollup) (number place : ℕ) (cell : Cell) : Type 0 where
   pub was : Rollup
@@ -98,6 +108,12 @@ abbrev pub GoOn : List Rollup → List Rollup → Type 0
 GoOn before after =
     (number place : ℕ) (cell : Cell) → cell_at before number place ≡ Some cell
     → cell_at after number place ≡ Some cell
+
+-- where some of these rollups serve a cell, the first that does is the first of others too
+abbrev pub KeepFirsts : List KeptOf → List Rollup → List Rollup → Type 0
+KeepFirsts loads before after =
+    (cell : Cell) (number : ℕ) → first_serving loads before cell ≡ Some number
+    → first_serving loads after cell ≡ Some number
 
 -- what is answered of a cell that is taken from some loads: its worth, and the version of the loads
 pub record IsWorth (catalog : Catalog) (entries : List Entry) (loads : List ℕ) (cell : Cell)

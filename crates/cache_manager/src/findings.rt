@@ -3,9 +3,9 @@ ghost use Rattle.std.specs.Prelude.{◌≡◌, All, IfOk, IsTrue, None, OnOk, fi
 ghost use Rattle.std.specs.List.{list_all};
 ghost use Rattle.olap_meaning.specs.History.{exact_source};
 ghost use Rattle.olap_meaning.specs.Legal.{is_cell};
-ghost use Rattle.cache_manager.specs.Found.{AreFindings, IsFound, IsHit, cells_of, wants};
+ghost use Rattle.cache_manager.specs.Found.{AreFindings, IsFirst, IsFound, IsHit, cells_of, wants};
 ghost use Rattle.cell_groups.specs.Lent.{lent};
-ghost use Rattle.cache_manager.specs.Rollups.{AreKept, GoOn, IsRollup};
+ghost use Rattle.cache_manager.specs.Rollups.{AreKept, GoOn, IsRollup, KeepFirsts};
 
 use crate::answers::{all_answered, all_sources};
 use crate::manager::Manager;
@@ -71,8 +71,12 @@ fn find_rolled<'s>(
         (IsRollup history.now.setting.catalog history.now.entries shelf.entry.now.loads)
         rollups.new.items) }
     ensures goes_on { OnOk result (GoOn rollups.old.items rollups.new.items) }
+    ensures firsts { OnOk result
+        (KeepFirsts shelf.entry.now.loads rollups.old.items rollups.new.items) }
     ensures found { IfOk result
         (IsFound history.now.setting.catalog history.now.entries rollups.new.items cell.now) }
+    ensures first { IfOk result
+        (IsFirst shelf.entry.now.loads rollups.new.items cell.now) }
 {
     if let Some(rollup) = serving(rollups.as_slice(), shelf, cell) {
         let place = join(alloc, rollups, rollup, cell)?;
@@ -107,8 +111,12 @@ fn find_cell<'s>(
         (IsRollup history.now.setting.catalog history.now.entries shelf.entry.now.loads)
         rollups.new.items) }
     ensures goes_on { OnOk result (GoOn rollups.old.items rollups.new.items) }
+    ensures firsts { OnOk result
+        (KeepFirsts shelf.entry.now.loads rollups.old.items rollups.new.items) }
     ensures found { IfOk result
         (IsFound history.now.setting.catalog history.now.entries rollups.new.items cell.now) }
+    ensures first { IfOk result
+        (IsFirst shelf.entry.now.loads rollups.new.items cell.now) }
 {
     match shelf.find(cell) {
         Some(kept) => Ok(Found::Exact(kept)),
@@ -129,6 +137,9 @@ fn look_for<'c, 's>(
     ensures cells { IfOk result (λ searched. cells_of searched.hits.items ≡ cells.entry.now) }
     ensures hits { IfOk result (λ searched. All
         (IsHit history.now.setting.catalog history.now.entries searched.rollups.items)
+        searched.hits.items) }
+    ensures firsts { IfOk result (λ searched. All
+        (λ hit. IsFirst shelf.entry.now.loads searched.rollups.items hit.cell.now hit.found)
         searched.hits.items) }
     ensures rollups { IfOk result (λ searched. All
         (IsRollup history.now.setting.catalog history.now.entries shelf.entry.now.loads)

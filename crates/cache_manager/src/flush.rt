@@ -5,12 +5,14 @@ ghost use Rattle.olap_meaning.specs.History.{Flush};
 ghost use Rattle.olap_meaning.specs.Legal.{LegalStep};
 ghost use Rattle.cache_flush.specs.Handles.{AreHandles};
 ghost use Rattle.cache_flush.specs.Loads as of_loads;
-ghost use Rattle.cache_flush.specs.Flights as of_flights;
+ghost use Rattle.load_sharing.specs.Flights as of_flights;
 ghost use Rattle.segment_index.specs.Index.{has_places, has_rooms};
+ghost use Rattle.cache_manager.specs.Kept.{closing};
 
-use crate::look::sum;
-use cache_flush::{CacheShelf, Flights};
+use crate::manager::room_for;
+use cache_flush::CacheShelf;
 use history_core::{Entry, History};
+use load_sharing::Flights;
 use olap_meaning::{List, OutOfMemory, Region, Who};
 use segment_index::SegmentIndex;
 use std::sync::Arc;
@@ -37,7 +39,8 @@ pub(crate) fn make_room(
     ensures places { (headers : List Header)
         → has_places shelf.old headers → has_places shelf.new headers }
     ensures flights { flights.new.flights ≡ flights.old.flights }
-    ensures entry_room { OnOk result (length flights.old.flights + 1 ≤ history.new.spare) }
+    ensures entry_room { OnOk result
+        (closing flights.old.flights shelf.old.loads + 1 ≤ history.new.spare) }
     ensures kept { IfOk result (λ room.
         AreHandles region.now.value (length shelf.old.loads) room.kept) }
     ensures kept_rooms { OnOk result (has_rooms shelf.new) }
@@ -45,7 +48,7 @@ pub(crate) fn make_room(
         AreHandles region.now.value (length flights.old.flights) room.flying) }
     ensures flying_rooms { OnOk result (All (λ room. 0 < room) flights.new.rooms) }
 {
-    history.reserve(sum(flights.len(), 1)?)?;
+    history.reserve(room_for(flights, shelf, 1)?)?;
     let kept = shelf.reserve_shut(region)?;
     let flying = flights.reserve_shut(region)?;
     Ok(FlushRoom { kept, flying })

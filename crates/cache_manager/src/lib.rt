@@ -7,9 +7,10 @@
 
 mod alike;
 mod answers;
-mod calls;
+mod evictions;
 mod findings;
 mod flush;
+mod jobs;
 pub mod laws;
 mod look;
 mod manager;
@@ -19,7 +20,8 @@ mod shared;
 mod show;
 mod starts;
 mod tables;
+mod waits;
 
-pub use calls::{Call, Reply, Run, run_calls};
+pub use jobs::{Delivery, LoadJob, run_load};
 pub use manager::Manager;
 pub use outcome::Look;

@@ -7,21 +7,36 @@ ghost use Rattle.history_core.specs.History.{setting_of};
 ghost use Rattle.fact_reader.specs.BodyRows.{are_batches, is_batch, rows_in};
 ghost use Rattle.history_core.specs.Arrivals.{arrival_in};
 ghost use Rattle.cache_manager.specs.Jobs.{IsOwnBody, IsOwnLoad};
-ghost use Rattle.history_core.specs.Seats.{NoneFlies};
+ghost use Rattle.history_core.specs.Seats.{NoneFlies, SeatIsIdle};
+ghost use Rattle.cache_manager.specs.Kept.{closing};
 
 use crate::flush::{make_room, shut_off};
+use crate::jobs::{Delivery, LoadJob};
 use crate::look::sum;
-use cache_flush::{CacheShelf, Flights, Kept};
+use cache_flush::{CacheShelf, Kept};
 use fact_versions::{AppendFault, Batch, Facts, Snapshot};
 use history_core::{Appended, Entry, History};
 use installed_tables::Installed;
+use load_sharing::Flights;
 use olap_catalog::Catalog;
 use olap_meaning::{CubeId, OutOfMemory, ROW_LIMIT, Region, Version, Who};
 use segment_index::SegmentIndex;
-use segment_load::{Delivery, LoadJob};
+use segment_load::LoadedSegment;
 use std::alloc::Global;
 use std::marker::Model;
 use std::sync::Arc;
+
+/// How many entries history needs room for: those that close what flies and what is kept, and this many more.
+pub(crate) fn room_for(
+    flights: &Flights,
+    shelf: &SegmentIndex,
+    more: usize,
+) -> Result<usize, OutOfMemory>
+    ensures { IfOk result (λ room. room ≡ closing flights.now.flights shelf.now.loads + more) }
+{
+    let ends = sum(flights.len(), flights.len())?;
+    sum(sum(ends, shelf.len())?, more)
+}
 
 /// The manager of a cache (Cache Control): it keeps the facts, the aggregate tables that were built last, the loads that
 /// were delivered and those in flight, and writes down each thing that it does as an entry of its history. A flush shuts
@@ -50,7 +65,7 @@ impl Model for Manager {
 
 impl Manager {
     /// The manager of a cache in which nothing has happened. A limit of rows is over all cubes; the budget is how many
-    /// groups the kept loads may hold, and has no effect yet.
+    /// groups the kept loads may hold after an answer.
     pub fn new(
         alloc: Global,
         catalog: Arc<Catalog>,
@@ -90,7 +105,8 @@ impl Manager {
         ensures unchanged { OnErr result (self.new ≡ self.old) }
     {
         self.history.steps_are_legal();
-        self.history.reserve(sum(self.flights.len(), 1)?)?;
+        self.history
+            .reserve(room_for(&self.flights, &self.shelf, 1)?)?;
         let batch = shared(self.alloc, batch)?;
         let version = match self.facts.append(cube, shared_again(&batch)?) {
             Ok(version) => version,
@@ -133,7 +149,7 @@ impl Manager {
         &self.history
     }
 
-    /// What happened, oldest first. The loads that are kept are let go.
+    /// What happened, oldest first. The loads that are kept are dropped.
     pub fn into_history(self) -> History
         ensures setting { result.setting ≡ self.setting }
         ensures entries { result.entries ≡ self.entries }
@@ -162,6 +178,13 @@ impl Manager {
         self.flights.is_empty()
     }
 
+    /// Whether no load of a seat is in flight. It takes no memory.
+    pub fn seat_is_idle(&self, seat: u32) -> bool
+        ensures { IsTrue result ↔ SeatIsIdle self.now.entries seat }
+    {
+        !self.flights.flies_for(seat)
+    }
+
     /// The version of a load in flight.
     fn version_in_flight(&self, load: u64) -> Version
         requires { flying self.now.entries load ≡ true }
@@ -177,35 +200,35 @@ impl Manager {
         ensures entry { self.new.entries ≡ self.old.entries ++ Done delivery.who delivery.load
             ∷ [] }
     {
-        let load = delivery.load;
-        let _header = delivery.body.header();
+        let Delivery { segment } = delivery;
+        let LoadedSegment { load, who, body } = segment;
+        let _header = body.header();
         self.history.steps_are_legal();
         let version = self.version_in_flight(load);
-        self.history.push(Entry::Done {
-            who: delivery.who,
-            load,
-        });
+        self.history.push(Entry::Done { who, load });
         let shut = self.flights.end(load);
         self.shelf.insert(Kept {
             load,
             version,
-            body: delivery.body,
+            body,
             shut,
         });
     }
 
-    /// Gives a load up. It takes no memory.
+    /// Gives a load up. The room that was made for it is there for others. It takes no memory.
     pub fn abandon(&mut self, job: LoadJob)
         requires own { IsOwnLoad self.old job.who job.load }
         ensures setting { self.new.setting ≡ self.old.setting }
         ensures entry { self.new.entries ≡ self.old.entries ++ Drop job.who job.load ∷ [] }
     {
-        let load = job.load();
+        let LoadJob { segment } = job;
+        let load = segment.load();
         self.history.steps_are_legal();
         self.history.push(Entry::Drop {
-            who: job.who(),
+            who: segment.who(),
             load,
         });
+        self.shelf.release(self.flights.header(load).unwrap());
         let _ = self.flights.end(load);
     }
 

@@ -1,9 +1,10 @@
 //! Rollups: cells that have no exact source and are rolled up together from kept loads.
-ghost use Rattle.std.specs.Prelude.{ℕ, ◌≡◌, ◌≤◌, ◌<◌, ◌++◌, ◌∷◌, [], All, IfOk, IfSome, IsTrue, OnOk, Some, length, slice_get};
+ghost use Rattle.std.specs.Prelude.{ℕ, ◌≡◌, ◌≤◌, ◌<◌, ◌++◌, ◌∷◌, [], All, IfOk, OnOk, Some, length, slice_get};
 ghost use Rattle.std.specs.List.{AllZip};
 ghost use Rattle.cache_flush.specs.Loads.{KeptOf};
 ghost use Rattle.rollup_plan.specs.Plans.{kept_at};
-ghost use Rattle.cache_manager.specs.Rollups.{AreKept, AreRolledUp, HasJoined, IsBegun, IsRollup, IsToldBy, IsWorth, MayJoin, planned};
+ghost use Rattle.cache_manager.specs.Rollups.{AreKept, AreRolledUp, first_serving, HasJoined, IsBegun, IsRollup, IsToldBy, IsWorth, planned};
+ghost use Rattle.cache_manager.specs.Rollups as rollups;
 ghost use Rattle.cache_manager.specs.declared.rollups.Rollup.{Rollup as RollupOf};
 
 use crate::alike::are_alike;
@@ -27,7 +28,7 @@ pub(crate) struct Rollup {
 
 /// Whether a cell may be rolled up by the plan of a rollup.
 fn may_join(rollup: &Rollup, shelf: &SegmentIndex, cell: &Cell) -> bool
-    ensures { IsTrue result → MayJoin shelf.now.loads rollup.now cell.now }
+    ensures { result ≡ rollups.may_join shelf.now.loads cell.now rollup.now }
 {
     match rollup.cells.first() {
         None => false,
@@ -37,16 +38,11 @@ fn may_join(rollup: &Rollup, shelf: &SegmentIndex, cell: &Cell) -> bool
 
 /// The first of some rollups by whose plan a cell may be rolled up.
 pub(crate) fn serving(rollups: &[Rollup], shelf: &SegmentIndex, cell: &Cell) -> Option<usize>
-    ensures { IfSome result
-        (λ number. (rollup : RollupOf) × (slice_get rollups.now number ≡ Some rollup)
-        × MayJoin shelf.now.loads rollup cell.now) }
+    ensures { result ≡ first_serving shelf.now.loads rollups.now cell.now }
 {
-    for i in 0..rollups.len() {
-        if may_join(&rollups[i], shelf, cell) {
-            return Some(i);
-        }
-    }
-    None
+    rollups
+        .iter()
+        .position(|rollup| may_join(rollup, shelf, cell))
 }
 
 /// Adds a cell to a rollup, and tells its place there.

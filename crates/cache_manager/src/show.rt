@@ -4,8 +4,7 @@ ghost use Rattle.olap_meaning.specs.History.{Saw, kept};
 ghost use Rattle.olap_meaning.specs.Legal.{is_next_call};
 ghost use Rattle.history_core.specs.Shown.{cache_lines, kept_line};
 
-use crate::look::sum;
-use crate::manager::Manager;
+use crate::manager::{Manager, room_for};
 use cache_flush::{CacheShelf, Shelf};
 use history_core::{CacheLine, CacheView, Entry};
 use olap_meaning::{List, OutOfMemory, Who};
@@ -24,7 +23,8 @@ impl Manager {
     {
         let lines = self.lines()?;
         self.history.steps_are_legal();
-        self.history.reserve(sum(self.flights.len(), 1)?)?;
+        self.history
+            .reserve(room_for(&self.flights, &self.shelf, 1)?)?;
         self.history.push(Entry::Saw { who });
         Ok(CacheView {
             position: self.history.len(),

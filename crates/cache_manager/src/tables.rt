@@ -7,8 +7,7 @@ ghost use Rattle.load_costs.specs.Costs.{version_rows};
 ghost use Rattle.installed_tables.specs.Installed.{groups_built, present_rows, present_version};
 ghost use Rattle.cache_manager.specs.Tables.{IsOwnTable};
 
-use crate::look::sum;
-use crate::manager::Manager;
+use crate::manager::{Manager, room_for};
 use agg_tables::{AggTable, build, cube_of};
 use fact_versions::Steps;
 use history_core::{AggBuilt, Entry};
@@ -28,7 +27,8 @@ impl Manager {
         ensures unchanged { OnErr result (self.new ≡ self.old) }
     {
         self.history.steps_are_legal();
-        self.history.reserve(sum(self.flights.len(), 1)?)?;
+        self.history
+            .reserve(room_for(&self.flights, &self.shelf, 1)?)?;
         let entry = Entry::Agg {
             who,
             table: table.table(),
@@ -78,7 +78,7 @@ impl Manager {
     }
 
     /// The present version of the cube of an aggregate table.
-    pub(crate) fn table_version(&self, table: u32) -> Version
+    pub fn table_version(&self, table: u32) -> Version
         requires declared { table < length self.now.setting.catalog.schema.aggregates }
         ensures { result ≡ present_version self.now.setting.catalog self.now.entries table }
     {
@@ -86,7 +86,7 @@ impl Manager {
     }
 
     /// An aggregate table of the schema over a version of its cube.
-    pub(crate) fn build<L: Ledger>(
+    pub fn build<L: Ledger>(
         &self,
         table: u32,
         version: Version,

@@ -14,7 +14,8 @@ use Rattle.fact_versions.specs.FactRows.{FactRows}
 use Rattle.fact_versions.specs.Facts.{rows_of_batches}
 use Rattle.segment_body.specs.BodyOf.{different_values}
 use Rattle.fact_reader.specs.Reading.{row_at}
-use Rattle.fact_reader.specs.BodyRows.{are_batches, body_row, body_rows, is_batch, row_number, row_values, rows_in}
+use Rattle.fact_reader.specs.BodyRows.{are_batches, body_row, body_rows, is_batch, row_number, rows_in}
+use Rattle.olap_meaning.specs.Budget.{row_values}
 
 -- the rows of batches are as many as those of each together
 pub length-rows_in : (batches : List FactRows) → length (rows_in batches) ≡ rows_of_batches batches

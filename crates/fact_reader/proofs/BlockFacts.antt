@@ -19,7 +19,8 @@ use Rattle.segment_body.specs.BodyOf.{BodyOf, different_values, has_row}
 use Rattle.segment_body.proofs.RowFacts.{different_new, different_same}
 use Rattle.fact_reader.specs.declared.blocks.PlacedRow.{PlacedRow}
 use Rattle.fact_reader.specs.Blocks.{IsBehind, IsPlacedRow, kept_row, kept_rows, numbered_row, own_row, valued_row, valued_rows, with_block}
-use Rattle.fact_reader.specs.BodyRows.{AreAlike, body_row, body_rows, row_number, row_values, values_in, with_rows}
+use Rattle.fact_reader.specs.BodyRows.{AreAlike, body_row, body_rows, row_number, values_in, with_rows}
+use Rattle.olap_meaning.specs.Budget.{row_values}
 use Rattle.fact_reader.specs.Reading.{ReaderOf, reader_of, row_at}
 use Rattle.fact_reader.proofs.BatchFacts.{body_rows-append, body_rows-fit, different_texts, values_taken}
 

@@ -23,9 +23,9 @@ use Rattle.segment_body.specs.BodyOf.{BodyOf, body_row_in}
 use Rattle.list_orders.proofs.Aggregates.{aggregate_permutes}
 use Rattle.list_orders.proofs.Permutations.{IsPermutation-filter}
 use Rattle.std.proofs.lemmas.List.Sorted.{IsPermutation-map, IsPermutation-refl}
-use Rattle.segment_body.specs.Narrowed.{allowed_values, if_allowed}
+use Rattle.olap_meaning.specs.Budget.{allowed_values, if_allowed, row_values}
 use Rattle.segment_body.proofs.ValueFacts.{first_allowed}
-use Rattle.fact_reader.specs.BodyRows.{HoldsRows, row_values, row_number, header_measure, body_rows, body_of, body_value}
+use Rattle.fact_reader.specs.BodyRows.{HoldsRows, row_number, header_measure, body_rows, body_of, body_value}
 
 -- a column allows the value that it has
 abbrev pub is_kept : (ℕ → Option ℕ) → ℕ × Allowed → Bool

@@ -6,7 +6,8 @@ use Rattle.olap_meaning.specs.declared.tables.Row.{Row}
 use Rattle.fact_versions.specs.FactRows.{FactRows}
 use Rattle.segment_body.specs.BodyOf.{BodyOf}
 use Rattle.fact_reader.specs.declared.blocks.PlacedRow.{PlacedRow}
-use Rattle.fact_reader.specs.BodyRows.{row_number, row_values, values_in}
+use Rattle.fact_reader.specs.BodyRows.{row_number, values_in}
+use Rattle.olap_meaning.specs.Budget.{row_values}
 use Rattle.fact_reader.specs.Reading.{row_at}
 
 -- a row that a header allows, with its values on the header's columns

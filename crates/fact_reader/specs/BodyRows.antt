@@ -16,11 +16,7 @@ use Rattle.olap_meaning.specs.Values.{aggregate}
 use Rattle.olap_meaning.specs.Worth.{fact, row_value}
 use Rattle.fact_versions.specs.FactRows.{FactRows}
 use Rattle.segment_body.specs.BodyOf.{BodyOf, body_row_in}
-use Rattle.segment_body.specs.Narrowed.{allowed_values}
-
--- a row's values on a header's columns, in order: none where one is missing or is not allowed
-abbrev pub row_values : Catalog → Header → Row → Option (List ℕ)
-row_values catalog header row = allowed_values (row_value catalog header.cube row) header.columns
+use Rattle.olap_meaning.specs.Budget.{row_values}
 
 -- the measure of a header, in its cube
 abbrev pub header_measure : Catalog → Header → Option Measure

@@ -1,7 +1,8 @@
 //! Rows that are read once for several bodies.
 ghost use Rattle.std.specs.Prelude.{◌≡◌, ◌≤◌, ◌<◌, ◌+◌, ◌^◌, ◌++◌, All, IsTrue, OnOk, length, map, option_map, option_to_list, take};
 ghost use Rattle.segment_body.specs.BodyOf.{different_values};
-ghost use Rattle.fact_reader.specs.BodyRows.{body_row, is_batch, row_values};
+ghost use Rattle.fact_reader.specs.BodyRows.{body_row, is_batch};
+ghost use Rattle.olap_meaning.specs.Budget.{row_values};
 ghost use Rattle.fact_reader.specs.Blocks.{IsBehind, IsPlacedRow, kept_rows, own_row, valued_rows, with_block};
 ghost use Rattle.fact_reader.specs.Reading.{row_at};
 

@@ -3,8 +3,8 @@ ghost use Rattle.std.specs.Prelude.{◌≡◌, ◌<◌, ◌≤◌, ◌+◌, ◌^
 ghost use Rattle.olap_meaning.specs.Worth.{row_value};
 ghost use Rattle.segment_header.specs.Headers.{is_header};
 ghost use Rattle.fact_reader.specs.Reading.{row_at};
-ghost use Rattle.segment_body.specs.Narrowed.{if_allowed};
-ghost use Rattle.fact_reader.specs.BodyRows.{body_row, body_rows, is_batch, is_loadable, row_number, row_values};
+ghost use Rattle.olap_meaning.specs.Budget.{if_allowed, row_values};
+ghost use Rattle.fact_reader.specs.BodyRows.{body_row, body_rows, is_batch, is_loadable, row_number};
 
 use crate::places::{fact_place, fields_of, places_of};
 use catalog_tables::FieldColumn;

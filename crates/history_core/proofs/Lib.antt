@@ -1,3 +1,4 @@
 pub mod EntryFacts
 pub mod Flushes
 pub mod PackFacts
+pub mod SeatFacts

@@ -1,5 +1,5 @@
 -- Which loads some cells lack.
-use Rattle.std.specs.Prelude.{ℕ, zero, suc, ◌≡◌, List, [], ◌∷◌, ◌++◌, All, Bool, not, ◌&&◌, ◌==◌, Option, if◌then◌else◌, bytes_eq, filter, length, map, option_map}
+use Rattle.std.specs.Prelude.{ℕ, zero, suc, ◌≡◌, List, [], ◌∷◌, ◌++◌, All, Bool, not, ◌&&◌, ◌==◌, Option, if◌then◌else◌, bytes_eq, filter, filter_map, is_some, length, map, option_map}
 use Rattle.std.specs.List.{AllZip, find, list_any, zip}
 use Rattle.olap_meaning.specs.declared.cells.Cell.{Cell}
 use Rattle.olap_meaning.specs.declared.cells.Header.{Header}
@@ -7,7 +7,7 @@ use Rattle.olap_meaning.specs.declared.cells.Who.{Who}
 use Rattle.olap_meaning.specs.declared.tables.Catalog.{Catalog}
 use Rattle.olap_meaning.specs.Catalog.{values}
 use Rattle.olap_meaning.specs.Covering.{columns_of}
-use Rattle.olap_meaning.specs.History.{Entry, Load, is_some_and, version}
+use Rattle.olap_meaning.specs.History.{Entry, Load, awaited_load, is_some_and, version}
 use Rattle.olap_meaning.specs.Legal.{has_source}
 use Rattle.segment_header.specs.Widening.{Allowing, Serves}
 use Rattle.history_core.specs.Cache.{CacheOf}
@@ -20,6 +20,14 @@ numbers_from first (suc count) = first ∷ numbers_from (suc first) count
 -- the cells that have no source, exact or rolled, in order
 abbrev pub wanting : Catalog → List Entry → List Cell → List Cell
 wanting catalog history cells = filter (λ cell. not (has_source catalog history cell)) cells
+
+-- the cells that await no load in flight, in order
+abbrev pub unawaited : List Entry → List Cell → List Cell
+unawaited history cells = filter (λ cell. not (is_some (awaited_load history cell))) cells
+
+-- the loads that cells await, each where its cell awaits one
+abbrev pub awaited_loads : List Entry → List Cell → List ℕ
+awaited_loads history cells = filter_map (awaited_load history) cells
 
 -- two cells may share a load: they have one cube, one measure and the same columns
 abbrev pub alike : Cell → Cell → Bool
@@ -85,11 +93,12 @@ abbrev pub loads_over : CacheOf → Who → List Cell → List Header → List L
 loads_over cache who firsts headers =
     map (λ pair. load_with cache who pair.0 pair.1) (zip firsts headers)
 
--- the cells that want a load
+-- the cells that want a load: they have no source, and await no load in flight
 abbrev pub wanted_of : CacheOf → List Cell → List Cell
-wanted_of cache cells = wanting cache.setting.catalog cache.entries cells
+wanted_of cache cells =
+    unawaited cache.entries (wanting cache.setting.catalog cache.entries cells)
 
--- the loads that a look starts for some cells with these headers: one for each group of those that have no source
+-- the loads that a look starts for some cells with these headers: one for each group of those that want a load
 abbrev pub loads_with : CacheOf → Who → List Cell → List Header → List Load
 loads_with cache who cells headers =
     loads_over cache who (firsts [] (wanted_of cache cells)) headers

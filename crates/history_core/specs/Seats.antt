@@ -2,7 +2,7 @@
 use Rattle.std.specs.Prelude.{ℕ, ◌≡◌, ◌==◌, Bool, List, Option, Some, None, false, filter}
 use Rattle.olap_meaning.specs.declared.cells.Who.{Who}
 use Rattle.olap_meaning.specs.History as history
-use Rattle.olap_meaning.specs.History.{Entry, Append, Agg, Flush, Start, Done, Drop, Evict, Answer, Saw}
+use Rattle.olap_meaning.specs.History.{Entry, Append, Agg, Flush, Start, Done, Drop, Evict, Answer, Saw, Load}
 
 -- who did what an entry says; an eviction is nobody's
 abbrev pub actor : Entry → Option Who
@@ -27,3 +27,9 @@ entries_of history seat = filter (is_of_seat seat) history
 -- no load flies
 abbrev pub NoneFlies : List Entry → Type 0
 NoneFlies entries = (j : ℕ) → history.flying entries j ≡ false
+
+-- no load of a seat flies
+abbrev pub SeatIsIdle : List Entry → ℕ → Type 0
+SeatIsIdle entries seat =
+    (j : ℕ) (load : Load) → history.load_at entries j ≡ Some load → load.who.seat ≡ seat
+    → history.flying entries j ≡ false

@@ -1,19 +1,26 @@
 -- What entries cost a seat: first, and then.
-use Rattle.std.proofs.Common.{◌≡◌, sym, ◌∙◌, ap, ℕ, ◌+◌, List, ◌++◌, append_assoc, drop, length}
-use Rattle.std.proofs.lemmas.List.Elements.{filter-append}
+use Rattle.std.proofs.Common.{◌≡◌, sym, ◌∙◌, ap, ℕ, ◌+◌, Bool, ◌||◌, List, ◌++◌, append_assoc, drop, length}
+use Rattle.std.specs.List.{list_all}
+use Rattle.std.proofs.lemmas.Bool.{and_from}
+use Rattle.std.proofs.lemmas.List.Folds.{list_all-append}
 use Rattle.std.proofs.Math.Seq.{drop-append_seam}
 use Rattle.olap_meaning.specs.declared.tables.Catalog.{Catalog}
 use Rattle.olap_meaning.specs.declared.tables.Setting.{Setting}
+use Rattle.olap_meaning.specs.Budget.{is_eviction}
 use Rattle.olap_meaning.specs.History.{Entry}
 use Rattle.load_costs.specs.Costs.{seat_costs}
 use Rattle.load_costs.proofs.CostFacts.{costs-append}
-use Rattle.history_core.specs.Seats.{entries_of}
+use Rattle.history_core.specs.Seats.{is_of_seat}
 use Rattle.history_core.specs.Cache.{CacheOf}
 use Rattle.line_session.specs.Desks.{DeskOf, GoesOn, costs_between, costs_behind, with_more}
 
 -- what the entries after a history cost a seat
 pub started_are : (catalog : Catalog) (seat : ℕ) (before final more : List Entry) → final ≡ before ++ more → costs_behind catalog seat before final ≡ seat_costs catalog seat before more
 started_are catalog seat before final more grown = ap (seat_costs catalog seat before) (ap (drop (length before)) grown ∙ drop-append_seam before more)
+
+-- an entry of a seat, or an eviction
+abbrev is_own : ℕ → Entry → Bool
+is_own seat entry = is_eviction entry || is_of_seat seat entry
 
 -- from one to the next, and on
 pub on_and_on : (before middle after : DeskOf) → GoesOn before middle → GoesOn middle after → GoesOn before after
@@ -26,8 +33,7 @@ on_and_on before middle after (first, one) (then, two) = (
     seat = two.seat ∙ one.seat;
     alone = two.alone ∙ one.alone;
     own = λ alone.
-        let second : entries_of then before.seat ≡ then = ap (entries_of then) (sym one.seat) ∙ two.own (one.alone ∙ alone) in
-        filter-append _ first then ∙ ap (λ (es : List Entry). es ++ entries_of then before.seat) (one.own alone) ∙ ap (λ (es : List Entry). first ++ es) second;
+        list_all-append (is_own before.seat) first then ∙ and_from _ _ (one.own alone) (ap (λ (seat : ℕ). list_all (is_own seat) then) (sym one.seat) ∙ two.own (one.alone ∙ alone));
   },
 )
 

@@ -1,5 +1,5 @@
 -- A desk as contracts see it, and what its calls add to what its seat has seen.
-use Rattle.std.specs.Prelude.{ℕ, ◌≡◌, ◌⊎◌, ◌+◌, ◌<◌, ◌≤◌, ⊤, List, [], ◌∷◌, ◌++◌, Bool, true, false, Contains, Option, Some, None, drop, length, map, option_map, take, filter, is_some, not}
+use Rattle.std.specs.Prelude.{ℕ, ◌≡◌, ◌⊎◌, ◌+◌, ◌<◌, ◌≤◌, ⊤, List, [], ◌∷◌, ◌++◌, Bool, ◌||◌, true, false, Contains, Option, Some, None, drop, length, map, option_map, take, filter}
 use Rattle.std.specs.List.{list_all}
 use Rattle.olap_meaning.specs.declared.cells.Cell.{Cell}
 use Rattle.olap_meaning.specs.declared.cells.Header.{Header}
@@ -8,7 +8,8 @@ use Rattle.olap_meaning.specs.declared.regions.Region.{Region}
 use Rattle.olap_meaning.specs.declared.tables.Catalog.{Catalog}
 use Rattle.olap_meaning.specs.declared.tables.Row.{Row}
 use Rattle.olap_meaning.specs.History as history
-use Rattle.olap_meaning.specs.History.{Entry, Start, Done, Drop, Load, awaited_load, flying, load_at, version}
+use Rattle.olap_meaning.specs.History.{Entry, Start, Done, Drop, Load, load_at, version}
+use Rattle.olap_meaning.specs.Budget.{is_eviction, kept_groups}
 use Rattle.olap_meaning.specs.Legal.{is_next_call}
 use Rattle.load_costs.specs.Costs.{seat_costs}
 use Rattle.installed_tables.specs.Installed.{groups_built, present_version}
@@ -20,7 +21,7 @@ use Rattle.history_core.specs.Arrivals.{arrival_in}
 use Rattle.history_core.specs.Cache.{CacheOf}
 use Rattle.history_core.specs.Groups.{AreHeadersFor, IsHeaderFor, alike, firsts, load_count, load_with, loads_with, numbers_from, wanted_of}
 use Rattle.segment_header.specs.Widening.{Allowing}
-use Rattle.history_core.specs.Seats.{actor, entries_of}
+use Rattle.history_core.specs.Seats.{SeatIsIdle, actor, entries_of, is_of_seat}
 use Rattle.history_core.specs.Shown.{cache_lines}
 use Rattle.history_core.specs.declared.answers.AggBuilt.{AggBuilt}
 use Rattle.history_core.specs.declared.answers.Answer.{Answer}
@@ -40,12 +41,13 @@ abbrev pub with_more : CacheOf → List Entry → CacheOf
 with_more cache more =
     record { setting = cache.setting; entries = cache.entries ++ more }
 
--- what is seen goes on by these entries; where nobody else adds any, all of them are the seat's
+-- what is seen goes on by these entries; where nobody else adds any, each is the seat's, or an eviction
 pub record GoesOnBy (before after : DeskOf) (more : List Entry) : Type 0 where
   pub cache : after.cache ≡ with_more before.cache more
   pub seat : after.seat ≡ before.seat
   pub alone : after.alone ≡ before.alone
-  pub own : before.alone ≡ true → entries_of more before.seat ≡ more
+  pub own : before.alone ≡ true
+      → list_all (λ entry. is_eviction entry || is_of_seat before.seat entry) more ≡ true
 
 -- what is seen goes on
 abbrev pub GoesOn : DeskOf → DeskOf → Type 0
@@ -63,11 +65,18 @@ pub record AddsCall (before after : DeskOf) (more : List Entry) (call : Entry) :
   pub goes_on : GoesOnBy before after (more ++ call ∷ [])
   pub fronts : after.fronts ≡ before.fronts
 
+-- an answer of the seat was added after these entries, and after it evictions alone, after which the kept loads have no
+-- more groups than the budget
+pub record AddsAnswer (before after : DeskOf) (more : List Entry) (answer : Entry) : Type 0 where
+  pub evicted : List ℕ
+  pub goes_on : GoesOnBy before after (more ++ answer ∷ map history.Evict evicted)
+  pub within : kept_groups after.cache.setting.catalog after.cache.entries
+      ≤ after.cache.setting.budget
+  pub fronts : after.fronts ≡ before.fronts
+
 -- no load of the seat flies in what is seen
 abbrev pub IsIdle : DeskOf → Type 0
-IsIdle desk =
-    (j : ℕ) (load : Load) → load_at desk.cache.entries j ≡ Some load → load.who.seat ≡ desk.seat
-    → flying desk.cache.entries j ≡ false
+IsIdle desk = SeatIsIdle desk.cache.entries desk.seat
 
 -- an entry is a part of a load: its Start or its end
 abbrev pub is_of_load : Entry → Bool
@@ -94,10 +103,6 @@ none_behind_drops [] = true
 none_behind_drops (Drop who load ∷ entries) = list_all is_end entries
 none_behind_drops (entry ∷ entries) = none_behind_drops entries
 
--- the cells for which no flying load is awaited
-abbrev pub unawaited : List Entry → List Cell → List Cell
-unawaited entries cells = filter (λ cell. not (is_some (awaited_load entries cell))) cells
-
 -- a load is one that a look at some cells may start: that of one of their groups, with a header as may be allowed
 pub record MayBeStarted (allowing : Allowing) (cache : CacheOf) (who : Who) (cells : List Cell)
     (load : Load) : Type 0 where
@@ -107,11 +112,11 @@ pub record MayBeStarted (allowing : Allowing) (cache : CacheOf) (who : Who) (cel
       (filter (alike first) (wanted_of cache cells)) load.header
   pub load_is : load ≡ load_with cache who first load.header
 
--- a load is one that a look at some cells may start over these entries: one that the cells lack for which none is awaited
+-- a load is one that a look at some cells may start over these entries
 abbrev pub IsLoadOfLook : Allowing → CacheOf → List Entry → Who → List Cell → Load → Type 0
 IsLoadOfLook allowing cache entries who cells load =
     MayBeStarted allowing
-    (record { setting = cache.setting; entries = entries }) who (unawaited entries cells) load
+    (record { setting = cache.setting; entries = entries }) who cells load
 
 -- the Start at a position is one of a look at some cells, after this many entries: that look gives it over what was
 -- seen then, and since then there are only Starts of the same call
@@ -170,15 +175,15 @@ AreLoadsEnded allowing cache who cells more =
     × (ends : List Entry) × AreEnds who (load_numbers cache cells) ends
     × (more ≡ map Start (loads_with cache who cells headers) ++ ends))
 
--- cells were answered: the loads that they lack, each delivered, and then, as the last entry, the answer to the cells
--- at that time, with the sources that it tells; no load of the seat flies. A desk alone starts the loads of one look, and
+-- cells were answered: the loads that they lack, each delivered, and then, as the last entry except for evictions, the
+-- answer to the cells at that time, with the sources that it tells; no load of the seat flies. A desk alone starts the loads of one look, and
 -- none where each cell has a source
 pub record HasAsked (allowing : Allowing) (before after : DeskOf) (cells : List Cell)
     (answer : Answer) : Type 0 where
   pub who : Who
   pub own : who.seat ≡ before.seat
   pub more : List Entry
-  pub adds : AddsCall before after more (history.Answer who answer.sources.value)
+  pub adds : AddsAnswer before after more (history.Answer who answer.sources.value)
   pub loads : AreLoadsFor allowing before.cache who cells more
   pub delivered : list_all is_start_or_done (entries_of more before.seat) ≡ true
   pub alone : before.alone ≡ true → AreLoadsDelivered allowing before.cache who cells more

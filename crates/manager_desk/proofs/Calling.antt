@@ -1,10 +1,10 @@
 -- What seat 1 has done at its manager, as a desk alone.
-use Rattle.std.proofs.Common.{◌≡◌, refl, sym, ◌∙◌, ap, subst, ℕ, ◌+◌, ◌≤◌, List, [], ◌∷◌, ◌++◌, append_assoc, length, map, filter, Bool, true, false, ◌==◌, inl, inr, Some, None, arith, All, if◌then◌else◌}
+use Rattle.std.proofs.Common.{◌≡◌, refl, sym, ◌∙◌, ap, subst, ℕ, ◌+◌, ◌≤◌, List, [], ◌∷◌, ◌++◌, append_assoc, length, map, filter, Bool, true, false, ◌==◌, ◌||◌, inl, inr, Some, None, arith, All, if◌then◌else◌}
 use Rattle.std.specs.Prelude.{nat_lt}
 use Rattle.std.specs.List.{list_all}
-use Rattle.std.proofs.lemmas.Bool.{and_from, and_parts, eq-eqb, lt-ltb, ltb-true}
+use Rattle.std.proofs.lemmas.Bool.{and_from, and_parts, eq-eqb, lt-ltb, ltb-true, or_right}
 use Rattle.std.proofs.lemmas.List.{append-nil}
-use Rattle.std.proofs.lemmas.List.Elements.{All-append, All-cons, All-nil, filter-append}
+use Rattle.std.proofs.lemmas.List.Elements.{All-append, All-cons, All-head, All-nil, All-tail, filter-append}
 use Rattle.std.proofs.lemmas.List.Folds.{list_all-append}
 use Rattle.olap_meaning.specs.declared.cells.Cell.{Cell}
 use Rattle.olap_meaning.specs.declared.cells.Header.{Header}
@@ -13,6 +13,7 @@ use Rattle.olap_meaning.specs.declared.regions.Region.{Region}
 use Rattle.olap_meaning.specs.declared.tables.Catalog.{Catalog}
 use Rattle.olap_meaning.specs.declared.tables.Row.{Row}
 use Rattle.olap_meaning.specs.declared.tables.Setting.{Setting}
+use Rattle.olap_meaning.specs.Budget.{is_eviction, kept_groups}
 use Rattle.olap_meaning.specs.History.{Entry, Append, Agg, Flush, Start, Done, Drop, Evict, Answer, Saw, is_some_and, started, version}
 use Rattle.olap_meaning.specs.Legal.{caller, is_call_below, is_call_of, is_next_call, Legal}
 use Rattle.fact_versions.specs.Facts.{append_fault}
@@ -28,13 +29,14 @@ use Rattle.history_core.specs.Seats.{NoneFlies, is_of_seat, entries_of}
 use Rattle.history_core.specs.Shown.{cache_lines}
 use Rattle.load_costs.specs.Costs.{seat_costs, version_rows}
 use Rattle.installed_tables.specs.Installed.{groups_built, present_rows, present_version}
-use Rattle.line_session.specs.Desks.{AddsCall, AreLoadsFor, DeskOf, GoesOnBy, HasAppended, HasAsked, HasBuilt, HasFlushed, HasNotAsked, HasShown, costs_between, delivered_with, is_start_or_done, load_numbers, none_behind_drops, with_more}
+use Rattle.line_session.specs.Desks.{AddsAnswer as Answered, AddsCall, AreLoadsFor, DeskOf, GoesOnBy, HasAppended, HasAsked, HasBuilt, HasFlushed, HasNotAsked, HasShown, costs_between, delivered_with, is_start_or_done, load_numbers, none_behind_drops, with_more}
 use Rattle.line_session.proofs.Rows.{started_are}
 use Rattle.manager_desk.specs.Delivered.{cost_by}
 use Rattle.manager_desk.specs.Ends.{AddsAnswer, AddsEnded}
 use Rattle.manager_desk.specs.Keeping.{IsDesk}
 use Rattle.manager_desk.proofs.Counting.{count_one}
-use Rattle.manager_desk.proofs.Joining.{parts_uncalled, same_cache, still_idle}
+use Rattle.manager_desk.proofs.Joining.{parts_uncalled, same_cache}
+use Rattle.manager_desk.proofs.Seeing.{still_idle}
 use Rattle.manager_desk.proofs.Looks.{are_loads_for, look_parts, no_loads_for, none_behind}
 use Rattle.manager_desk.proofs.Own.{IsPartOf, delivered_all, dones_are_ends, own_entries, parts_all, parts_seat}
 
@@ -42,13 +44,42 @@ use Rattle.manager_desk.proofs.Own.{IsPartOf, delivered_all, dones_are_ends, own
 abbrev pub desk_of : CacheOf → DeskOf
 desk_of cache = record { cache = cache; seat = 1; alone = true; fronts = None }
 
--- what is seen goes on by entries of the seat
-pub goes_on : (before after : CacheOf) (more : List Entry) → after.setting ≡ before.setting → after.entries ≡ before.entries ++ more → All (λ e. is_of_seat 1 e ≡ true) more → GoesOnBy (desk_of before) (desk_of after) more
-goes_on before after more setting entries own = record {
+-- an entry of seat 1, or an eviction
+abbrev is_own : Entry → Bool
+is_own entry = is_eviction entry || is_of_seat 1 entry
+
+all_own : (more : List Entry) → All (λ e. is_of_seat 1 e ≡ true) more → list_all is_own more ≡ true
+all_own [] own = refl
+all_own (e ∷ es) own = and_from _ _ (or_right (is_eviction e) (is_of_seat 1 e) (All-head (λ o. is_of_seat 1 o ≡ true) e es own)) (all_own es (All-tail (λ o. is_of_seat 1 o ≡ true) e es own))
+
+evictions_own : (js : List ℕ) → list_all is_own (map Evict js) ≡ true
+evictions_own [] = refl
+evictions_own (j ∷ js) = evictions_own js
+
+-- what is seen goes on by such entries
+goes_on_by : (before after : CacheOf) (more : List Entry) → after.setting ≡ before.setting → after.entries ≡ before.entries ++ more → list_all is_own more ≡ true → GoesOnBy (desk_of before) (desk_of after) more
+goes_on_by before after more setting entries own = record {
   cache = same_cache after (with_more before more) setting entries;
   seat = refl;
   alone = refl;
-  own = λ _. own_entries 1 more own;
+  own = λ _. own;
+}
+
+-- what is seen goes on by entries of the seat
+pub goes_on : (before after : CacheOf) (more : List Entry) → after.setting ≡ before.setting → after.entries ≡ before.entries ++ more → All (λ e. is_of_seat 1 e ≡ true) more → GoesOnBy (desk_of before) (desk_of after) more
+goes_on before after more setting entries own = goes_on_by before after more setting entries (all_own more own)
+
+-- an answer after entries of the seat, and after it evictions
+adds_answered :
+    (before after : CacheOf) (more : List Entry) (answer : Entry) (evicted : List ℕ) → after.setting ≡ before.setting → after.entries ≡ (before.entries ++ more) ++ answer ∷ map Evict evicted → kept_groups after.setting.catalog after.entries ≤ after.setting.budget
+    → All (λ e. is_of_seat 1 e ≡ true) more → is_of_seat 1 answer ≡ true → Answered (desk_of before) (desk_of after) more answer
+adds_answered before after more answer evicted setting entries within own last = record {
+  evicted = evicted;
+  goes_on =
+      goes_on_by before after (more ++ answer ∷ map Evict evicted) setting (entries ∙ append_assoc before.entries more (answer ∷ map Evict evicted))
+      (list_all-append is_own more (answer ∷ map Evict evicted) ∙ and_from _ _ (all_own more own) (and_from _ _ (or_right (is_eviction answer) (is_of_seat 1 answer) last) (evictions_own evicted)));
+  within = within;
+  fronts = refl;
 }
 
 -- a call after entries of the seat
@@ -67,16 +98,16 @@ module _ (allowing : Allowing) (before : CacheOf) (who : Who) (cells : List Cell
   delivered_parts headers = look_parts before who cells headers (map (Done who) (load_numbers before cells)) (dones_are_ends who (load_numbers before cells))
 
   -- cells that were answered
-  pub has_asked : (after : CacheOf) (answer : Told) → NoneFlies before.entries → NoneFlies after.entries → who.seat ≡ 1 → AddsAnswer allowing before after who cells answer → HasAsked allowing (desk_of before) (desk_of after) cells answer
-  has_asked after answer idle quiet seat adds =
+  pub has_asked : (after : CacheOf) (answer : Told) → NoneFlies after.entries → who.seat ≡ 1 → AddsAnswer allowing before after who cells answer → HasAsked allowing (desk_of before) (desk_of after) cells answer
+  has_asked after answer quiet seat adds =
       let more : List Entry = delivered_with before who cells adds.headers in
       let own : All (λ e. is_of_seat 1 e ≡ true) more = parts_seat who 1 more seat (delivered_parts adds.headers) in
       record {
         who = who;
         own = seat;
         more = more;
-        adds = adds_call before after more (Answer who answer.sources.value) adds.setting adds.entries own (eq-eqb who.seat 1 seat);
-        loads = are_loads_for allowing before who cells adds.headers adds.allowed (map (Done who) (load_numbers before cells)) idle (dones_are_ends who (load_numbers before cells));
+        adds = adds_answered before after more (Answer who answer.sources.value) adds.evicted adds.setting adds.entries adds.within own (eq-eqb who.seat 1 seat);
+        loads = are_loads_for allowing before who cells adds.headers adds.allowed (map (Done who) (load_numbers before cells)) (dones_are_ends who (load_numbers before cells));
         delivered = ap (list_all is_start_or_done) (own_entries 1 more own) ∙ delivered_all who (loads_with before who cells adds.headers) (load_numbers before cells);
         alone = λ _. (adds.headers, adds.allowed, refl);
         answered = adds.answered;
@@ -89,10 +120,10 @@ module _ (allowing : Allowing) (before : CacheOf) (who : Who) (cells : List Cell
     | inr some ↦ subst (λ (es : List Entry). All (IsPartOf who) es) (sym some.4) (look_parts before who cells some.0 some.2 some.3)
   ]
 
-  ended_loads : (after : CacheOf) (adds : AddsEnded allowing before after who cells) → NoneFlies before.entries → AreLoadsFor allowing before who cells adds.more
-  ended_loads after adds idle = elim adds.ended [
+  ended_loads : (after : CacheOf) (adds : AddsEnded allowing before after who cells) → AreLoadsFor allowing before who cells adds.more
+  ended_loads after adds = elim adds.ended [
     | inl none ↦ subst (λ (es : List Entry). AreLoadsFor allowing before who cells es) (sym none) (no_loads_for allowing before who cells)
-    | inr some ↦ subst (λ (es : List Entry). AreLoadsFor allowing before who cells es) (sym some.4) (are_loads_for allowing before who cells some.0 some.1 some.2 idle some.3)
+    | inr some ↦ subst (λ (es : List Entry). AreLoadsFor allowing before who cells es) (sym some.4) (are_loads_for allowing before who cells some.0 some.1 some.2 some.3)
   ]
 
   ended_behind : (after : CacheOf) (adds : AddsEnded allowing before after who cells) → none_behind_drops adds.more ≡ true
@@ -102,8 +133,8 @@ module _ (allowing : Allowing) (before : CacheOf) (who : Who) (cells : List Cell
   ]
 
   -- cells that were not answered
-  pub has_not_asked : (after : CacheOf) → NoneFlies before.entries → NoneFlies after.entries → who.seat ≡ 1 → is_next_call before.entries who ≡ true → AddsEnded allowing before after who cells → HasNotAsked allowing (desk_of before) (desk_of after) cells
-  has_not_asked after idle quiet seat next adds =
+  pub has_not_asked : (after : CacheOf) → NoneFlies after.entries → who.seat ≡ 1 → is_next_call before.entries who ≡ true → AddsEnded allowing before after who cells → HasNotAsked allowing (desk_of before) (desk_of after) cells
+  has_not_asked after quiet seat next adds =
       let parts = ended_parts after adds in
       let own : All (λ e. is_of_seat 1 e ≡ true) adds.more = parts_seat who 1 adds.more seat parts in
       record {
@@ -113,7 +144,7 @@ module _ (allowing : Allowing) (before : CacheOf) (who : Who) (cells : List Cell
         more = adds.more;
         goes_on = goes_on before after adds.more adds.setting adds.entries own;
         fronts = refl;
-        loads = ended_loads after adds idle;
+        loads = ended_loads after adds;
         given_up = ap none_behind_drops (own_entries 1 adds.more own) ∙ ended_behind after adds;
         idle = λ j load at own. quiet j;
         alone = λ _. adds.ended;
@@ -121,7 +152,7 @@ module _ (allowing : Allowing) (before : CacheOf) (who : Who) (cells : List Cell
 
 -- where nothing was added, cells were not answered
 pub nothing_asked : (allowing : Allowing) (cache : CacheOf) (who : Who) (cells : List Cell) → NoneFlies cache.entries → who.seat ≡ 1 → is_next_call cache.entries who ≡ true → HasNotAsked allowing (desk_of cache) (desk_of cache) cells
-nothing_asked allowing cache who cells idle seat next = has_not_asked allowing cache who cells cache idle idle seat next (record { more = []; setting = refl; entries = sym (append-nil cache.entries); ended = inl refl })
+nothing_asked allowing cache who cells idle seat next = has_not_asked allowing cache who cells cache idle seat next (record { more = []; setting = refl; entries = sym (append-nil cache.entries); ended = inl refl })
 
 -- calls below a number are below a greater one
 below_rises : (n m : ℕ) (entry : Entry) → n ≤ m → is_call_below n entry ≡ true → is_call_below m entry ≡ true
@@ -152,6 +183,18 @@ pub next_parts : (before after more : List Entry) (who : Who) (seat n m : ℕ) �
 next_parts before after more who seat n m grown le parts next =
     next_after before after more seat n m grown le (ap (list_all (is_call_below m)) (parts_uncalled more seat (parts_all who more parts))) next
 
+evictions_uncalled : (seat : ℕ) (js : List ℕ) → filter (is_call_of seat) (map Evict js) ≡ []
+evictions_uncalled seat [] = refl
+evictions_uncalled seat (j ∷ js) = evictions_uncalled seat js
+
+-- and so after a call and then evictions
+next_evicting :
+    (before after : List Entry) (call : Entry) (evicted : List ℕ) (seat n m : ℕ) → after ≡ before ++ call ∷ map Evict evicted → n ≤ m → is_call_of seat call ≡ true → is_call_below m call ≡ true → is_next_call before (record { seat = seat; call = n }) ≡ true
+    → is_next_call after (record { seat = seat; call = m }) ≡ true
+next_evicting before after call evicted seat n m grown le own below next =
+    let one : list_all (is_call_below m) (filter (is_call_of seat) (call ∷ map Evict evicted)) ≡ true = rw (own, evictions_uncalled seat evicted) (and_from _ _ below refl) in
+    next_after before after (call ∷ map Evict evicted) seat n m grown le one next
+
 pub next_call : (before after : List Entry) (call : Entry) (seat n m : ℕ) → after ≡ before ++ call ∷ [] → n ≤ m → is_call_of seat call ≡ true → is_call_below m call ≡ true → is_next_call before (record { seat = seat; call = n }) ≡ true → is_next_call after (record { seat = seat; call = m }) ≡ true
 next_call before after call seat n m grown le own below next =
     let one : list_all (is_call_below m) (filter (is_call_of seat) (call ∷ [])) ≡ true = rw own (and_from _ _ below refl) in
@@ -163,7 +206,7 @@ pub next_answered : (allowing : Allowing) (before after : CacheOf) (who : Who) (
 next_answered allowing before after who cells answer last is adds next =
     let seat : who.seat ≡ 1 = ap (λ (w : Who). w.seat) is in
     let number : who.call ≡ last + 1 = ap (λ (w : Who). w.call) is in
-    next_call (before.entries ++ delivered_with before who cells adds.headers) after.entries (Answer who answer.sources.value) 1 (last + 1) (who.call + 1) adds.entries (omega (arith, number)) (eq-eqb who.seat 1 seat)
+    next_evicting (before.entries ++ delivered_with before who cells adds.headers) after.entries (Answer who answer.sources.value) adds.evicted 1 (last + 1) (who.call + 1) adds.entries (omega (arith, number)) (eq-eqb who.seat 1 seat)
     (lt-ltb who.call (who.call + 1) (omega arith))
     (next_parts before.entries (before.entries ++ delivered_with before who cells adds.headers) (delivered_with before who cells adds.headers) who 1 (last + 1) (last + 1) refl (omega arith) (delivered_parts allowing before who cells adds.headers) next)
 

@@ -17,12 +17,13 @@ use Rattle.segment_load.specs.Loads.{JobOf, job_cost}
 use Rattle.history_core.specs.Cache.{CacheOf}
 use Rattle.history_core.specs.Seats.{is_of_seat, entries_of}
 use Rattle.cache_manager.specs.Jobs.{IsJobOf}
-use Rattle.cache_manager.proofs.Pushes.{flying_parts}
 use Rattle.load_costs.specs.Costs.{cost}
 use Rattle.load_costs.proofs.CostFacts.{cost_on}
 use Rattle.manager_desk.specs.Delivered.{cost_by, costs_delivered}
 use Rattle.manager_desk.specs.Keeping.{IsCount}
 use Rattle.manager_desk.proofs.Lists.{sum_none, sum_same}
+use Rattle.manager_desk.proofs.Seeing.{all_evictions, flying_parts}
+use Rattle.olap_meaning.specs.declared.cells.CellSource.{CellSource}
 
 -- a delivered load was started
 done_started : (setting : Setting) (entries : List Entry) (i : ℕ) (who : Who) (j : ℕ) → Legal setting entries → slice_get entries i ≡ Some (Done who j) → (load : Load) × (load_at entries j ≡ Some load)
@@ -71,6 +72,14 @@ count_starts setting entries after loads read legal grown count = count_on setti
 pub count_one : (setting : Setting) (entries after : List Entry) (entry : Entry) (read : ℕ) → Legal setting entries → cost_by setting.catalog after 1 entry ≡ 0 → after ≡ entries ++ entry ∷ [] → IsCount setting.catalog entries read → IsCount setting.catalog after read
 count_one setting entries after entry read legal none grown count =
     count_on setting entries (entry ∷ []) after read legal (All-cons (λ e. cost_by setting.catalog after 1 e ≡ 0) entry [] none (All-nil (λ e. cost_by setting.catalog after 1 e ≡ 0))) grown count
+
+-- nor do an answer and evictions
+pub count_answer :
+    (setting : Setting) (entries after : List Entry) (who : Who) (cells : List CellSource) (evicted : List ℕ) (read : ℕ) → Legal setting entries → after ≡ entries ++ Answer who cells ∷ map Evict evicted → IsCount setting.catalog entries read
+    → IsCount setting.catalog after read
+count_answer setting entries after who cells evicted read legal grown count =
+    count_on setting entries (Answer who cells ∷ map Evict evicted) after read legal
+    (All-cons (λ e. cost_by setting.catalog after 1 e ≡ 0) (Answer who cells) (map Evict evicted) refl (all_evictions (λ e. cost_by setting.catalog after 1 e ≡ 0) (λ j. refl) evicted)) grown count
 
 -- a delivery adds what its job has cost
 pub count_done :

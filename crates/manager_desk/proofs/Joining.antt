@@ -1,12 +1,13 @@
 -- What an ask adds, joined from its looks and its loads.
-use Rattle.std.proofs.Common.{◌≡◌, refl, sym, ◌∙◌, ap, subst, ℕ, suc, ◌+◌, List, [], ◌∷◌, ◌++◌, append_assoc, length, map, filter, true, false, not, ◌==◌, ◌⊎◌, inl, inr, None, is_some, arith, All}
+use Rattle.std.proofs.Common.{◌≡◌, refl, sym, ◌∙◌, ap, subst, ℕ, suc, ◌+◌, ◌≤◌, List, [], ◌∷◌, ◌++◌, append_assoc, length, map, filter, true, false, not, ◌==◌, ◌⊎◌, inl, inr, None, arith, All}
 use Rattle.std.specs.Prelude.{IsTrue, sum_by}
 use Rattle.std.specs.List.{list_all, list_any}
-use Rattle.std.proofs.lemmas.Bool.{and_parts, both_ways, eq-eqb, false_from_ne_true, or_cases, or_left, or_right}
+use Rattle.std.proofs.lemmas.Bool.{and_parts, both_ways, eq-eqb, or_cases, or_from, or_left, or_right}
 use Rattle.std.proofs.lemmas.List.{append-nil, length-append}
 use Rattle.std.proofs.lemmas.List.Elements.{All-cons, All-contains, All-head, All-nil, All-tail, filter-append}
 use Rattle.std.proofs.lemmas.List.Folds.{list_any-append}
 use Rattle.olap_meaning.specs.declared.cells.Cell.{Cell}
+use Rattle.olap_meaning.specs.declared.cells.CellSource.{CellSource}
 use Rattle.olap_meaning.specs.declared.cells.Header.{Header}
 use Rattle.olap_meaning.specs.declared.cells.Who.{Who}
 use Rattle.olap_meaning.specs.declared.tables.Setting.{Setting}
@@ -15,24 +16,25 @@ use Rattle.olap_meaning.specs.History.{Entry, Append, Agg, Flush, Start, Done, D
 use Rattle.olap_meaning.specs.Legal.{Legal, has_source, is_call_below, is_call_of, is_cell, is_next_call}
 use Rattle.segment_load.specs.Loads.{JobOf, job_cost}
 use Rattle.olap_meaning.proofs.Loads.{kept_from}
-use Rattle.olap_meaning.proofs.Steps.{none_evicted}
 use Rattle.history_core.specs.declared.answers.Answer.{Answer as Told}
-use Rattle.history_core.specs.Answers.{HasSource, IsAnswer, SomeWants}
+use Rattle.history_core.specs.Answers.{AddsEvicting, HasSource, IsAnswer, SomeWants, Waits}
 use Rattle.history_core.specs.Cache.{CacheOf}
-use Rattle.history_core.specs.Groups.{loads_with, numbers_from, wanted_of, wanting}
+use Rattle.history_core.specs.Groups.{load_count, loads_with, numbers_from, wanted_of, wanting}
 use Rattle.segment_header.specs.Widening.{Allowing}
 use Rattle.history_core.specs.Seats.{NoneFlies}
 use Rattle.cache_manager.specs.Jobs.{IsJobOf}
-use Rattle.cache_manager.proofs.Pushes.{flying_back}
-use Rattle.cache_manager.proofs.Ready.{delivered_looks_are_ready, serving_headers}
+use Rattle.cache_manager.specs.Laws.{DeliveredLooksAreReady}
 use Rattle.line_session.specs.Desks.{AreEnds, AreHeadersOf, delivered_with, is_of_load, load_numbers, costs_behind, with_more}
 use Rattle.manager_desk.specs.Ends.{AddsAnswer, AddsEnded, AreOut, EndsJobs, done_of}
 use Rattle.manager_desk.proofs.Looks.{look_parts}
+use Rattle.manager_desk.proofs.Counting.{count_answer}
+use Rattle.manager_desk.proofs.Seeing.{all_evictions, flying_back, idle_on, later_unevicted, no_loads_awaited, numbers_above, serving_headers}
+use Rattle.manager_desk.specs.Keeping.{IsCount}
 use Rattle.manager_desk.proofs.Own.{dones_of_call, ends_of_call, loads_counted, loads_own, parts_all}
 use Rattle.line_session.proofs.Rows.{started_are}
-use Rattle.load_costs.specs.Costs.{seat_cost, seat_costs}
+use Rattle.load_costs.specs.Costs.{seat_costs}
 use Rattle.load_costs.proofs.CostFacts.{costs-append}
-use Rattle.manager_desk.proofs.Reading.{dones_cost_none, jobs_are}
+use Rattle.manager_desk.proofs.Reading.{answer_costs_none, dones_cost_none, jobs_are}
 
 -- after some Starts only their loads may fly, beside those that did
 started_flying : (entries : List Entry) (loads : List Load) (n j : ℕ) → n ≡ length entries + 1 → flying (entries ++ map Start loads) j ≡ true → (flying entries j ≡ true) ⊎ (among (numbers_from n (length loads)) j ≡ true)
@@ -75,19 +77,12 @@ still_next before after more who grown parts next =
     ∙ ap (list_all (is_call_below who.call)) (filter-append (is_call_of who.seat) before more ∙ ap (λ (es : List Entry). filter (is_call_of who.seat) before ++ es) (parts_uncalled more who.seat parts) ∙ append-nil (filter (is_call_of who.seat) before))
     ∙ next
 
--- an answer leaves nothing flying that did not fly
-pub still_idle : (before after : List Entry) (entry : Entry) → started entry ≡ None → after ≡ before ++ entry ∷ [] → NoneFlies before → NoneFlies after
-still_idle before after entry none grown idle j =
-    false_from_ne_true _
-    (λ h.
-    elim (flying_back before entry j (ap (λ (es : List Entry). flying es j) (sym grown) ∙ h)).1 [
-      | inl old ↦ both_ways _ (idle j) old
-      | inr new ↦ let quiet : is_some (started entry) ≡ false = ap is_some none in both_ways _ quiet new.1
-    ])
-
 -- a cell has a source, or none
 pub source_or_none : (cache : CacheOf) (cells : List Cell) → All (HasSource cache) cells → SomeWants cache cells → ⊥
 source_or_none cache cells all wants = both_ways (has_source cache.setting.catalog cache.entries wants.0) wants.2 (All-contains (HasSource cache) cells wants.0 all wants.1)
+
+pub served_or_not : (cache : CacheOf) (cells : List Cell) (loads : List ℕ) → All (HasSource cache) cells → Waits cache cells loads → ⊥
+served_or_not cache cells loads all waits = both_ways (has_source cache.setting.catalog cache.entries waits.some.0) waits.some.2 (All-contains (HasSource cache) cells waits.some.0 all waits.some.1)
 
 -- where each cell has a source, no load is missing
 none_wanting : (cache : CacheOf) (cells : List Cell) → All (HasSource cache) cells → wanting cache.setting.catalog cache.entries cells ≡ []
@@ -114,15 +109,31 @@ same_cache one other setting entries =
 
 -- the answer to cells after the loads that they lack, each delivered
 pub adds_answer :
-    (allowing : Allowing) (before middle after : CacheOf) (who : Who) (cells : List Cell) (headers : List Header) (answer : Told) → AreHeadersOf allowing before cells headers → middle.setting ≡ before.setting → middle.entries ≡ before.entries ++ delivered_with before who cells headers → after.setting ≡ middle.setting
-    → after.entries ≡ middle.entries ++ Answer who answer.sources.value ∷ [] → IsAnswer middle cells answer → AddsAnswer allowing before after who cells answer
-adds_answer allowing before middle after who cells headers answer allowed same loaded kept grown is = record {
+    (allowing : Allowing) (before middle after : CacheOf) (who : Who) (cells : List Cell) (headers : List Header) (answer : Told) → AreHeadersOf allowing before cells headers → middle.setting ≡ before.setting → middle.entries ≡ before.entries ++ delivered_with before who cells headers
+    → AddsEvicting middle after (Answer who answer.sources.value) → IsAnswer middle cells answer → AddsAnswer allowing before after who cells answer
+adds_answer allowing before middle after who cells headers answer allowed same loaded adds is = record {
   headers = headers;
   allowed = allowed;
-  setting = kept ∙ same;
-  entries = grown ∙ ap (λ (es : List Entry). es ++ Answer who answer.sources.value ∷ []) loaded;
+  evicted = adds.evicted;
+  setting = adds.setting ∙ same;
+  entries = adds.entries ∙ ap (λ (es : List Entry). es ++ Answer who answer.sources.value ∷ map Evict adds.evicted) loaded;
+  within = adds.within;
   answered = subst (λ (cache : CacheOf). IsAnswer cache cells answer) (same_cache middle (with_more before (delivered_with before who cells headers)) same loaded) is;
 }
+
+-- an answer and evictions start no load, and cost nothing
+pub idle_answered : (before after : CacheOf) (who : Who) (cells : List CellSource) → AddsEvicting before after (Answer who cells) → NoneFlies before.entries → NoneFlies after.entries
+idle_answered before after who cells adds idle =
+    subst NoneFlies (sym adds.entries)
+    (idle_on before.entries (Answer who cells ∷ map Evict adds.evicted) (All-cons (λ e. started e ≡ None) (Answer who cells) (map Evict adds.evicted) refl (all_evictions (λ e. started e ≡ None) (λ j. refl) adds.evicted)) idle)
+
+pub count_answered : (before after : CacheOf) (who : Who) (cells : List CellSource) (read : ℕ) → Legal before.setting before.entries → AddsEvicting before after (Answer who cells) → IsCount before.setting.catalog before.entries read → IsCount before.setting.catalog after.entries read
+count_answered before after who cells read legal adds count = count_answer before.setting before.entries after.entries who cells adds.evicted read legal adds.entries count
+
+pub cost_answered : (before after : CacheOf) (who : Who) (cells : List CellSource) → AddsEvicting before after (Answer who cells) → costs_behind before.setting.catalog 1 before.entries after.entries ≡ 0
+cost_answered before after who cells adds =
+    started_are before.setting.catalog 1 before.entries after.entries (Answer who cells ∷ map Evict adds.evicted) adds.entries
+    ∙ answer_costs_none before.setting.catalog before.entries who cells adds.evicted
 
 -- where each cell has a source, the loads that they lack are there
 pub none_lacking : (cache : CacheOf) (who : Who) (cells : List Cell) → All (HasSource cache) cells → cache.entries ≡ cache.entries ++ delivered_with cache who cells []
@@ -137,30 +148,47 @@ dones_deliver : (who : Who) (ns : List ℕ) (j : ℕ) → among ns j ≡ true �
 dones_deliver who [] j h = h
 dones_deliver who (n ∷ ns) j h = elim (or_cases (n == j) (among ns j) h) [ inl here ↦ or_left _ _ here | inr there ↦ or_right _ _ (dones_deliver who ns j there) ]
 
+-- neither Starts nor deliveries evict a load
 dones_evict_none : (j : ℕ) (who : Who) (ns : List ℕ) → list_any (evicts j) (map (Done who) ns) ≡ false
 dones_evict_none j who [] = refl
 dones_evict_none j who (n ∷ ns) = dones_evict_none j who ns
 
-dones_keep : (before starts : List Entry) (who : Who) (all ns : List ℕ) → ((j : ℕ) → list_any (evicts j) (before ++ (starts ++ map (Done who) all)) ≡ false) → ((j : ℕ) → among ns j ≡ true → among all j ≡ true) → All (λ j. IsTrue (kept (before ++ (starts ++ map (Done who) all)) j)) ns
-dones_keep before starts who all [] stays into = All-nil _
-dones_keep before starts who all (n ∷ ns) stays into =
-    All-cons (λ j. IsTrue (kept (before ++ (starts ++ map (Done who) all)) j)) n ns
-    (kept_from (before ++ (starts ++ map (Done who) all)) n
-    (list_any-append (delivers n) before (starts ++ map (Done who) all)
-    ∙ or_right _ _ (list_any-append (delivers n) starts (map (Done who) all) ∙ or_right _ _ (dones_deliver who all n (into n (or_left _ _ (eq-eqb n n refl))))))
-    (stays n))
-    (dones_keep before starts who all ns stays (λ j h. into j (or_right (n == j) (among ns j) h)))
+look_evicts_none : (j : ℕ) (loads : List Load) (who : Who) (ns : List ℕ) → list_any (evicts j) (map Start loads ++ map (Done who) ns) ≡ false
+look_evicts_none j [] who ns = dones_evict_none j who ns
+look_evicts_none j (load ∷ loads) who ns = look_evicts_none j loads who ns
 
--- where the loads of a look were all delivered, each of its cells has a source
-pub ready_again : (allowing : Allowing) (before after : CacheOf) (who : Who) (cells : List Cell) (headers : List Header) → AreHeadersOf allowing before cells headers → Legal after.setting after.entries → list_all (is_cell before.setting.catalog) cells ≡ true → after.setting ≡ before.setting → after.entries ≡ before.entries ++ delivered_with before who cells headers → All (HasSource after) cells
-ready_again allowing before after who cells headers allowed legal known same grown =
+dones_keep :
+    (before : List Entry) (loads : List Load) (who : Who) (all ns : List ℕ) → ((j : ℕ) → among ns j ≡ true → list_any (evicts j) before ≡ false) → ((j : ℕ) → among ns j ≡ true → among all j ≡ true)
+    → All (λ j. IsTrue (kept (before ++ (map Start loads ++ map (Done who) all)) j)) ns
+dones_keep before loads who all [] stays into = All-nil _
+dones_keep before loads who all (n ∷ ns) stays into =
+    let here : among (n ∷ ns) n ≡ true = or_left _ _ (eq-eqb n n refl) in
+    All-cons (λ j. IsTrue (kept (before ++ (map Start loads ++ map (Done who) all)) j)) n ns
+    (kept_from (before ++ (map Start loads ++ map (Done who) all)) n
+    (list_any-append (delivers n) before (map Start loads ++ map (Done who) all)
+    ∙ or_right _ _ (list_any-append (delivers n) (map Start loads) (map (Done who) all) ∙ or_right _ _ (dones_deliver who all n (into n here))))
+    (list_any-append (evicts n) before (map Start loads ++ map (Done who) all) ∙ or_from _ _ (stays n here) (look_evicts_none n loads who all)))
+    (dones_keep before loads who all ns (λ j h. stays j (or_right (n == j) (among ns j) h)) (λ j h. into j (or_right (n == j) (among ns j) h)))
+
+-- where the loads of a look were all delivered, each of its cells has a source: none was evicted before it was started
+pub ready_again :
+    (law : DeliveredLooksAreReady) (allowing : Allowing) (before after : CacheOf) (who : Who) (cells : List Cell) (headers : List Header) → AreHeadersOf allowing before cells headers → Legal before.setting before.entries → NoneFlies before.entries → list_all (is_cell before.setting.catalog) cells ≡ true
+    → after.setting ≡ before.setting → after.entries ≡ before.entries ++ delivered_with before who cells headers → All (HasSource after) cells
+ready_again law allowing before after who cells headers allowed legal idle known same grown =
     subst (λ (cache : CacheOf). All (HasSource cache) cells) (sym (same_cache after (with_more before (delivered_with before who cells headers)) same grown))
-    (delivered_looks_are_ready before who cells headers (map (Done who) (load_numbers before cells)) known (serving_headers allowing before.setting.catalog (wanted_of before cells) headers allowed) (none cells) (λ j. dones_evict_none j who (load_numbers before cells))
-    (dones_keep before.entries (map Start (loads_with before who cells headers)) who (load_numbers before cells) (load_numbers before cells) (λ j. ap (list_any (evicts j)) (sym grown) ∙ none_evicted after.setting after.entries legal j) (λ j h. h)))
+    (law before who cells headers (map (Done who) (load_numbers before cells)) known (serving_headers allowing before.setting.catalog (wanted_of before cells) headers allowed) (none cells) (λ j. dones_evict_none j who (load_numbers before cells))
+    (dones_keep before.entries (loads_with before who cells headers) who (load_numbers before cells) (load_numbers before cells) stays (λ j h. h))
+    (subst (All (λ j. IsTrue (kept (before.entries ++ (map Start (loads_with before who cells headers) ++ map (Done who) (load_numbers before cells))) j)))
+    (sym (no_loads_awaited before.entries (wanting before.setting.catalog before.entries cells) idle)) (All-nil _)))
   where
     none : (some : List Cell) → All (λ cell. list_any (flushes cell) (map (Done who) (load_numbers before cells)) ≡ false) some
     none [] = All-nil _
     none (cell ∷ others) = All-cons (λ c. list_any (flushes c) (map (Done who) (load_numbers before cells)) ≡ false) cell others (dones_flush_none cell who (load_numbers before cells)) (none others)
+
+    stays : (j : ℕ) → among (load_numbers before cells) j ≡ true → list_any (evicts j) before.entries ≡ false
+    stays j h =
+        let above : length before.entries + 1 ≤ j = numbers_above (length before.entries + 1) (load_count before cells) j h in
+        later_unevicted before.setting before.entries j legal (omega (arith, above))
 
 -- a look that has started its loads, and its jobs
 pub record IsStarted (allowing : Allowing) (before middle : CacheOf) (who : Who) (cells : List Cell) (headers : List Header) (jobs : List JobOf) : Type 0 where
@@ -232,11 +260,13 @@ module _ (allowing : Allowing) (before middle : CacheOf) (who : Who) (cells : Li
 
   -- where they were all delivered and the cells were answered, it is just what the jobs cost
   pub cost_in_all :
-      (after : List Entry) (answer : Entry) → who.seat ≡ 1 → ((es : List Entry) → seat_cost before.setting.catalog 1 es answer ≡ 0) → after ≡ (middle.entries ++ map done_of jobs) ++ answer ∷ []
-      → costs_behind before.setting.catalog 1 before.entries after ≡ sum_by job_cost jobs
-  cost_in_all after answer seat none grown =
+      (done after : CacheOf) (cells : List CellSource) → who.seat ≡ 1 → done.entries ≡ middle.entries ++ map done_of jobs → AddsEvicting done after (Answer who cells)
+      → costs_behind before.setting.catalog 1 before.entries after.entries ≡ sum_by job_cost jobs
+  cost_in_all done after cells seat delivered adds =
       let catalog = before.setting.catalog in
-      let all = cost_by_starts after (map done_of jobs ++ answer ∷ []) (grown ∙ append_assoc middle.entries (map done_of jobs) (answer ∷ [])) seat in
-      let split = costs-append catalog 1 middle.entries (map done_of jobs) (answer ∷ []) in
-      let nothing = none (middle.entries ++ map done_of jobs) in
+      let last = Answer who cells ∷ map Evict adds.evicted in
+      let grown : after.entries ≡ (middle.entries ++ map done_of jobs) ++ last = adds.entries ∙ ap (λ (es : List Entry). es ++ last) delivered in
+      let all = cost_by_starts after.entries (map done_of jobs ++ last) (grown ∙ append_assoc middle.entries (map done_of jobs) last) seat in
+      let split = costs-append catalog 1 middle.entries (map done_of jobs) last in
+      let nothing = answer_costs_none catalog (middle.entries ++ map done_of jobs) who cells adds.evicted in
       omega (arith, all, split, dones_cost_none catalog middle.entries jobs, nothing)

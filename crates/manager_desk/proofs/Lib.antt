@@ -1,3 +1,4 @@
+pub mod Seeing
 pub mod Ending
 pub mod Lists
 pub mod Own

@@ -1,5 +1,5 @@
 -- Loads that are started and ended in one go are those of one look.
-use Rattle.std.proofs.Common.{◌≡◌, refl, sym, ◌∙◌, ap, subst, ℕ, zero, suc, ◌+◌, ◌-◌, ◌<◌, List, [], ◌∷◌, ◌++◌, length, map, filter, inl, inr, not, is_some, true, Option, Some, None, slice_get, arith, All, Contains}
+use Rattle.std.proofs.Common.{◌≡◌, refl, sym, ◌∙◌, ap, subst, ℕ, zero, suc, ◌+◌, ◌-◌, ◌<◌, List, [], ◌∷◌, ◌++◌, length, map, filter, inl, inr, true, Some, None, slice_get, arith, All, Contains}
 use Rattle.std.specs.List.{AllZip, list_all, zip}
 use Rattle.std.proofs.Math.Seq.{take-append_seam}
 use Rattle.std.proofs.lemmas.List.{append-nil}
@@ -7,18 +7,17 @@ use Rattle.std.proofs.lemmas.List.Elements.{All-append, All-contains, All-nil}
 use Rattle.olap_meaning.specs.declared.cells.Cell.{Cell}
 use Rattle.olap_meaning.specs.declared.cells.Header.{Header}
 use Rattle.olap_meaning.specs.declared.cells.Who.{Who}
-use Rattle.olap_meaning.specs.History.{Entry, Load, Start, awaited_load, entry_at, load_at, started}
+use Rattle.olap_meaning.specs.History.{Entry, Load, Start, entry_at, load_at, started}
 use Rattle.olap_meaning.proofs.Loads.{load_start, start_load}
 use Rattle.olap_meaning.proofs.Members.{in_first, in_rest}
 use Rattle.olap_meaning.proofs.Lists.{holds_at}
 use Rattle.history_core.specs.Cache.{CacheOf}
 use Rattle.history_core.specs.Groups.{IsHeaderFor, alike, firsts, load_with, loads_with, wanted_of}
 use Rattle.segment_header.specs.Widening.{Allowing}
-use Rattle.history_core.specs.Seats.{NoneFlies, actor, entries_of}
-use Rattle.cache_manager.proofs.Looking.{idle_unawaited}
-use Rattle.cache_manager.proofs.Pushes.{load_within}
-use Rattle.line_session.specs.Desks.{AreEnds, AreHeadersOf, AreLoadsFor, IsLoadOfLook, IsOfLook, MayBeStarted, is_end, is_of_load, load_numbers, none_behind_drops, unawaited, with_more}
+use Rattle.history_core.specs.Seats.{actor, entries_of}
+use Rattle.line_session.specs.Desks.{AreEnds, AreHeadersOf, AreLoadsFor, IsLoadOfLook, IsOfLook, MayBeStarted, is_end, is_of_load, load_numbers, none_behind_drops, with_more}
 use Rattle.manager_desk.proofs.Lists.{get_before, get_behind}
+use Rattle.manager_desk.proofs.Seeing.{load_within}
 use Rattle.manager_desk.proofs.Own.{IsPartOf, ends_parts, ends_start_none, loads_own, own_entries, parts_all, parts_seat, starts_parts}
 
 start_back : (loads : List Load) (ends : List Entry) (i : ℕ) (load : Load) → All (λ e. started e ≡ None) ends → slice_get (map Start loads ++ ends) i ≡ Some (Start load) → slice_get loads i ≡ Some load
@@ -30,13 +29,6 @@ start_on : (loads : List Load) (ends : List Entry) (k : ℕ) (load : Load) → s
 start_on [] ends k load at = absurd (cc)
 start_on (l ∷ ls) ends zero load at = cc
 start_on (l ∷ ls) ends (suc k) load at = start_on ls ends k load at
-
--- where no load flies, none is awaited
-pub all_unawaited : (entries : List Entry) (cells : List Cell) → NoneFlies entries → unawaited entries cells ≡ cells
-all_unawaited entries [] idle = refl
-all_unawaited entries (cell ∷ cells) idle =
-    let none : not (is_some (awaited_load entries cell)) ≡ true = ap (λ (o : Option ℕ). not (is_some o)) (idle_unawaited entries cell idle) in
-    rw none (ap (λ (cs : List Cell). cell ∷ cs) (all_unawaited entries cells idle))
 
 -- after Starts and then ends no load is started once one was given up
 ends_all : (who : Who) (js : List ℕ) (es : List Entry) → AreEnds who js es → list_all is_end es ≡ true
@@ -104,10 +96,10 @@ module _ (allowing : Allowing) (before : CacheOf) (who : Who) (cells : List Cell
       )
 
   -- each Start is one of the look after what there was
-  is_of_look : (p : ℕ) (load : Load) → NoneFlies before.entries → All (λ e. started e ≡ None) ends → length before.entries < p → load_at (before.entries ++ (map Start (loads_with before who cells headers) ++ ends)) p ≡ Some load
+  is_of_look : (p : ℕ) (load : Load) → All (λ e. started e ≡ None) ends → length before.entries < p → load_at (before.entries ++ (map Start (loads_with before who cells headers) ++ ends)) p ≡ Some load
       → IsOfLook allowing (with_more before (map Start (loads_with before who cells headers) ++ ends)) (length before.entries) who cells p load
-  is_of_look zero load idle none late at = absurd (omega (arith, late))
-  is_of_look (suc b) load idle none late at =
+  is_of_look zero load none late at = absurd (omega (arith, late))
+  is_of_look (suc b) load none late at =
       let pos : b ≡ length before.entries + (b - length before.entries) = omega (arith, late) in
       let found = here b (b - length before.entries) load none pos at in
       record {
@@ -117,8 +109,7 @@ module _ (allowing : Allowing) (before : CacheOf) (who : Who) (cells : List Cell
         together = λ q behind early. together (b - length before.entries) load q found behind (omega (arith, pos, early));
         given =
             subst (λ (es : List Entry). IsLoadOfLook allowing before es who cells load) (sym (take-append_seam before.entries (map Start (loads_with before who cells headers) ++ ends)))
-            (subst (λ (cs : List Cell). MayBeStarted allowing before who cs load) (sym (all_unawaited before.entries cells idle))
-            (may_be_started allowing before who cells headers allowed (b - length before.entries) load found));
+            (may_be_started allowing before who cells headers allowed (b - length before.entries) load found);
       }
 
 -- the parts of the loads of a look
@@ -127,8 +118,8 @@ look_parts before who cells headers ends are =
     All-append (IsPartOf who) (map Start (loads_with before who cells headers)) ends (starts_parts who (loads_with before who cells headers) (loads_own before who cells headers)) (ends_parts who (load_numbers before cells) ends are)
 
 -- loads that were started and ended are loads for the cells of their look
-pub are_loads_for : (allowing : Allowing) (before : CacheOf) (who : Who) (cells : List Cell) (headers : List Header) → AreHeadersOf allowing before cells headers → (ends : List Entry) → NoneFlies before.entries → AreEnds who (load_numbers before cells) ends → AreLoadsFor allowing before who cells (map Start (loads_with before who cells headers) ++ ends)
-are_loads_for allowing before who cells headers allowed ends idle are =
+pub are_loads_for : (allowing : Allowing) (before : CacheOf) (who : Who) (cells : List Cell) (headers : List Header) → AreHeadersOf allowing before cells headers → (ends : List Entry) → AreEnds who (load_numbers before cells) ends → AreLoadsFor allowing before who cells (map Start (loads_with before who cells headers) ++ ends)
+are_loads_for allowing before who cells headers allowed ends are =
     let parts : All (IsPartOf who) (map Start (loads_with before who cells headers) ++ ends) = look_parts before who cells headers ends are in
     let own : entries_of (map Start (loads_with before who cells headers) ++ ends) who.seat ≡ map Start (loads_with before who cells headers) ++ ends =
     own_entries who.seat (map Start (loads_with before who cells headers) ++ ends) (parts_seat who who.seat (map Start (loads_with before who cells headers) ++ ends) refl parts) in
@@ -136,7 +127,7 @@ are_loads_for allowing before who cells headers allowed ends idle are =
       parts = ap (list_all is_of_load) own ∙ parts_all who (map Start (loads_with before who cells headers) ++ ends) parts;
       call = λ entry has.
           (All-contains (IsPartOf who) (map Start (loads_with before who cells headers) ++ ends) entry parts (subst (λ (es : List Entry). Contains es entry) own has)).own;
-      starts = λ p load late at _. is_of_look allowing before who cells headers allowed ends p load idle (ends_start_none who (load_numbers before cells) ends are) late at;
+      starts = λ p load late at _. is_of_look allowing before who cells headers allowed ends p load (ends_start_none who (load_numbers before cells) ends are) late at;
     }
 
 -- where nothing was added, there are no loads

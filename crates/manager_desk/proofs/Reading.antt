@@ -5,10 +5,11 @@ use Rattle.std.proofs.lemmas.Bool.{eq-eqb}
 use Rattle.std.proofs.lemmas.List.{length-append}
 use Rattle.std.proofs.lemmas.List.Elements.{All-cons, All-head, All-nil, All-tail}
 use Rattle.std.proofs.lemmas.List.Sums.{sum_by-cons}
+use Rattle.olap_meaning.specs.declared.cells.CellSource.{CellSource}
 use Rattle.olap_meaning.specs.declared.cells.Who.{Who}
 use Rattle.olap_meaning.specs.declared.tables.Catalog.{Catalog}
 use Rattle.olap_meaning.specs.declared.tables.Setting.{Setting}
-use Rattle.olap_meaning.specs.History.{Entry, Start, Load, load_at}
+use Rattle.olap_meaning.specs.History.{Entry, Answer, Evict, Start, Load, load_at}
 use Rattle.olap_meaning.proofs.Loads.{start_load}
 use Rattle.olap_meaning.proofs.Positions.{get_seam}
 use Rattle.segment_load.specs.Loads.{JobOf, job_cost}
@@ -83,6 +84,14 @@ jobs_are setting entries (load ∷ loads) (job ∷ jobs) who n at numbers all ow
               sum_by-cons job_cost job jobs ∙ ap (λ (m : ℕ). m + sum_by job_cost jobs) (here seat)
               ∙ ap (λ (m : ℕ). seat_cost setting.catalog 1 entries (Start load) + m) (others.1 seat),
         )
+
+-- neither an answer nor an eviction costs anything
+evictions_cost_none : (catalog : Catalog) (before : List Entry) (js : List ℕ) → seat_costs catalog 1 before (map Evict js) ≡ 0
+evictions_cost_none catalog before [] = refl
+evictions_cost_none catalog before (j ∷ js) = let rest = evictions_cost_none catalog (before ++ Evict j ∷ []) js in omega (arith, rest)
+
+pub answer_costs_none : (catalog : Catalog) (before : List Entry) (who : Who) (cells : List CellSource) (js : List ℕ) → seat_costs catalog 1 before (Answer who cells ∷ map Evict js) ≡ 0
+answer_costs_none catalog before who cells js = let rest = evictions_cost_none catalog (before ++ Answer who cells ∷ []) js in omega (arith, rest)
 
 -- a delivery starts no load
 pub dones_cost_none : (catalog : Catalog) (before : List Entry) (jobs : List JobOf) → seat_costs catalog 1 before (map done_of jobs) ≡ 0

@@ -1,10 +1,11 @@
 -- How the loads of a look are ended, and what an ask adds to a manager's history.
-use Rattle.std.specs.Prelude.{ℕ, ◌≡◌, ◌⊎◌, ⊤, List, [], ◌∷◌, ◌++◌, Bool, true, false, map}
+use Rattle.std.specs.Prelude.{ℕ, ◌≡◌, ◌≤◌, ◌⊎◌, ⊤, List, [], ◌∷◌, ◌++◌, Bool, true, false, map}
 use Rattle.olap_meaning.specs.declared.cells.Cell.{Cell}
 use Rattle.olap_meaning.specs.declared.cells.Header.{Header}
 use Rattle.olap_meaning.specs.declared.cells.Who.{Who}
+use Rattle.olap_meaning.specs.Budget.{kept_groups}
 use Rattle.olap_meaning.specs.Covering.{among}
-use Rattle.olap_meaning.specs.History.{Entry, Done, Drop, Answer, flying}
+use Rattle.olap_meaning.specs.History.{Entry, Done, Drop, Evict, Answer, flying}
 use Rattle.segment_load.specs.Loads.{JobOf}
 use Rattle.history_core.specs.Answers.{IsAnswer}
 use Rattle.history_core.specs.Cache.{CacheOf}
@@ -39,16 +40,18 @@ pub record EndsJobs (before after : List Entry) (jobs : List JobOf) : Type 0 whe
   pub are : AreEndsOf jobs ends
   pub entries : after ≡ before ++ ends
 
--- the loads that some cells lack were delivered, and then the cells were answered, as the last entry, with the sources
--- that the answer tells
+-- the loads that some cells lack were delivered, and then the cells were answered, with the sources that the answer
+-- tells; after the answer there are evictions alone, after which the kept loads have no more groups than the budget
 pub record AddsAnswer (allowing : Allowing) (before after : CacheOf) (who : Who) (cells : List Cell)
     (answer : Told) : Type 0 where
   pub headers : List Header
   pub allowed : AreHeadersOf allowing before cells headers
+  pub evicted : List ℕ
   pub setting : after.setting ≡ before.setting
   pub entries : after.entries
       ≡ (before.entries ++ delivered_with before who cells headers)
-      ++ Answer who answer.sources.value ∷ []
+      ++ Answer who answer.sources.value ∷ map Evict evicted
+  pub within : kept_groups after.setting.catalog after.entries ≤ after.setting.budget
   pub answered : IsAnswer (with_more before (delivered_with before who cells headers)) cells answer
 
 -- nothing was added, or the loads that some cells lack were started and ended

@@ -4,21 +4,19 @@ ghost use Rattle.std.specs.List.{list_all};
 ghost use Rattle.olap_meaning.specs.History as history;
 ghost use Rattle.olap_meaning.specs.Legal.{is_next_call, is_cell};
 ghost use Rattle.segment_header.specs.Widening.{Widened};
-ghost use Rattle.cache_manager.specs.Jobs.{IsJobOf, IsOwnBody};
-ghost use Rattle.cache_manager.specs.Runs.{apart};
-ghost use Rattle.history_core.specs.Answers.{HasSource, IsAnswer};
+ghost use Rattle.cache_manager.specs.Jobs.{IsJobOf, IsOwnBody, apart};
+ghost use Rattle.history_core.specs.Answers.{AddsEvicting, HasSource, IsAnswer};
 ghost use Rattle.history_core.specs.Seats.{NoneFlies};
 ghost use Rattle.line_session.specs.Desks.{costs_behind};
 ghost use Rattle.manager_desk.specs.Ends.{AddsAnswer, AddsEnded, AreOut, EndsJobs, done_of, end_of};
 ghost use Rattle.manager_desk.specs.Keeping.{IsCount};
 ghost use Rattle.segment_load.specs.Loads.{job_cost};
 
-use cache_manager::{Look, Manager};
+use cache_manager::{LoadJob, Look, Manager, laws, run_load};
 use fact_versions::Steps;
 use history_core::Answer;
 use olap_meaning::{Cell, List, OutOfMemory, Who};
 use segment_header::{AllowsValues, Widener};
-use segment_load::{LoadJob, run_load};
 use std::alloc::Global;
 use std::sync::ledger::Ledger;
 
@@ -44,6 +42,7 @@ fn end_load<L: Ledger>(
     ensures at_most { steps.new ≤ steps.old + job_cost job }
 {
     manager.steps_are_legal();
+    laws::own_bodies();
     if !run {
         manager.abandon(job);
         return false;
@@ -87,11 +86,14 @@ fn end_loads<L: Ledger>(
     ensures at_least { steps.old ≤ steps.new }
     ensures at_most { steps.new ≤ steps.old + sum_by job_cost jobs }
 {
+    laws::jobs_stay();
     let mut run = true;
-    for job in jobs.into_vec() {
-        manager.steps_are_legal();
+    let mut rest = jobs.into_vec().into_iter();
+    while let Some(job) = rest.next() {
         run = end_load(alloc, manager, job, run, steps, read);
+        manager.steps_are_legal();
     }
+    rest.destroy_empty();
     run
 }
 
@@ -107,15 +109,16 @@ fn answer_ready(
     requires idle { NoneFlies manager.old.entries }
     requires ready { All (HasSource manager.old) cells.now }
     ensures setting { manager.new.setting ≡ manager.old.setting }
-    ensures entry { IfOk result
-        (λ answer. manager.new.entries ≡ manager.old.entries
-        ++ history.Answer who answer.sources.value ∷ []) }
+    ensures entries { IfOk result
+        (λ answer. AddsEvicting manager.old manager.new
+        (history.Answer who answer.sources.value)) }
     ensures answer { IfOk result (λ answer. IsAnswer manager.old cells.now answer) }
     ensures unchanged { OnErr result (manager.new ≡ manager.old) }
 {
     match manager.look(who, cells, widener) {
         Ok(Look::Ready(answer)) => Ok(answer),
-        Ok(Look::Load(_)) => unreachable!(),
+        Ok(Look::Load(_jobs)) => unreachable!(),
+        Ok(Look::Wait(_loads)) => unreachable!(),
         Err(error) => Err(error),
     }
 }
@@ -159,8 +162,10 @@ pub(crate) fn ask<L: Ledger>(
                 return Err(OutOfMemory);
             }
             manager.steps_are_legal();
+            laws::delivered_looks_are_ready();
             let answer = answer_ready(manager, who, cells, widener)?;
             Ok(answer)
         }
+        Look::Wait(_loads) => unreachable!(),
     }
 }

@@ -22,7 +22,7 @@ delivery (Evict k) j h = absurd (cc)
 delivery (Answer w cs) j h = absurd (cc)
 delivery (Saw w) j h = absurd (cc)
 
-from_live : (history : List Entry) (j : ℕ) (cell : Cell) → live history j cell ≡ true → IsLive history j cell
+pub from_live : (history : List Entry) (j : ℕ) (cell : Cell) → live history j cell ≡ true → IsLive history j cell
 from_live history j cell h =
     let load : (load : Load) × (load_at history j ≡ Some load) × (header_covers load.header cell ≡ true) = live_load history j cell h in
     record {
@@ -37,7 +37,7 @@ from_live history j cell h =
     done : (q : ℕ) × (e : Entry) × (entry_at history q ≡ Some e) × (0 < q) × (delivers j e ≡ true) → (p : ℕ) × (who : Who) × (entry_at history p ≡ Some (Done who j))
     done found = let d : (who : Who) × (found.1 ≡ Done who j) = delivery found.1 j found.4 in (found.0, d.0, found.2 ∙ ap Some d.1)
 
-to_live : (history : List Entry) (j : ℕ) (cell : Cell) → IsLive history j cell → live history j cell ≡ true
+pub to_live : (history : List Entry) (j : ℕ) (cell : Cell) → IsLive history j cell → live history j cell ≡ true
 to_live history j cell is =
     and_from (kept history j && load_covers history j cell) (not (flushed_after history j cell))
     (and_from (kept history j) (load_covers history j cell)
@@ -61,7 +61,7 @@ to_live history j cell is =
 pub live_is_by_position : LiveIsByPosition
 live_is_by_position history j cell = (from_live history j cell, to_live history j cell)
 
-from_awaited : (history : List Entry) (j : ℕ) (cell : Cell) → awaited history j cell ≡ true → IsAwaited history j cell
+pub from_awaited : (history : List Entry) (j : ℕ) (cell : Cell) → awaited history j cell ≡ true → IsAwaited history j cell
 from_awaited history j cell h =
     let both : ((flying history j && load_just_covers history j cell) ≡ true) × (not (flushed_after history j cell) ≡ true) = and_parts _ _ h in
     let front : (flying history j ≡ true) × (load_just_covers history j cell ≡ true) = and_parts _ _ both.0 in
@@ -74,7 +74,7 @@ from_awaited history j cell h =
       unflushed = λ p entry l at. false_from_ne_true _ (λ f. both_ways _ (not-true _ both.1) (passes_after (flushes cell) j history p entry at l f));
     }
 
-to_awaited : (history : List Entry) (j : ℕ) (cell : Cell) → IsAwaited history j cell → awaited history j cell ≡ true
+pub to_awaited : (history : List Entry) (j : ℕ) (cell : Cell) → IsAwaited history j cell → awaited history j cell ≡ true
 to_awaited history j cell is =
     and_from (flying history j && load_just_covers history j cell) (not (flushed_after history j cell))
     (and_from (flying history j) (load_just_covers history j cell)

@@ -1,5 +1,7 @@
 pub mod Members
 pub mod Positions
+pub mod Earliest
+pub mod Evicting
 pub mod Versions
 pub mod Loads
 pub mod Fresh
@@ -20,3 +22,4 @@ pub mod Numerals
 pub mod Orders
 pub mod Characters
 pub mod Each
+pub mod Different

@@ -2,19 +2,21 @@
 use Rattle.std.proofs.Common.{◌≡◌, refl, sym, ◌∙◌, ap, ℕ, zero, suc, ◌+◌, ◌<◌, ◌≤◌, List, [], ◌∷◌, ◌++◌, length, take, drop, Bool, true, false, cond, not, ◌&&◌, ◌||◌, ◌==◌, ◌⊎◌, inl, inr, Option, Some, None, nat_lt, arith, is_some, le_antisymm, le_of_eq, zero-le, option_and_then}
 use Rattle.std.proofs.Math.Bool.{and-true}
 use Rattle.std.specs.List.{list_any}
+use Rattle.std.specs.Option.{option_or}
 use Rattle.std.proofs.lemmas.Bool.{both_ways, and_parts, and_from, or_cases, or_left, or_right, or_from, eqb-true, eq-eqb, ltb-true, ltb-false, not-true, false_from_ne_true}
 use Rattle.std.proofs.lemmas.List.{drop-append-le, length_push}
 use Rattle.std.proofs.lemmas.List.Folds.{list_any-append}
 use Rattle.olap_meaning.specs.declared.cells.Cell.{Cell}
 use Rattle.olap_meaning.specs.declared.tables.Setting.{Setting}
 use Rattle.olap_meaning.specs.Covering.{header_covers, just_covers}
-use Rattle.olap_meaning.specs.History.{Entry, Append, Agg, Flush, Start, Done, Drop, Evict, Answer, Saw, Load, entry_at, latest, is_some_and, started, load_at, load_covers, load_just_covers, flushes, flushed_after, delivered, live, delivers, evicts, ends, flying, awaited, awaited_load, exact_source}
+use Rattle.olap_meaning.specs.History.{Entry, Append, Agg, Flush, Start, Done, Drop, Evict, Answer, Saw, Load, earliest, entry_at, latest, is_some_and, started, load_at, load_covers, load_just_covers, flushes, flushed_after, delivered, live, delivers, evicts, ends, flying, awaited, awaited_load, exact_source}
 use Rattle.olap_meaning.specs.Legal.{Legal}
 use Rattle.olap_meaning.specs.Growth.{ExactSourceGrows, AwaitedLoadGrows, greater, delivered_for, left_for, starts_for}
 use Rattle.olap_meaning.proofs.Positions.{entry_within, entry_from-take, after_passes, get_last, latest_found, latest_bounds, latest_none}
 use Rattle.olap_meaning.proofs.Loads.{some_and, load_start, kept_parts, live_parts, flushed_last, flush_shuts_off}
 use Rattle.olap_meaning.proofs.Growing.{latest_agree, entry-append-le}
-use Rattle.olap_meaning.proofs.Steps.{ended_flew, none_evicted}
+use Rattle.olap_meaning.proofs.Steps.{ended_flew}
+use Rattle.olap_meaning.proofs.Earliest.{earliest_agree, none_earliest}
 use Rattle.olap_meaning.proofs.ReachUp.{any_weaker}
 
 -- the latest position that passes, by its two facts
@@ -85,8 +87,8 @@ latest_with n test more j within = by (more j) (latest n test) refl refl
     by true (Some k) m e = by_order (nat_lt j k) k refl m e
 
 -- what one more entry that flushes nothing does to the tests of a load
-live_parts_grow : (del kep cov flu jus out : Bool) → (jus ≡ true → cov ≡ true) → ((((kep || (del || false)) && not (false || (out || false))) && cov && not (flu || (false || false))) && jus) ≡ (((del && (jus && not flu && not false)) || (((kep && not false) && cov && not flu) && jus)) && not out)
-live_parts_grow del kep cov flu jus out h = grind arith
+live_parts_grow : (del kep cov flu jus out was : Bool) → (jus ≡ true → cov ≡ true) → ((((kep || (del || false)) && not (was || (out || false))) && cov && not (flu || (false || false))) && jus) ≡ (((del && (jus && not flu && not was)) || (((kep && not was) && cov && not flu) && jus)) && not out)
+live_parts_grow del kep cov flu jus out was h = grind arith
 
 awaited_parts_grow : (ld en x jus flu : Bool) → ((ld && not (en || (x || false))) && jus && not (flu || (false || false))) ≡ (((ld && not en) && jus && not flu) && not x)
 awaited_parts_grow ld en x jus flu = grind arith
@@ -154,18 +156,17 @@ module _ (history : List Entry) (entry : Entry) (cell : Cell) where
       ap (list_any (flushes cell)) (drop-append-le k history (entry ∷ []) l) ∙ list_any-append (flushes cell) (drop k history) (entry ∷ [])
       ∙ ap (λ b. flushed_after history k cell || (b || false)) misses
 
-  serves_on : (k : ℕ) → k ≤ length history → flushes cell entry ≡ false → list_any (evicts k) history ≡ false → serves after k ≡ (((delivers k entry && open_for k) || serves history k) && not (evicts k entry))
-  serves_on k l misses stays =
+  serves_on : (k : ℕ) → k ≤ length history → flushes cell entry ≡ false → serves after k ≡ (((delivers k entry && open_for k) || serves history k) && not (evicts k entry))
+  serves_on k l misses =
       ap (λ b. (b && not (list_any (evicts k) after)) && load_covers after k cell && not (flushed_after after k cell) && load_just_covers after k cell) (any_more (delivers k))
       ∙ ap
       (λ b. ((delivered history k || (delivers k entry || false)) && not b) && load_covers after k cell && not (flushed_after after k cell) && load_just_covers after k cell)
-      (any_more (evicts k) ∙ ap (λ b. b || (evicts k entry || false)) stays)
+      (any_more (evicts k))
       ∙ ap
-      (λ o. ((delivered history k || (delivers k entry || false)) && not (false || (evicts k entry || false))) && is_some_and (λ load. header_covers load.header cell) o && not (flushed_after after k cell) && is_some_and (λ load. just_covers load.header cell) o)
+      (λ o. ((delivered history k || (delivers k entry || false)) && not (list_any (evicts k) history || (evicts k entry || false))) && is_some_and (λ load. header_covers load.header cell) o && not (flushed_after after k cell) && is_some_and (λ load. just_covers load.header cell) o)
       (load_stays k l)
-      ∙ ap (λ b. ((delivered history k || (delivers k entry || false)) && not (false || (evicts k entry || false))) && load_covers history k cell && not b && load_just_covers history k cell) (flushed_more k l misses)
-      ∙ live_parts_grow (delivers k entry) (delivered history k) (load_covers history k cell) (flushed_after history k cell) (load_just_covers history k cell) (evicts k entry) (just_is_covered cell (load_at history k))
-      ∙ ap (λ b. ((delivers k entry && (load_just_covers history k cell && not (flushed_after history k cell) && not b)) || ((delivered history k && not b) && load_covers history k cell && not (flushed_after history k cell) && load_just_covers history k cell)) && not (evicts k entry)) (sym stays)
+      ∙ ap (λ b. ((delivered history k || (delivers k entry || false)) && not (list_any (evicts k) history || (evicts k entry || false))) && load_covers history k cell && not b && load_just_covers history k cell) (flushed_more k l misses)
+      ∙ live_parts_grow (delivers k entry) (delivered history k) (load_covers history k cell) (flushed_after history k cell) (load_just_covers history k cell) (evicts k entry) (list_any (evicts k) history) (just_is_covered cell (load_at history k))
 
   awaited_on : (k : ℕ) → k ≤ length history → flushes cell entry ≡ false → awaited after k cell ≡ (awaited history k cell && not (ends k entry))
   awaited_on k l misses =
@@ -277,7 +278,7 @@ exact_source_grows setting history entry cell legal = by (flushes cell entry) re
     by false f =
         ap (λ m. latest m (serves history entry cell (history ++ entry ∷ []))) (long history entry cell)
         ∙ ap (λ b. cond b (Some (suc n)) (latest n (serves history entry cell (history ++ entry ∷ [])))) (unserved_last setting history entry cell legal)
-        ∙ latest_agree n (serves history entry cell (history ++ entry ∷ [])) (serving history entry cell) (λ k l. serves_on history entry cell k l f (none_evicted setting history legal k))
+        ∙ latest_agree n (serves history entry cell (history ++ entry ∷ [])) (serving history entry cell) (λ k l. serves_on history entry cell k l f)
         ∙ served_among history entry cell
 
 -- a load is awaited from its Start on
@@ -312,9 +313,9 @@ awaited_load_grows setting history entry cell legal = by (flushes cell entry) re
     n = length history
 
     by : (b : Bool) → flushes cell entry ≡ b
-        → awaited_load (history ++ entry ∷ []) cell ≡ cond b None (cond (starts_for cell entry) (Some (suc n)) (latest n (λ j. awaited history j cell && not (ends j entry))))
-    by true f = none_latest (length (history ++ entry ∷ [])) _ (λ k l. (flushed_all history entry cell f k).1)
+        → awaited_load (history ++ entry ∷ []) cell ≡ cond b None (option_or (earliest n (λ j. awaited history j cell && not (ends j entry))) (cond (starts_for cell entry) (Some (suc n)) None))
+    by true f = none_earliest (length (history ++ entry ∷ [])) _ (λ k one l. (flushed_all history entry cell f k).1)
     by false f =
-        ap (λ m. latest m (λ j. awaited (history ++ entry ∷ []) j cell)) (long history entry cell)
-        ∙ ap (λ b. cond b (Some (suc n)) (latest n (λ j. awaited (history ++ entry ∷ []) j cell))) (awaited_last setting history entry cell legal)
-        ∙ ap (cond (starts_for cell entry) (Some (suc n))) (latest_agree n (λ j. awaited (history ++ entry ∷ []) j cell) (λ j. awaited history j cell && not (ends j entry)) (λ k l. awaited_on history entry cell k l f))
+        ap (λ m. earliest m (λ j. awaited (history ++ entry ∷ []) j cell)) (long history entry cell)
+        ∙ ap (λ b. option_or (earliest n (λ j. awaited (history ++ entry ∷ []) j cell)) (cond b (Some (suc n)) None)) (awaited_last setting history entry cell legal)
+        ∙ ap (λ o. option_or o (cond (starts_for cell entry) (Some (suc n)) None)) (earliest_agree n (λ j. awaited (history ++ entry ∷ []) j cell) (λ j. awaited history j cell && not (ends j entry)) (λ k l. awaited_on history entry cell k l f))

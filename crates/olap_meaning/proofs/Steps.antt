@@ -6,11 +6,12 @@ use Rattle.std.proofs.lemmas.List.{take-append-le}
 use Rattle.olap_meaning.specs.declared.cells.Who.{Who}
 use Rattle.olap_meaning.specs.declared.cells.Cell.{Cell}
 use Rattle.olap_meaning.specs.Covering.{just_covers}
-use Rattle.olap_meaning.specs.History.{Entry, Append, Agg, Flush, Start, Done, Drop, Evict, Answer, Saw, Load, entry_at, is_some_and, load_at, load_just_covers, flushes, flushed_after, flying, awaited, ends, evicts}
+use Rattle.olap_meaning.specs.History.{Entry, Append, Agg, Flush, Start, Done, Drop, Evict, Answer, Saw, Load, entry_at, is_some_and, load_at, load_just_covers, flushes, flushed_after, flying, awaited, ends}
 use Rattle.olap_meaning.specs.declared.tables.Setting.{Setting}
 use Rattle.olap_meaning.specs.Legal.{Legal, LegalStep, is_next_call, is_call_of, is_call_below, caller}
 use Rattle.olap_meaning.specs.Laws.{PrefixesAreLegal, LoadsAreNotDoubled, LoadsEndOnce, CallsRise}
-use Rattle.olap_meaning.proofs.Positions.{entry_from-take, entry-take, entry-append, entry_within, passes_after, after_passes, latest_none}
+use Rattle.olap_meaning.proofs.Positions.{entry_from-take, entry-take, entry-append, entry_within, passes_after, after_passes}
+use Rattle.olap_meaning.proofs.Earliest.{earliest_none}
 use Rattle.olap_meaning.proofs.Loads.{load_start, start_load}
 
 pub prefixes_are_legal : PrefixesAreLegal
@@ -29,29 +30,6 @@ ended_flew setting history (Drop w k) j step h = ap (flying history) (sym (eqb-t
 ended_flew setting history (Evict k) j step h = absurd (cc)
 ended_flew setting history (Answer w cs) j step h = absurd (cc)
 ended_flew setting history (Saw w) j step h = absurd (cc)
-
--- a legal step evicts nothing
-stays_kept : (setting : Setting) (history : List Entry) (e : Entry) (j : ℕ) → LegalStep setting history e → evicts j e ≡ false
-stays_kept setting history (Append w c v r) j step = refl
-stays_kept setting history (Agg w t v) j step = refl
-stays_kept setting history (Flush w r) j step = refl
-stays_kept setting history (Start l) j step = refl
-stays_kept setting history (Done w k) j step = refl
-stays_kept setting history (Drop w k) j step = refl
-stays_kept setting history (Evict k) j step = absurd step
-stays_kept setting history (Answer w cs) j step = refl
-stays_kept setting history (Saw w) j step = refl
-
--- so in a legal history no load is evicted
-pub none_evicted : (setting : Setting) (history : List Entry) → Legal setting history → (j : ℕ) → list_any (evicts j) history ≡ false
-none_evicted setting history legal j = false_from_ne_true _ none
-  where
-    at : (q : ℕ) (e : Entry) → entry_at history q ≡ Some e → evicts j e ≡ true → ⊥
-    at zero e here h = cc
-    at (suc b) e here h = both_ways (evicts j e) (stays_kept setting (take b history) e j (legal b e here)) h
-
-    none : list_any (evicts j) history ≡ true → ⊥
-    none h = let found : (q : ℕ) × (e : Entry) × (entry_at history q ≡ Some e) × (0 < q) × (evicts j e ≡ true) = after_passes (evicts j) 0 history h in at found.0 found.1 found.2 found.4
 
 flying_open : (history : List Entry) (j : ℕ) → flying history j ≡ true → list_any (ends j) history ≡ false
 flying_open history j h = not-true _ (and_parts (is_some (load_at history j)) (not (list_any (ends j) history)) h).1
@@ -115,7 +93,7 @@ doubled_at setting history legal a b first second l at_a at_b same flies =
     flushed : flushed_after front (suc a) second.reason ≡ true
     flushed =
         awaited_unless front (suc a) second.reason (flew_before history b (suc a) first (start_load history (suc a) first at_a) (omega (arith, l)) flies) covers
-        (latest_none (length front) (λ j. awaited front j second.reason) (suc a) (legal b (Start second) at_b).unawaited (omega arith) inside)
+        (earliest_none (length front) (λ j. awaited front j second.reason) (suc a) (legal b (Start second) at_b).unawaited (omega arith) inside)
 
 pub loads_are_not_doubled : LoadsAreNotDoubled
 loads_are_not_doubled setting history legal zero j first second l at_i at_j same flies = absurd (cc)

@@ -1,9 +1,12 @@
 -- The same meanings, position by position.
-use Rattle.std.specs.Prelude.{ℕ, ◌≤◌, ◌<◌, ◌≡◌, ◌⊎◌, ◌↔◌, List, Some, IsTrue, IsFalse, take}
+use Rattle.std.specs.Prelude.{ℕ, ◌≤◌, ◌<◌, ◌≡◌, ◌⊎◌, ◌↔◌, List, Some, None, IsTrue, IsFalse, take}
 use Rattle.olap_meaning.specs.declared.cells.Who.{Who}
 use Rattle.olap_meaning.specs.declared.cells.Cell.{Cell}
+use Rattle.olap_meaning.specs.declared.tables.Setting.{Setting}
 use Rattle.olap_meaning.specs.Covering.{header_covers, just_covers}
-use Rattle.olap_meaning.specs.History.{Entry, Start, Done, Load, entry_at, version, live, awaited, floor, flushes, ends, evicts, load_just_covers, exact_source}
+use Rattle.olap_meaning.specs.Budget.{oldest_kept}
+use Rattle.olap_meaning.specs.Legal.{Legal}
+use Rattle.olap_meaning.specs.History.{Entry, Start, Done, Load, entry_at, version, kept, live, awaited, floor, flushes, ends, evicts, load_just_covers, awaited_load, exact_source}
 
 -- the greatest version at a flush that covers the cell, and 0 where there is none
 pub record IsGreatestFlushed (history : List Entry) (cell : Cell) (n : ℕ) : Type 0 where
@@ -64,3 +67,26 @@ abbrev pub ExactSourceIsGreatest : Type 0
 ExactSourceIsGreatest =
     (history : List Entry) (cell : Cell) (j : ℕ)
     → (exact_source history cell ≡ Some j) ↔ (IsExactSource history cell j)
+
+-- a load that is awaited for the cell, and no such load is less
+pub record IsAwaitedLoad (history : List Entry) (cell : Cell) (j : ℕ) : Type 0 where
+  pub awaits : IsTrue (awaited history j cell)
+  pub least : (k : ℕ) → IsTrue (awaited history k cell) → j ≤ k
+
+-- the load that a cell awaits is this load; it awaits none exactly where none is awaited for it
+pub record AwaitedLoadIsLeast : Type 0 where
+  pub some : (history : List Entry) (cell : Cell) (j : ℕ)
+      → (awaited_load history cell ≡ Some j) ↔ (IsAwaitedLoad history cell j)
+  pub none : (history : List Entry) (cell : Cell)
+      → (awaited_load history cell ≡ None) ↔ ((j : ℕ) → IsFalse (awaited history j cell))
+
+-- a kept load, and no kept load is less
+pub record IsOldestKept (history : List Entry) (j : ℕ) : Type 0 where
+  pub is_kept : IsTrue (kept history j)
+  pub least : (k : ℕ) → IsTrue (kept history k) → j ≤ k
+
+-- in a legal history the oldest kept load is this load
+abbrev pub OldestIsLeast : Type 0
+OldestIsLeast =
+    (setting : Setting) (history : List Entry) (j : ℕ) → Legal setting history
+    → (oldest_kept history ≡ Some j) ↔ (IsOldestKept history j)

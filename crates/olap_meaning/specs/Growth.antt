@@ -1,11 +1,12 @@
 -- How the meanings change with one more entry.
 use Rattle.std.specs.Prelude.{ℕ, suc, ◌+◌, ◌≡◌, List, [], ◌∷◌, ◌++◌, if◌then◌else◌, is_some, Option, Some, None, Bool, not, ◌&&◌, ◌==◌, ◌≤◌, nat_lt, length, option_to_list}
 use Rattle.std.specs.List.{list_any}
+use Rattle.std.specs.Option.{option_or}
 use Rattle.olap_meaning.specs.declared.cells.Cell.{Cell}
 use Rattle.olap_meaning.specs.declared.tables.Setting.{Setting}
 use Rattle.olap_meaning.specs.Covering.{just_covers, concerning}
 use Rattle.olap_meaning.specs.Legal.{Legal, LegalStep}
-use Rattle.olap_meaning.specs.History.{Entry, Done, Evict, Load, version, floor, flushes, flushed, flushed_after, evicts, regions_after, shutting, appended, started, ends, latest, is_some_and, load_at, load_just_covers, live, exact_source, awaited, awaited_load}
+use Rattle.olap_meaning.specs.History.{Entry, Done, Evict, Load, version, floor, flushes, flushed, flushed_after, evicts, regions_after, shutting, appended, started, ends, earliest, latest, is_some_and, load_at, load_just_covers, live, exact_source, awaited, awaited_load}
 
 -- a legal history goes on by a legal step
 abbrev pub LegalGrows : Type 0
@@ -61,15 +62,21 @@ ExactSourceGrows =
 abbrev pub starts_for : Cell → Entry → Bool
 starts_for cell entry = is_some_and (λ load. just_covers load.header cell) (started entry)
 
--- after a flush that covers a cell no load is awaited for it; a Start for it is awaited; else the latest awaited load
--- is the latest that was awaited and that the entry does not end
+-- the load that an entry adds to those that a cell may await, if it starts one for the cell
+abbrev pub started_for : List Entry → Cell → Entry → Option ℕ
+started_for history cell entry =
+    if starts_for cell entry then Some (suc (length history)) else None
+
+-- after a flush that covers a cell no load is awaited for it; else the awaited load is the earliest that was awaited and
+-- that the entry does not end, and where there is none, one that the entry starts for the cell
 abbrev pub AwaitedLoadGrows : Type 0
 AwaitedLoadGrows =
     (setting : Setting) (history : List Entry) (entry : Entry) (cell : Cell) → Legal setting history
     → awaited_load (history ++ entry ∷ []) cell
-    ≡ (if flushes cell entry then None else if starts_for cell entry
-    then Some (suc (length history))
-    else latest (length history) (λ j. awaited history j cell && not (ends j entry)))
+    ≡ (if flushes cell entry then None
+    else option_or
+    (earliest (length history) (λ j. awaited history j cell && not (ends j entry)))
+    (started_for history cell entry))
 
 -- a flush adds its region to those that were flushed after a position, and no other entry adds one
 abbrev pub RegionsGrow : Type 0

@@ -1,7 +1,7 @@
 -- The history of the cache, and what it says of versions, loads and sources.
-use Rattle.std.specs.Prelude.{ℕ, zero, suc, List, [], Bool, false, not, ◌&&◌, ◌==◌, Option, Some, None, if◌then◌else◌, length, take, drop, count_by, filter_map, flat_map, option_and_then, option_map, unwrap_or, slice_get, is_some}
+use Rattle.std.specs.Prelude.{ℕ, zero, suc, List, [], ◌∷◌, ◌++◌, Bool, false, not, ◌&&◌, ◌==◌, Option, Some, None, if◌then◌else◌, length, take, drop, count_by, filter_map, flat_map, option_and_then, option_map, unwrap_or, slice_get, is_some}
 use Rattle.std.specs.List.{list_any}
-use Rattle.std.specs.Option.{option_map_or}
+use Rattle.std.specs.Option.{option_map_or, option_or}
 use Rattle.olap_meaning.specs.declared.cells.Who.{Who}
 use Rattle.olap_meaning.specs.declared.cells.Cell.{Cell}
 use Rattle.olap_meaning.specs.declared.cells.Header.{Header}
@@ -44,6 +44,12 @@ entry_at history (suc before) = slice_get history before
 abbrev pub latest : ℕ → (ℕ → Bool) → Option ℕ
 latest zero test = None
 latest (suc n) test = if test (suc n) then Some (suc n) else latest n test
+
+-- the least position up to n that passes the test
+abbrev pub earliest : ℕ → (ℕ → Bool) → Option ℕ
+earliest zero test = None
+earliest (suc n) test =
+    option_or (earliest n test) (if test (suc n) then Some (suc n) else None)
 
 -- the rows of an append to a cube
 abbrev pub appended : ℕ → Entry → Option (List Row)
@@ -137,9 +143,19 @@ abbrev pub awaited : List Entry → ℕ → Cell → Bool
 awaited history j cell =
     flying history j && load_just_covers history j cell && not (flushed_after history j cell)
 
--- the latest load that is awaited for a cell, if there is one
+-- the load that a cell awaits: the earliest that is awaited for it, if there is one
 abbrev pub awaited_load : List Entry → Cell → Option ℕ
-awaited_load history cell = latest (length history) (λ j. awaited history j cell)
+awaited_load history cell = earliest (length history) (λ j. awaited history j cell)
+
+-- the loads up to a position that are kept, rising
+abbrev pub kept_up_to : List Entry → ℕ → List ℕ
+kept_up_to history zero = []
+kept_up_to history (suc n) =
+    kept_up_to history n ++ (if kept history (suc n) then suc n ∷ [] else [])
+
+-- the loads that are kept, rising
+abbrev pub kept_loads : List Entry → List ℕ
+kept_loads history = kept_up_to history (length history)
 
 -- load j is live for a cell: it is kept, covers the cell, and no flush since its Start covers the cell
 abbrev pub live : List Entry → ℕ → Cell → Bool

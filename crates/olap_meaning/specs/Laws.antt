@@ -6,10 +6,11 @@ use Rattle.olap_meaning.specs.declared.cells.Cell.{Cell}
 use Rattle.olap_meaning.specs.declared.cells.CellSource.{CellSource}
 use Rattle.olap_meaning.specs.declared.cells.Header.{Header}
 use Rattle.olap_meaning.specs.declared.regions.Region.{Region}
-use Rattle.olap_meaning.specs.Covering.{header_covers, region_concerns, region_covers, touching, HasFewerColumns}
-use Rattle.olap_meaning.specs.History.{Entry, Answer, Flush, Load, entry_at, version, load_at, load_version, flying, delivered, kept, live, floor, flushes, flushed_after, flush_count, shutting, ends, evicts}
+use Rattle.olap_meaning.specs.declared.tables.Catalog.{Catalog}
+use Rattle.olap_meaning.specs.Covering.{among, header_covers, region_concerns, region_covers, touching, HasFewerColumns}
+use Rattle.olap_meaning.specs.History.{Entry, Answer, Evict, Flush, Load, entry_at, version, load_at, load_version, flying, delivered, kept, live, floor, flushes, flushed_after, flush_count, shutting, ends, evicts}
 use Rattle.olap_meaning.specs.declared.tables.Setting.{Setting}
-use Rattle.olap_meaning.specs.Legal.{Legal, caller}
+use Rattle.olap_meaning.specs.Legal.{IsSource, Legal, caller}
 use Rattle.olap_meaning.specs.Worth.{value, answered_version, worth}
 
 -- a prefix of a legal history is legal
@@ -97,6 +98,35 @@ abbrev pub DeliveredAreKept : Type 0
 DeliveredAreKept =
     (history : List Entry) (j : ℕ) → IsFalse (list_any (evicts j) history)
     → kept history j ≡ delivered history j
+
+-- an eviction changes what no cell is worth, and no floor
+pub record EvictionsChangeNoWorth : Type 0 where
+  pub worths : (catalog : Catalog) (history : List Entry) (j : ℕ) (answered : CellSource)
+      → worth catalog (history ++ Evict j ∷ []) answered ≡ worth catalog history answered
+  pub values : (catalog : Catalog) (history : List Entry) (j : ℕ) (cell : Cell) (v : ℕ)
+      → value catalog (history ++ Evict j ∷ []) cell v ≡ value catalog history cell v
+  pub floors : (history : List Entry) (j : ℕ) (cell : Cell)
+      → floor (history ++ Evict j ∷ []) cell ≡ floor history cell
+
+-- what a cell is taken from goes on to be a source of it, where no load of it is evicted
+abbrev pub SourcesStay : Type 0
+SourcesStay =
+    (setting : Setting) (history : List Entry) (j : ℕ) (cell : Cell) (loads : List ℕ)
+    → Legal setting history → IsSource setting.catalog history cell loads
+    → IsFalse (among loads j) → IsSource setting.catalog (history ++ Evict j ∷ []) cell loads
+
+-- an evicted load is live for no cell, and is kept no more
+pub record EvictedServeNone : Type 0 where
+  pub kept_no_more : (history : List Entry) (j : ℕ) → IsFalse (kept (history ++ Evict j ∷ []) j)
+  pub lives_no_more : (history : List Entry) (j : ℕ) (cell : Cell)
+      → IsFalse (live (history ++ Evict j ∷ []) j cell)
+
+-- a load is evicted once
+abbrev pub LoadsAreEvictedOnce : Type 0
+LoadsAreEvictedOnce =
+    (setting : Setting) (history : List Entry) → Legal setting history
+    → (j p q : ℕ) → entry_at history p ≡ Some (Evict j) → entry_at history q ≡ Some (Evict j)
+    → p ≡ q
 
 -- of two loads with one reason, the first of which still flies, a flush between their Starts covers it
 abbrev pub LoadsAreNotDoubled : Type 0

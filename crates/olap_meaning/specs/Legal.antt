@@ -17,6 +17,7 @@ use Rattle.olap_meaning.specs.Catalog.{records, values, fact_columns, table_cube
 use Rattle.olap_meaning.specs.History.{Entry, Append, Agg, Flush, Start, Done, Drop, Evict, Answer, Saw, Load, entry_at, version, flying, awaited_load, starter, exact_source, is_some_and}
 use Rattle.olap_meaning.specs.Worth.{measure_of}
 use Rattle.olap_meaning.specs.Rolled.{IsRolledSource, has_rolled_source}
+use Rattle.olap_meaning.specs.Budget.{kept_groups, may_evict, oldest_kept}
 
 -- whose call an entry is; the parts of a load and evictions are no calls
 abbrev pub caller : Entry → Option Who
@@ -174,7 +175,14 @@ pub record IsAnswered (setting : Setting) (history : List Entry)
   pub known : IsTrue (is_cell setting.catalog answered.cell)
   pub source : IsSource setting.catalog history answered.cell answered.loads
 
--- an entry is a legal step after a history (no eviction is, before there is a budget)
+-- an eviction is legal: its load is the oldest that is kept, the kept loads have more groups than the budget, and it
+-- comes right after an answer or another eviction
+pub record IsLegalEviction (setting : Setting) (history : List Entry) (j : ℕ) : Type 0 where
+  pub oldest : oldest_kept history ≡ Some j
+  pub above : setting.budget < kept_groups setting.catalog history
+  pub after : IsTrue (may_evict history)
+
+-- an entry is a legal step after a history
 abbrev pub LegalStep : Setting → List Entry → Entry → Type 0
 LegalStep setting history (Append who cube v rows) = IsLegalAppend setting history who cube v rows
 LegalStep setting history (Agg who table v) = IsLegalAgg setting history who table v
@@ -183,7 +191,7 @@ LegalStep setting history (Flush who region) =
 LegalStep setting history (Start load) = IsLegalStart setting history load
 LegalStep setting history (Done who j) = IsLegalEnd history who j
 LegalStep setting history (Drop who j) = IsLegalEnd history who j
-LegalStep setting history (Evict j) = ⊥
+LegalStep setting history (Evict j) = IsLegalEviction setting history j
 LegalStep setting history (Answer who cells) =
     IsTrue (is_next_call history who) × Each (IsAnswered setting history) cells
 LegalStep setting history (Saw who) = IsTrue (is_next_call history who)

@@ -14,6 +14,7 @@ pub mod Whole
 pub mod Covering
 pub mod History
 pub mod Worth
+pub mod Budget
 pub mod Rolled
 pub mod Legal
 pub mod Sources

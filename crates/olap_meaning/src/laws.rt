@@ -1,11 +1,11 @@
 //! Laws of the definitions alone: each is the contract of a function with an empty body.
 
-ghost use Rattle.olap_meaning.specs.Equivalents.{FloorIsGreatest, LiveIsByPosition, AwaitedIsByPosition, ExactSourceIsGreatest};
+ghost use Rattle.olap_meaning.specs.Equivalents.{FloorIsGreatest, LiveIsByPosition, AwaitedIsByPosition, AwaitedLoadIsLeast, ExactSourceIsGreatest, OldestIsLeast};
 ghost use Rattle.olap_meaning.specs.Growth.{LegalGrows, VersionGrows, FloorGrows, ExactSourceGrows, AwaitedLoadGrows, RegionsGrow, ShuttingGrows, LoadsStartWhole};
 ghost use Rattle.olap_meaning.specs.Limits.{LimitsAreStated};
 ghost use Rattle.olap_meaning.specs.RolledCases.{RolledCasesAreDecided};
 ghost use Rattle.olap_meaning.specs.Sources.{DistinctCountsAreExact, FlushesLeaveNoSource, RolledSourcesAreDecided, SomeRollExactly, SourcesAreDecided, StartsGiveNoSource};
-ghost use Rattle.olap_meaning.specs.Laws.{PrefixesAreLegal, VersionsRise, AnswersAreFresh, AnswersAreServed, FlushesShutOff, OthersServeOn, RegionsReachUp, RegionsConcern, RegionsShutOff, TouchingAreCounted, DeliveredAreKept, LoadsAreNotDoubled, LoadsEndOnce, CallsRise, SomeAnswerIsLegal};
+ghost use Rattle.olap_meaning.specs.Laws.{PrefixesAreLegal, VersionsRise, AnswersAreFresh, AnswersAreServed, FlushesShutOff, OthersServeOn, RegionsReachUp, RegionsConcern, RegionsShutOff, TouchingAreCounted, DeliveredAreKept, LoadsAreNotDoubled, LoadsEndOnce, CallsRise, SomeAnswerIsLegal, EvictionsChangeNoWorth, SourcesStay, EvictedServeNone, LoadsAreEvictedOnce};
 
 /// The limits of the code are the numbers of the definitions.
 pub fn limits_are_stated()
@@ -67,7 +67,7 @@ pub fn delivered_are_kept()
     ensures { DeliveredAreKept }
 {}
 
-/// No cell is loaded a second time while a load for it flies, unless it was flushed.
+/// No load is started for the reason of one that still flies, unless a flush between them covers it.
 pub fn loads_are_not_doubled()
     ensures { LoadsAreNotDoubled }
 {}
@@ -100,6 +100,36 @@ pub fn awaited_is_by_position()
 /// The exact source is the greatest live load with just the cell's columns.
 pub fn exact_source_is_greatest()
     ensures { ExactSourceIsGreatest }
+{}
+
+/// The load that a cell awaits is the least that is awaited for it.
+pub fn awaited_load_is_least()
+    ensures { AwaitedLoadIsLeast }
+{}
+
+/// The oldest kept load is the least.
+pub fn oldest_is_least()
+    ensures { OldestIsLeast }
+{}
+
+/// An eviction changes what no cell is worth, and no floor.
+pub fn evictions_change_no_worth()
+    ensures { EvictionsChangeNoWorth }
+{}
+
+/// What a cell is taken from goes on to be a source of it, where no load of it is evicted.
+pub fn sources_stay()
+    ensures { SourcesStay }
+{}
+
+/// An evicted load serves no cell.
+pub fn evicted_serve_none()
+    ensures { EvictedServeNone }
+{}
+
+/// A load is evicted once.
+pub fn loads_are_evicted_once()
+    ensures { LoadsAreEvictedOnce }
 {}
 
 /// One more entry, and the version.

@@ -1,16 +1,17 @@
 -- Plain entries as entries, place by place.
-use Rattle.std.proofs.Common.{◌≡◌, refl, sym, ◌∙◌, ap, ℕ, zero, suc, ◌-◌, ◌<◌, List, [], ◌∷◌, drop, take, Bool, true, false, cond, ◌||◌, ◌+◌, ◌++◌, filter_map, Some, None, option_map, slice_get, Option, arith, length, get_or}
+use Rattle.std.proofs.Common.{◌≡◌, refl, sym, ◌∙◌, ap, ℕ, zero, suc, ◌-◌, ◌<◌, ◌≤◌, List, [], ◌∷◌, drop, take, Bool, true, false, cond, ◌||◌, ◌+◌, filter_map, Some, None, option_map, slice_get, Option, arith, length, get_or, inl, inr}
 use Rattle.std.specs.List.{list_any, count_by, sum_by}
-use Rattle.std.proofs.lemmas.List.{drop-map, take-map, take_rest}
+use Rattle.std.proofs.lemmas.Bool.{both_ways, cases_order}
+use Rattle.std.proofs.lemmas.List.{drop-map, length-map, take-map, take_rest}
 use Rattle.std.proofs.lemmas.Option.{slice_get-map, slice_get_read, slice_get_past}
 use Rattle.olap_plain.specs.declared.entries.PlainEntry.{PlainEntry}
-use Rattle.olap_meaning.specs.History.{Entry, entry_at, latest, flushes, flushed, flushed_after, is_some_and, latest_flush, regions_after, version, floor}
+use Rattle.olap_meaning.proofs.Earliest.{earliest_is, earliest_none, none_earliest}
+use Rattle.olap_meaning.specs.History.{Entry, earliest, entry_at, latest, flushes, flushed, flushed_after, is_some_and, latest_flush, regions_after, version, floor}
 use Rattle.olap_meaning.specs.declared.cells.Cell.{Cell}
 use Rattle.olap_meaning.specs.declared.cells.Header.{Header}
 use Rattle.olap_meaning.specs.declared.regions.Region.{Region}
 use Rattle.olap_meaning.specs.Covering.{region_touches, touching}
 use Rattle.std.proofs.lemmas.List.Sums.{sum_by-cons}
-use Rattle.std.proofs.Math.Seq.{take-suc}
 use Rattle.olap_plain.specs.Entries.{entry_of, entries}
 
 pub any_entries : (test : Entry → Bool) (plain : List PlainEntry) → list_any test (entries plain) ≡ list_any (λ e. test (entry_of e)) plain
@@ -59,6 +60,25 @@ walk_on test j answer pos not_here h = sym (latest_back j test pos not_here) ∙
 
 pub walk_here : (test : ℕ → Bool) (j : ℕ) (answer : Option ℕ) → 0 < j → test j ≡ true → latest j test ≡ answer → Some j ≡ answer
 walk_here test j answer pos here h = sym (latest_here j test pos here) ∙ h
+
+-- a walk from the first: none so far passes, and the answer is here where the test passes, and there is none past the last
+pub climb_on : (test : ℕ → Bool) (i : ℕ) → earliest i test ≡ None → test (i + 1) ≡ false → earliest (i + 1) test ≡ None
+climb_on test i none fails = none_earliest (i + 1) test (λ k one l. elim (cases_order k (i + 1)) [
+  | inl same ↦ ap test same ∙ fails
+  | inr apart ↦ elim apart [ inl lower ↦ earliest_none i test k none one (omega (arith, lower)) | inr more ↦ absurd (omega (arith, l, more)) ]
+])
+
+pub climb_here : (test : ℕ → Bool) (n i : ℕ) → i < n → earliest i test ≡ None → test (i + 1) ≡ true → earliest n test ≡ Some (i + 1)
+climb_here test n i l none passes = earliest_is n test (i + 1) passes (omega arith) (omega (arith, l)) (λ k one within t. elim (cases_order (i + 1) k) [
+  | inl same ↦ omega (arith, same)
+  | inr apart ↦ elim apart [ inl lower ↦ omega (arith, lower) | inr more ↦ absurd (both_ways (test k) (earliest_none i test k none one (omega (arith, more))) t) ]
+])
+
+pub climb_past : (test : ℕ → Bool) (n i : ℕ) → n ≤ i → earliest i test ≡ None → earliest n test ≡ None
+climb_past test n i l none = none_earliest n test (λ k one within. earliest_none i test k none one (omega (arith, l, within)))
+
+pub entries-length : (plain : List PlainEntry) → length (entries plain) ≡ length plain
+entries-length plain = length-map plain entry_of
 
 pub floor_front : (plain : List PlainEntry) (cell : Cell) (n v : ℕ) → v ≡ version (entries (take n plain)) cell.cube → n ≡ latest_flush (entries plain) cell → v ≡ floor (entries plain) cell
 floor_front plain cell n v h e = h ∙ ap (λ es. version es cell.cube) (sym (take_entries n plain)) ∙ ap (λ k. version (take k (entries plain)) cell.cube) e

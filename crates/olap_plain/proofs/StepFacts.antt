@@ -1,20 +1,21 @@
 -- Plain entries as entries, for legal steps.
-use Rattle.std.proofs.Common.{◌≡◌, refl, sym, ◌∙◌, ap, ℕ, List, [], ◌∷◌, Bool, true, false, cond, ◌&&◌, map, filter, Option, Some, None, is_none, nat_le, not, ◌==◌, ◌↔◌, IsTrue, subst, ◌+◌, ◌<◌, ◌≤◌, suc, take, length, get_or, option_map, inl, inr, arith}
-use Rattle.std.proofs.lemmas.Bool.{and_parts, and_from, leb-true, le-leb, eqb-true, eq-eqb, cases_order, not-true}
+use Rattle.std.proofs.Common.{◌≡◌, refl, sym, ◌∙◌, ap, ℕ, List, [], ◌∷◌, Bool, true, false, cond, ◌&&◌, map, filter, Option, Some, None, is_none, nat_le, nat_lt, not, ◌==◌, ◌↔◌, IsTrue, subst, ◌+◌, ◌<◌, ◌≤◌, suc, take, length, get_or, option_map, inl, inr, arith}
+use Rattle.std.proofs.lemmas.Bool.{and_parts, and_from, leb-true, le-leb, lt-ltb, ltb-true, eqb-true, eq-eqb, cases_order, not-true}
 use Rattle.std.proofs.lemmas.List.{take-map, length-map}
 use Rattle.std.proofs.lemmas.Option.{slice_get-map, slice_get_read}
 use Rattle.olap_meaning.proofs.Positions.{entry_within}
 use Rattle.olap_meaning.specs.declared.tables.Setting.{Setting}
 use Rattle.olap_meaning.specs.declared.cells.Who.{Who}
+use Rattle.olap_meaning.specs.Budget.{kept_groups, may_evict, oldest_kept}
 use Rattle.olap_meaning.specs.Catalog.{table_cube}
 use Rattle.olap_meaning.proofs.Loads.{some_and}
 use Rattle.olap_meaning.proofs.RolledSources.{sources_are_decided}
 use Rattle.olap_meaning.specs.Covering.{just_covers}
-use Rattle.olap_plain.specs.StepTests.{agg_test, start_test}
+use Rattle.olap_plain.specs.StepTests.{agg_test, evict_test, start_test}
 use Rattle.std.specs.List.{list_all}
 use Rattle.olap_plain.specs.declared.entries.PlainEntry.{PlainEntry}
 use Rattle.olap_meaning.specs.History.{Entry, Load, entry_at, version, awaited_load, is_some_and}
-use Rattle.olap_meaning.specs.Legal.{IsLegalAgg, IsLegalStart, Legal, LegalStep, has_source, is_cell, is_next_call, rise}
+use Rattle.olap_meaning.specs.Legal.{IsLegalAgg, IsLegalEviction, IsLegalStart, Legal, LegalStep, has_source, is_cell, is_next_call, rise}
 use Rattle.olap_plain.specs.Entries.{entry_of, entries}
 
 pub all_kept : (test keep : Entry → Bool) (plain : List PlainEntry) → list_all test (filter keep (entries plain)) ≡ list_all (λ e. test (entry_of e)) (filter (λ e. keep (entry_of e)) plain)
@@ -119,3 +120,21 @@ agg_decided setting history who table v result is = (there, back)
 
     back : IsLegalAgg setting history who table v → result ≡ true
     back legal = is ∙ and_from _ _ legal.call (ap (is_some_and test) legal.known ∙ le-leb _ _ legal.reached)
+
+-- the test of an eviction decides its legal step
+pub evict_decided : (setting : Setting) (history : List Entry) (j : ℕ) (result : Bool) → result ≡ evict_test setting history j → (IsTrue result) ↔ (IsLegalEviction setting history j)
+evict_decided setting history j result is = (there, back)
+  where
+    there : result ≡ true → IsLegalEviction setting history j
+    there h =
+        let parts = and_parts (is_some_and (λ oldest. oldest == j) (oldest_kept history) && nat_lt setting.budget (kept_groups setting.catalog history)) (may_evict history) (sym is ∙ h) in
+        let first = and_parts (is_some_and (λ oldest. oldest == j) (oldest_kept history)) (nat_lt setting.budget (kept_groups setting.catalog history)) parts.0 in
+        let oldest = some_and (λ oldest. oldest == j) (oldest_kept history) first.0 in
+        record { oldest = oldest.1 ∙ ap Some (eqb-true oldest.0 j oldest.2); above = ltb-true setting.budget (kept_groups setting.catalog history) first.1; after = parts.1 }
+
+    back : IsLegalEviction setting history j → result ≡ true
+    back legal =
+        is
+        ∙ and_from (is_some_and (λ oldest. oldest == j) (oldest_kept history) && nat_lt setting.budget (kept_groups setting.catalog history)) (may_evict history)
+        (and_from (is_some_and (λ oldest. oldest == j) (oldest_kept history)) (nat_lt setting.budget (kept_groups setting.catalog history)) (ap (is_some_and (λ oldest. oldest == j)) legal.oldest ∙ eq-eqb j j refl) (lt-ltb setting.budget (kept_groups setting.catalog history) legal.above))
+        legal.after

@@ -1,3 +1,4 @@
 pub mod Entries
 pub mod StepTests
 pub mod SourceTests
+pub mod GroupTests

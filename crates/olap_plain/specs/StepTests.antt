@@ -1,4 +1,4 @@
--- The conditions of three legal steps as tests, for the plain code that decides them.
+-- The conditions of four legal steps as tests, for the plain code that decides them.
 use Rattle.std.specs.Prelude.{ℕ, ◌+◌, List, Bool, ◌==◌, ◌&&◌, length, map, nat_lt, nat_le, is_none, not}
 use Rattle.std.specs.List.{list_all}
 use Rattle.olap_meaning.specs.declared.TheConstants.{VERSION_LIMIT}
@@ -9,6 +9,7 @@ use Rattle.olap_meaning.specs.declared.cells.Header.{Header}
 use Rattle.olap_meaning.specs.declared.tables.Row.{Row}
 use Rattle.olap_meaning.specs.Covering.{just_covers}
 use Rattle.olap_meaning.specs.History.{Entry, version, awaited_load, is_some_and}
+use Rattle.olap_meaning.specs.Budget.{kept_groups, may_evict, oldest_kept}
 use Rattle.olap_meaning.specs.Catalog.{table_cube}
 use Rattle.olap_meaning.specs.Legal.{has_source, is_next_call, is_row, is_cell, rise, rows_held}
 
@@ -32,3 +33,9 @@ start_test setting history header v reason =
     is_cell setting.catalog reason && rise (map (λ column. column.0) header.columns)
     && just_covers header reason && (v == version history header.cube)
     && not (has_source setting.catalog history reason) && is_none (awaited_load history reason)
+
+-- the three conditions of a legal eviction, in their order
+abbrev pub evict_test : Setting → List Entry → ℕ → Bool
+evict_test setting history j =
+    is_some_and (λ oldest. oldest == j) (oldest_kept history)
+    && nat_lt setting.budget (kept_groups setting.catalog history) && may_evict history

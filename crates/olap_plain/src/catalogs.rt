@@ -163,7 +163,12 @@ fn leaf_in(catalog: &Catalog, cube: CubeId, row: &Row, dimension: u32) -> Option
     }
 }
 
-fn row_value(catalog: &Catalog, cube: CubeId, row: &Row, column: ColumnId) -> Option<usize>
+pub(crate) fn row_value(
+    catalog: &Catalog,
+    cube: CubeId,
+    row: &Row,
+    column: ColumnId,
+) -> Option<usize>
     ensures { result ≡ worth.row_value catalog.now cube row.now column }
 {
     match catalog.columns.get(column.0 as usize) {

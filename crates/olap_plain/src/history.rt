@@ -469,17 +469,15 @@ pub fn exact_source(entries: &[PlainEntry], cell: &Cell) -> Option<u64>
     None
 }
 
-/// The latest load that is awaited for a cell.
+/// The earliest load that is awaited for a cell.
 pub fn awaited_load(entries: &[PlainEntry], cell: &Cell) -> Option<u64>
     ensures { result ≡ meaning.awaited_load (plain_view.entries entries.now) cell.now }
 {
-    let mut k = entries.len() as u64;
-    while k > 0 {
-        let found = awaited(entries, k, cell);
+    for i in 0..entries.len() {
+        let found = awaited(entries, i as u64 + 1, cell);
         if found {
-            return Some(k);
+            return Some(i as u64 + 1);
         }
-        k -= 1;
     }
     None
 }

@@ -5,6 +5,7 @@
 
 ghost use Rattle.std.specs.Prelude.{◌≡◌};
 
+pub mod budget;
 pub mod catalogs;
 mod entries;
 pub mod history;

@@ -41,7 +41,7 @@ fn is_number_among(values: &[ValueId], value: usize) -> bool
     values.iter().any(|v| v.0 as usize == value)
 }
 
-fn allows_number(allowed: &Allowed, value: usize) -> bool
+pub(crate) fn allows_number(allowed: &Allowed, value: usize) -> bool
     ensures { result ≡ covering.allows allowed.now value }
 {
     match allowed {

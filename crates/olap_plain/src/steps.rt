@@ -2,15 +2,17 @@
 ghost use Rattle.std.specs.Prelude.{◌≡◌, ◌≤◌, ◌<◌, ◌+◌, ◌^◌, ◌&&◌, ◌==◌, ◌↔◌, not, length, map, filter, sum_by, nat_lt, nat_le, true, is_none, is_some, IsTrue, Option, Some, None, List, ℕ};
 ghost use Rattle.std.specs.List.{list_any, list_all, zip, AllByRecursion as Each};
 ghost use Rattle.olap_meaning.specs.declared.TheConstants.{VERSION_LIMIT};
+ghost use Rattle.olap_meaning.specs.Budget as budget;
 ghost use Rattle.olap_meaning.specs.Covering as covering;
 ghost use Rattle.olap_meaning.specs.History as meaning;
 ghost use Rattle.olap_meaning.specs.Worth as worth;
 ghost use Rattle.olap_meaning.specs.Legal as legal;
 ghost use Rattle.olap_meaning.specs.Catalog.{fact_columns, table_cube as cube_of_table};
 ghost use Rattle.olap_plain.specs.Entries.{entries, entry_of};
-ghost use Rattle.olap_plain.specs.StepTests.{agg_test, append_test, start_test};
+ghost use Rattle.olap_plain.specs.StepTests.{agg_test, append_test, evict_test, start_test};
 
 use crate::PlainEntry;
+use crate::budget::{is_above, may_evict, oldest_kept};
 use crate::catalogs::{fact_column_count, records, table_cube, value_count};
 use crate::history::{awaited_load, flying, just_covers, starter, version, version_at};
 use crate::sources::{has_source, is_source};
@@ -434,6 +436,28 @@ fn is_legal_end(history: &[PlainEntry], who: Who, j: u64) -> bool
     flying(history, j) && is_own(history, who, j)
 }
 
+fn is_oldest_kept(history: &[PlainEntry], j: u64) -> bool
+    ensures { result
+        ≡ meaning.is_some_and (λ oldest. oldest == j) (budget.oldest_kept (entries history.now)) }
+{
+    match oldest_kept(history) {
+        None => false,
+        Some(oldest) => oldest == j,
+    }
+}
+
+fn evict_passes(setting: &Setting, history: &[PlainEntry], j: u64) -> bool
+    ensures { result ≡ evict_test setting.now (entries history.now) j }
+{
+    is_oldest_kept(history, j) && is_above(setting, history) && may_evict(history)
+}
+
+fn is_legal_eviction(setting: &Setting, history: &[PlainEntry], j: u64) -> bool
+    ensures { IsTrue result ↔ legal.IsLegalEviction setting.now (entries history.now) j }
+{
+    evict_passes(setting, history, j)
+}
+
 fn is_answered(setting: &Setting, history: &[PlainEntry], answered: &CellSource) -> bool
     ensures { IsTrue result ↔ legal.IsAnswered setting.now (entries history.now) answered.now }
 {
@@ -485,7 +509,7 @@ pub fn legal_step(setting: &Setting, history: &[PlainEntry], entry: &PlainEntry)
         PlainEntry::Drop { who, load } => is_legal_end(history, *who, *load),
         PlainEntry::Answer { who, cells } => is_next_call(history, *who)
             && are_answered(setting, history, cells.as_slice()),
-        PlainEntry::Evict { load: _ } => false,
+        PlainEntry::Evict { load } => is_legal_eviction(setting, history, *load),
         PlainEntry::Saw { who } => is_next_call(history, *who),
     }
 }

@@ -2,14 +2,14 @@
 ghost use Rattle.std.specs.Prelude.{◌≡◌, ◌<◌, IfOk, IsTrue, length};
 ghost use Rattle.std.specs.List.{list_all};
 ghost use Rattle.olap_meaning.specs.Legal.{is_cell as is_known};
-ghost use Rattle.cache_manager.specs.Runs.{MayCall};
+ghost use Rattle.manager_calls.specs.Runs.{MayCall};
 
 use crate::entries::numbered_cell;
 use crate::lines::{Wrong, number, words};
 use crate::opened::batch;
 use crate::regions::region_of;
-use cache_manager::Call;
 use history_core::is_cell;
+use manager_calls::Call;
 use olap_catalog::Catalog;
 use olap_meaning::{Cell, CubeId, List, Version};
 use std::alloc::Global;

@@ -115,11 +115,11 @@ fn catalog(alloc: Global, records: &str) -> Result<Catalog, OutOfMemory> {
 }
 
 /// The small catalog over records that are parted at white space, each a key and its fields, parted at slashes; with a limit
-/// of four rows.
-pub(crate) fn setting(alloc: Global, records: &str) -> Result<Setting, Wrong> {
+/// of four rows, and a budget of groups.
+pub(crate) fn setting(alloc: Global, records: &str, budget: u64) -> Result<Setting, Wrong> {
     Ok(Setting {
         catalog: catalog(alloc, records)?,
         row_limit: 4,
-        budget: 100,
+        budget,
     })
 }

@@ -8,19 +8,23 @@
 //! whether it is legal or not.
 //!
 //! Questions: `has CELL` asks for the sources of a cell, `source CELL LOADS` whether these loads are one. `after N floor
-//! CELL`, `after N source CELL` and `after N LOAD CELL` ask after the first N entries for the floor of a cell, its exact
-//! source, and whether a load of it is awaited and live; `flushes LOAD` how many flushes touch a load, and whether it is
-//! kept. Of the catalog, `values COLUMN` asks how many values a column has, `value COLUMN TEXT` for the number of one, `leaf
-//! COLUMN LEAF` for a leaf's value, `row CELL LEAF` whether a row of a leaf is in a cell, and `match NAME NAME ..` which of
-//! the further names the first one means.
+//! CELL`, `after N source CELL`, `after N awaited CELL` and `after N LOAD CELL` ask after the first N entries for the floor
+//! of a cell, its exact source, the load that it awaits, and whether a load of it is awaited and live; `flushes LOAD` how
+//! many flushes touch a load, and whether it is kept. `kept` asks for the kept loads, `oldest` for the oldest of them,
+//! `groups LOAD` how many groups a load has, and `groups` how many the kept loads have together. Of the catalog, `values
+//! COLUMN` asks how many values a column has, `value COLUMN TEXT` for the number of one, `leaf COLUMN LEAF` for a leaf's
+//! value, `row CELL LEAF` whether a row of a leaf is in a cell, and `match NAME NAME ..` which of the further names the first
+//! one means.
 use crate::catalogs::setting;
 use crate::entries::{cell, entry, loads, row};
 use crate::lines::{Wrong, is_remark, number, parts, place, words};
+use crate::told::told_loads;
 use olap_meaning::tables::{Catalog, Setting};
 use olap_meaning::{Cell, ColumnId, LeafId, List, OutOfMemory, Text};
 use olap_plain::PlainEntry;
+use olap_plain::budget::{group_count, kept_groups, kept_loads, oldest_kept};
 use olap_plain::catalogs::{leaf_value, match_of, row_in, value_count, value_number};
-use olap_plain::history::{awaited, exact_source, floor, flush_count, kept, live};
+use olap_plain::history::{awaited, awaited_load, exact_source, floor, flush_count, kept, live};
 use olap_plain::sources::{has_rolled_source, has_source, is_source};
 use olap_plain::steps::{is_legal, legal_step};
 use std::alloc::{AllocError, Global};
@@ -39,6 +43,11 @@ fn told_number(alloc: Global, number: Option<usize>) -> Result<String, AllocErro
         Some(number) => format!(in alloc; "{number}"),
         None => String::from_str(alloc, "none"),
     }
+}
+
+// What is said of a load, where there is one.
+fn told_load(alloc: Global, load: Option<u64>) -> Result<String, AllocError> {
+    told_number(alloc, load.map(|load| load as usize))
 }
 
 // Whether a cell has a source, and whether it has a rolled one.
@@ -62,10 +71,8 @@ fn said_of(
 ) -> Result<String, Wrong> {
     match what {
         "floor" => Ok(format!(in alloc; "{}", floor(history, cell))?),
-        "source" => {
-            let source = exact_source(history, cell).map(|load| load as usize);
-            Ok(told_number(alloc, source)?)
-        }
+        "source" => Ok(told_load(alloc, exact_source(history, cell))?),
+        "awaited" => Ok(told_load(alloc, awaited_load(history, cell))?),
         load => {
             let load = u64::from(number(load)?);
             let awaited = awaited(history, load, cell);
@@ -95,10 +102,10 @@ fn yes_or_no(alloc: Global, is: bool) -> Result<String, AllocError> {
 }
 
 impl History {
-    /// A history of no entry over the small catalog with these records.
-    pub(crate) fn new(alloc: Global, records: &str) -> Result<History, Wrong> {
+    /// A history of no entry over the small catalog with these records, and a budget of groups.
+    pub(crate) fn new(alloc: Global, records: &str, budget: u64) -> Result<History, Wrong> {
         Ok(History {
-            setting: setting(alloc, records)?,
+            setting: setting(alloc, records, budget)?,
             entries: Vec::new(alloc),
             is_legal: true,
         })
@@ -149,6 +156,31 @@ impl History {
         format!(in alloc; "{}, kept {kept}", flush_count(history, load))
     }
 
+    // The kept loads.
+    fn kept(&self, alloc: Global) -> Result<String, Wrong> {
+        let loads = kept_loads(alloc, self.entries.as_slice())?;
+        if loads.is_empty() {
+            return Ok(String::from_str(alloc, "none")?);
+        }
+        Ok(told_loads(alloc, loads.as_slice())?)
+    }
+
+    // How many groups a load has.
+    fn groups(&self, alloc: Global, load: u32) -> Result<String, AllocError> {
+        let count = group_count(
+            &self.setting.catalog,
+            self.entries.as_slice(),
+            u64::from(load),
+        );
+        format!(in alloc; "{count}")
+    }
+
+    // How many groups the kept loads have together.
+    fn all_groups(&self, alloc: Global) -> Result<String, AllocError> {
+        let count = kept_groups(&self.setting.catalog, self.entries.as_slice());
+        format!(in alloc; "{count}")
+    }
+
     // Whether a row of a leaf is in a cell.
     fn row(&self, alloc: Global, name: &str, leaf: u32) -> Result<bool, Wrong> {
         let cell = cell(alloc, name)?;
@@ -188,6 +220,17 @@ impl History {
         }
     }
 
+    // Answers a question about what is kept.
+    fn of_kept(&self, alloc: Global, words: &[&str]) -> Result<String, Wrong> {
+        match words {
+            ["kept"] => self.kept(alloc),
+            ["oldest"] => Ok(told_load(alloc, oldest_kept(self.entries.as_slice()))?),
+            ["groups", load] => Ok(self.groups(alloc, number(load)?)?),
+            ["groups"] => Ok(self.all_groups(alloc)?),
+            _ => Err(Wrong::Words("no question")),
+        }
+    }
+
     // Answers a question about the catalog.
     fn of_catalog(&self, alloc: Global, words: &[&str]) -> Result<String, Wrong> {
         match words {
@@ -212,6 +255,7 @@ impl History {
     fn said_of(&mut self, alloc: Global, words: &[&str], asked: &str) -> Result<String, Wrong> {
         match words.first().copied() {
             Some("has" | "source" | "after" | "flushes") => self.of_history(alloc, words),
+            Some("kept" | "oldest" | "groups") => self.of_kept(alloc, words),
             Some("row" | "values" | "value" | "leaf" | "match") => self.of_catalog(alloc, words),
             _ => Ok(String::from_str(alloc, self.stepped(alloc, asked)?)?),
         }

@@ -6,8 +6,10 @@
 //! begins with `#` is a remark. Of a table that comes out as it stands, `ok NAME` is written, and else each line that
 //! differs. The kinds are:
 //!
-//! - `history RECORDS`: steps of a history over the small catalog whose one dimension has these records (`histories`);
-//! - `calls LIMIT`: calls of many seats on one manager over the sample files, with a limit of rows (`plays`).
+//! - `history RECORDS BUDGET`: steps of a history over the small catalog whose one dimension has these records, with a budget
+//!   of groups, which is 100 where it is left out (`histories`);
+//! - `calls LIMIT BUDGET`: calls of many seats on one manager over the sample files, with a limit of rows and a budget of
+//!   groups, 100 where it is left out (`plays`).
 #![tactic(auto)]
 
 mod calls;

@@ -10,15 +10,15 @@
 //! N` for what the cells of an answer are taken from.
 ghost use Rattle.std.specs.Prelude.{◌≡◌, ◌≤◌, All, IfOk, IsTrue};
 ghost use Rattle.segment_header.specs.Widening.{Serves, WidensPlainly, are_wanted};
-ghost use Rattle.cache_manager.specs.Runs.{MayCall};
+ghost use Rattle.manager_calls.specs.Runs.{MayCall};
 
 use crate::calls::call_of;
 use crate::lines::{Wrong, is_remark, number, parts};
 use crate::opened::catalog;
 use crate::told::{told_entry, told_reply, told_sources};
-use cache_manager::{Call, Run, run_calls};
 use fact_versions::Steps;
 use history_core::{Entry, History};
+use manager_calls::{Call, Run, run_calls};
 use olap_catalog::Catalog;
 use olap_meaning::{Allowed, List, OutOfMemory, ROW_LIMIT, ValueId};
 use segment_header::{Widener, Widening, plain_widener, widened_plainly};
@@ -71,6 +71,7 @@ fn run<L: Ledger>(
     alloc: Global,
     catalog: Arc<Catalog>,
     row_limit: u32,
+    budget: u64,
     calls: List<Call>,
     widener: &Widener,
     blank: Blank,
@@ -82,13 +83,16 @@ fn run<L: Ledger>(
     requires may { All (MayCall catalog.value) calls }
 {
     let mut steps: Steps<L> = Steps::new(blank);
-    run_calls(alloc, catalog, row_limit, 0, calls, widener, &mut steps)
+    run_calls(
+        alloc, catalog, row_limit, budget, calls, widener, &mut steps,
+    )
 }
 
 // The run of the calls of a table.
 fn run_of(
     rt: &(impl Files + AllocGlobal),
     row_limit: u32,
+    budget: u64,
     table: &str,
     widener: &Widener,
 ) -> Result<Run, Wrong> {
@@ -100,6 +104,7 @@ fn run_of(
         rt.alloc(),
         catalog,
         row_limit,
+        budget,
         calls,
         widener,
         Blank::new(1),
@@ -166,10 +171,11 @@ fn told(alloc: Global, run: &Run, table: &str) -> Result<String, Wrong> {
     Ok(text)
 }
 
-/// What is said of each line of a table of calls, with a limit of rows.
+/// What is said of each line of a table of calls, with a limit of rows and a budget of groups.
 pub(crate) fn told_calls(
     rt: &(impl Files + AllocGlobal),
     row_limit: u32,
+    budget: u64,
     table: &str,
 ) -> Result<String, Wrong> {
     let alloc = rt.alloc();
@@ -182,6 +188,6 @@ pub(crate) fn told_calls(
         { widened_plainly(alloc, wanted, count) },
     )?;
     let widener = plain_widener(widen);
-    let run = run_of(rt, row_limit, table, &widener)?;
+    let run = run_of(rt, row_limit, budget, table, &widener)?;
     told(alloc, &run, table)
 }

@@ -28,9 +28,35 @@ fn table_of(part: &str) -> Table<'_> {
     }
 }
 
+// The records in the head of a table of a history, and the budget after them: a word without slashes, or 100 where there
+// is none.
+fn records_and_budget(rest: &str) -> std::result::Result<(&str, u64), Wrong> {
+    let (records, last) = rest.rsplit_once(' ').unwrap_or(("", rest));
+    if last.is_empty() || last.contains('/') {
+        return Ok((rest, 100));
+    }
+    Ok((records, u64::from(number(last)?)))
+}
+
+// The limit of rows in the head of a table of calls, and the budget after it, or 100 where there is none.
+fn limit_and_budget(rest: &str) -> std::result::Result<(u32, u64), Wrong> {
+    let (limit, budget) = rest.split_once(' ').unwrap_or((rest, "100"));
+    Ok((number(limit)?, u64::from(number(budget)?)))
+}
+
+// What is said of each line of a table of calls.
+fn told_table(
+    rt: &(impl Files + AllocGlobal),
+    table: Table<'_>,
+) -> std::result::Result<String, Wrong> {
+    let (limit, budget) = limit_and_budget(table.rest)?;
+    told_calls(rt, limit, budget, table.lines)
+}
+
 // What is said of each line of a table of a history.
 fn told_history(alloc: Global, table: Table<'_>) -> std::result::Result<String, Wrong> {
-    let mut history = History::new(alloc, table.rest)?;
+    let (records, budget) = records_and_budget(table.rest)?;
+    let mut history = History::new(alloc, records, budget)?;
     history.told(alloc, table.lines)
 }
 
@@ -42,7 +68,7 @@ fn said_of(
     let alloc = rt.alloc();
     match table.kind {
         "history" => told_history(alloc, table),
-        "calls" => told_calls(rt, number(table.rest)?, table.lines),
+        "calls" => told_table(rt, table),
         _ => Err(Wrong::Words("no kind of table")),
     }
 }

@@ -1,6 +1,6 @@
 //! Replies and entries, in words.
-use cache_manager::Reply;
 use history_core::{Answer, CacheView, CellSources, Entry};
+use manager_calls::Reply;
 use olap_meaning::{Allowed, Cell, Header, ValueId};
 use std::alloc::{AllocError, Global};
 
@@ -14,8 +14,8 @@ fn told_answer(alloc: Global, answer: &Answer) -> Result<String, AllocError> {
     Ok(text)
 }
 
-// Loads by rising number, with signs of addition between them.
-fn told_loads(alloc: Global, loads: &[u64]) -> Result<String, AllocError> {
+/// Loads by rising number, with signs of addition between them.
+pub(crate) fn told_loads(alloc: Global, loads: &[u64]) -> Result<String, AllocError> {
     let mut rising = Vec::from_slice(alloc, loads)?;
     rising.sort_unstable();
     let mut text = String::new(alloc);
@@ -183,6 +183,12 @@ pub(crate) fn told_entry(alloc: Global, entry: Option<&Entry>) -> Result<String,
     format!(in alloc; "{call}: {numbers}")
 }
 
+// The loads that a look waits for.
+fn told_waiting(alloc: Global, loads: &[u64]) -> Result<String, AllocError> {
+    let loads = told_loads(alloc, loads)?;
+    format!(in alloc; "waiting for {loads}")
+}
+
 /// What a call of a list is answered.
 pub(crate) fn told_reply(alloc: Global, reply: &Reply) -> Result<String, AllocError> {
     match reply {
@@ -190,10 +196,11 @@ pub(crate) fn told_reply(alloc: Global, reply: &Reply) -> Result<String, AllocEr
             format!(in alloc; "version {} at {}", made.version.0, made.position)
         }
         Reply::Refused(fault) => fault.to_string(alloc),
-        Reply::Ready(answer) => told_answer(alloc, answer),
+        Reply::Ready(answer, _) => told_answer(alloc, answer),
         Reply::Flushed(position) => format!(in alloc; "entry {position}"),
         Reply::Shown(view) => told_view(alloc, view),
         Reply::Loading(_) => String::from_str(alloc, "loading"),
+        Reply::Waiting(loads) => told_waiting(alloc, loads.as_slice()),
         Reply::Busy => String::from_str(alloc, "busy"),
         Reply::Ended => String::from_str(alloc, "ended"),
         Reply::NoJob => String::from_str(alloc, "no job"),

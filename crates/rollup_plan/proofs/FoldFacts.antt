@@ -24,8 +24,8 @@ use Rattle.segment_header.proofs.RiseFacts.{found_at, key_told, key_here}
 use Rattle.segment_body.specs.AllFolds.{FoldOf, fold_numbers}
 use Rattle.segment_body.specs.Folds.{body_row_within, has_allowed, numbers_where}
 use Rattle.segment_body.specs.BodyOf.{body_row_in}
-use Rattle.segment_body.specs.Narrowed.{allowed_values}
-use Rattle.fact_reader.specs.BodyRows.{HoldsRows, body_rows, header_measure, row_number, row_values}
+use Rattle.olap_meaning.specs.Budget.{allowed_values, row_values}
+use Rattle.fact_reader.specs.BodyRows.{HoldsRows, body_rows, header_measure, row_number}
 use Rattle.fact_reader.proofs.LawFacts.{all_stand, is_kept, missed, stands_where}
 use Rattle.fact_reader.specs.BodyRows.{is_valued}
 

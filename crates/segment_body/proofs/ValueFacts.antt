@@ -7,7 +7,7 @@ use Rattle.std.proofs.Math.Seq.{drop-nil}
 use Rattle.std.proofs.lemmas.Option.{slice_get-get_or}
 use Rattle.olap_meaning.specs.declared.cells.Allowed.{Allowed}
 use Rattle.olap_meaning.specs.Covering.{allows}
-use Rattle.segment_body.specs.Narrowed.{allowed_values, if_allowed}
+use Rattle.olap_meaning.specs.Budget.{allowed_values, if_allowed}
 
 -- values on the first column and on the others
 pub first_allowed : (allowed : Allowed) (value : Option ℕ) (rest : Option (List ℕ)) (vs : List ℕ)

@@ -3,21 +3,9 @@ use Rattle.std.specs.Prelude.{ℕ, ℤ, ◌≡◌, List, [], ◌∷◌, ◌==◌
 use Rattle.std.specs.List.Sorted.{IsPermutation}
 use Rattle.olap_meaning.specs.declared.cells.Allowed.{Allowed}
 use Rattle.olap_meaning.specs.declared.cells.Header.{Header}
-use Rattle.olap_meaning.specs.Covering.{allows}
+use Rattle.olap_meaning.specs.Budget.{allowed_values}
 use Rattle.segment_body.specs.BodyOf.{BodyOf}
 use Rattle.segment_body.specs.Groups.{Group}
-
--- a value, where a column allows it
-abbrev pub if_allowed : Allowed → ℕ → Option ℕ
-if_allowed allowed value = if allows allowed value then Some value else None
-
--- values on some columns, in order: none where one is missing or is not allowed
-abbrev pub allowed_values : (ℕ → Option ℕ) → List (ℕ × Allowed) → Option (List ℕ)
-allowed_values value_on [] = Some []
-allowed_values value_on (column ∷ columns) =
-    option_and_then
-    (λ value. option_map (λ values. value ∷ values) (allowed_values value_on columns))
-    (option_and_then (if_allowed column.1) (value_on column.0))
 
 -- the value in a column, of values on some columns
 abbrev pub value_in : List (ℕ × Allowed) → List ℕ → ℕ → Option ℕ

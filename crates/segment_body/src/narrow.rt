@@ -2,7 +2,7 @@
 ghost use Rattle.std.specs.Prelude.{◌≡◌, ◌==◌, IfOk, IsTrue, None, Some, if◌then◌else◌, option_and_then, position, slice_get};
 ghost use Rattle.segment_header.specs.Headers as headers;
 ghost use Rattle.segment_body.specs.Narrowed as narrowed;
-ghost use Rattle.segment_body.specs.Narrowed.{allowed_values, if_allowed};
+ghost use Rattle.olap_meaning.specs.Budget.{allowed_values, if_allowed};
 
 use olap_meaning::{Allowed, ColumnId, OutOfMemory, ValueId};
 use segment_header::allows;

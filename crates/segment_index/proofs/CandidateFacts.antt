@@ -4,7 +4,6 @@ use Rattle.std.specs.Prelude.{◌==◌}
 use Rattle.std.specs.List.{dedup, list_any}
 use Rattle.std.specs.List.Sorted.{IsPermutation}
 use Rattle.std.proofs.lemmas.Bool.{and_parts, cases_Bool, eq-eqb, eqb-true, or_right}
-use Rattle.std.proofs.lemmas.List.Elements.{All-contains, All-from_recursion}
 use Rattle.std.proofs.lemmas.List.Sorted.{list_any-IsPermutation}
 use Rattle.std.proofs.lemmas.Map.Views.{any-filter_same}
 use Rattle.olap_meaning.proofs.Members.{in_first, in_rest}
@@ -16,10 +15,11 @@ use Rattle.cache_flush.specs.Shuts.{is_live}
 use Rattle.cache_flush.specs.Loads as loads
 use Rattle.cache_flush.specs.Loads.{KeptOf, are_different, numbers_of}
 use Rattle.segment_index.specs.Grouping.{loads_above, loads_at, loads_where_above}
-use Rattle.segment_index.specs.Keeping.{AreGrouped, IsGrouped}
+use Rattle.segment_index.specs.Keeping.{AreGrouped}
 use Rattle.segment_header.specs.Masks.{cell_mask, header_mask}
 use Rattle.segment_index.specs.Search.{has_candidate, is_candidate, load_of}
 use Rattle.segment_header.proofs.MaskFacts.{cell_within}
+use Rattle.segment_index.proofs.MaskedFacts.{stands_under}
 use Rattle.segment_index.proofs.SearchFacts.{load_found, load_there, number_there}
 
 -- ---- the numbers under the masks that have all bits of another
@@ -92,7 +92,7 @@ module _ (kept : List KeptOf) (groups : List (ℕ × (List ℕ × ℕ))) (cell :
       let (other, held, same, passes) = from_filter is kept n h in
       let e : other.load ≡ n = eqb-true other.load n same in
       let found : load_of kept n ≡ Some other = rw e at (load_found kept other differ held) in
-      let right : IsGrouped groups other = All-contains (IsGrouped groups) kept other (All-from_recursion (IsGrouped groups) kept grouped) held in
+      let right = stands_under groups kept other grouped held in
       let covers = (and_parts (header_covers other.body.header cell) (list_any (λ column. not (names_column cell column.0)) other.body.header.columns) (and_parts (header_covers other.body.header cell && list_any (λ column. not (names_column cell column.0)) other.body.header.columns) (is_live other.shut cell) passes).0).0 in
       let under : among (loads_at groups (header_mask other.body.header)) n ≡ true = rw e at right in
       rw (found, passes) (above_here groups (header_mask other.body.header) (cell_mask cell) n (cell_within other.body.header cell covers) under))

@@ -1,29 +1,29 @@
 -- The entries of a map of kept loads: what is found in them, and what a change of one entry is.
-use Rattle.std.proofs.Common.{◌≡◌, ◌∙◌, ◌<◌, ◌++◌, ℕ, zero, suc, Bool, true, false, if◌then◌else◌, List, [], ◌∷◌, None, Some, refl, sym, ap, arith, inl, inr, true≢false, map, take, drop, set, get_or, length, nat_eq, option_map, find, slice_get}
-use Rattle.std.specs.Prelude.{Result, Ok, Err, IsOk, OnOk, ◌==◌}
+use Rattle.std.proofs.Common.{◌≡◌, ◌∙◌, ◌<◌, ◌++◌, ℕ, zero, suc, true, false, List, [], ◌∷◌, None, Some, refl, sym, ap, arith, inl, inr, true≢false, map, take, drop, set, get_or, length, nat_eq, option_map, find, slice_get}
+use Rattle.std.specs.Prelude.{Option, Result, Ok, Err, IsOk, IsSome, OnOk, OnSome, ◌==◌}
 use Rattle.std.specs.Map.{lookup}
-use Rattle.std.proofs.lemmas.Bool.{cases_Bool, eq-eqb}
+use Rattle.std.proofs.lemmas.Bool.{cases_Bool}
 use Rattle.std.proofs.lemmas.Bool.Decides.{nat_tests}
 use Rattle.std.proofs.lemmas.List.{length-map}
 use Rattle.indexmap.specs.IndexMap.{set_value_at}
 use Rattle.olap_meaning.specs.declared.regions.Region.{Region}
 use Rattle.olap_meaning.specs.Covering.{among}
-use Rattle.olap_meaning.proofs.Orders.{among_still}
 use Rattle.cache_flush.specs.Loads.{KeptOf, are_different, kept_of, numbers_of, shut_off}
 use Rattle.cache_flush.specs.declared.kept.Kept.{Kept}
 use Rattle.cache_flush.proofs.Differing.{differ_more}
 use Rattle.cache_flush.proofs.ListFacts.{map_append}
-use Rattle.segment_index.specs.Grouping.{loads_at}
-use Rattle.segment_index.specs.Keeping.{AreGrouped}
-use Rattle.segment_header.specs.Masks.{header_mask}
 use Rattle.segment_index.specs.Numbered.{AreNumbered, rooms_of, seen}
 
-eq_flips : (a b : ℕ) → (a == b) ≡ nat_eq b a
+pub eq_flips : (a b : ℕ) → (a == b) ≡ nat_eq b a
 eq_flips a b = grind (arith, nat_tests)
 
 pub on_ok : {A E P : Type 0} (r : Result A E) → IsOk r → OnOk r P → P
 on_ok (Ok x) h p = p
 on_ok (Err e) h p = absurd (true≢false (sym h))
+
+pub on_some : {A P : Type 0} (r : Option A) → IsSome r → OnSome r P → P
+on_some None h p = absurd (true≢false (sym h))
+on_some (Some x) h p = p
 
 -- the loads of a map's entries
 abbrev pub loads_of : List (ℕ × Kept) → List KeptOf
@@ -43,12 +43,6 @@ load_looked (e ∷ es) n all =
 pub keys_numbers : (es : List (ℕ × Kept)) → AreNumbered (seen es) → map (λ e. e.0) es ≡ numbers_of (loads_of es)
 keys_numbers [] all = refl
 keys_numbers (e ∷ es) all = rw (all.0, keys_numbers es all.1) refl
-
--- the keys of one entry more
-pub keys_next : (es : List (ℕ × Kept)) (i : ℕ) (e : ℕ × Kept) → slice_get es i ≡ Some e → map (λ e. e.0) (take (suc i) es) ≡ map (λ e. e.0) (take i es) ++ e.0 ∷ []
-keys_next [] i e at = absurd (cc)
-keys_next (x ∷ es) zero e at = let same : x ≡ e = cc in rw same refl
-keys_next (x ∷ es) (suc i) e at = ap (λ (ns : List ℕ). x.0 ∷ ns) (keys_next es i e at)
 
 -- a number that no load has
 pub load_absent : (es : List (ℕ × Kept)) (n : ℕ) → AreNumbered (seen es) → among (numbers_of (loads_of es)) n ≡ false → lookup (nat_eq n) es ≡ None
@@ -124,6 +118,9 @@ room_inside (e ∷ es) (suc i) t at = let rest = room_inside es i t at in omega 
 pub loads_counted : (es : List (ℕ × KeptOf)) → length (map (λ e. e.1) es) ≡ length es
 loads_counted es = length-map es (λ (e : ℕ × KeptOf). e.1)
 
+pub loads_length : (es : List (ℕ × Kept)) → length (loads_of es) ≡ length es
+loads_length es = loads_counted (seen es) ∙ length-map es (λ (e : ℕ × Kept). (e.0, kept_of e.1))
+
 -- a region changes no number
 module _ (region : Region) where
   abbrev pub shut_entry : ℕ × KeptOf → ℕ × KeptOf
@@ -136,35 +133,3 @@ module _ (region : Region) where
   pub numbered_shut : (es : List (ℕ × KeptOf)) → AreNumbered es → AreNumbered (map shut_entry es)
   numbered_shut [] all = tt
   numbered_shut (e ∷ es) all = (all.0, numbered_shut es all.1)
-
--- ---- the loads and their masks
-
-abbrev Groups : Type 0
-Groups = List (ℕ × (List ℕ × ℕ))
-
--- under the same numbers by mask
-pub grouped_still : (groups after : Groups) (loads : List KeptOf) → ((q : ℕ) → loads_at after q ≡ loads_at groups q) → AreGrouped groups loads → AreGrouped after loads
-grouped_still groups after [] same all = tt
-grouped_still groups after (k ∷ loads) same all = (rw (same (header_mask k.body.header)) all.0, grouped_still groups after loads same all.1)
-
-pub grouped_shut : (groups : Groups) (region : Region) (loads : List KeptOf) → AreGrouped groups loads → AreGrouped groups (map (shut_off region) loads)
-grouped_shut groups region [] all = tt
-grouped_shut groups region (k ∷ loads) all = (all.0, grouped_shut groups region loads all.1)
-
-among_last : (ns : List ℕ) (n : ℕ) → among (ns ++ n ∷ []) n ≡ true
-among_last [] n = rw (eq-eqb n n refl) refl
-among_last (k ∷ ns) n = elim (cases_Bool (k == n)) [ inl same ↦ rw same refl | inr other ↦ rw other (among_last ns n) ]
-
--- with one number more under a mask
-pub grouped_more : (groups after : Groups) (m : ℕ) (kept : KeptOf) (loads : List KeptOf) → m ≡ header_mask kept.body.header
-    → ((q : ℕ) → loads_at after q ≡ (if nat_eq m q then loads_at groups q ++ kept.load ∷ [] else loads_at groups q)) → AreGrouped groups loads → AreGrouped after (loads ++ kept ∷ [])
-grouped_more groups after m kept [] its more all =
-    let here : nat_eq m (header_mask kept.body.header) ≡ true = rw its (eq-eqb (header_mask kept.body.header) (header_mask kept.body.header) refl) in
-    let now : loads_at after (header_mask kept.body.header) ≡ loads_at groups (header_mask kept.body.header) ++ kept.load ∷ [] = rw here at (more (header_mask kept.body.header)) in
-    (rw now (among_last (loads_at groups (header_mask kept.body.header)) kept.load), tt)
-grouped_more groups after m kept (k ∷ loads) its more all =
-    (rw (more (header_mask k.body.header)) (by (nat_eq m (header_mask k.body.header)) all.0), grouped_more groups after m kept loads its more all.1)
-  where
-    by : (b : Bool) → among (loads_at groups (header_mask k.body.header)) k.load ≡ true → among (if b then loads_at groups (header_mask k.body.header) ++ kept.load ∷ [] else loads_at groups (header_mask k.body.header)) k.load ≡ true
-    by true there = among_still (loads_at groups (header_mask k.body.header)) kept.load k.load there
-    by false there = there

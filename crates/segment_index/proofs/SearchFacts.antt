@@ -6,16 +6,17 @@ use Rattle.std.proofs.lemmas.Bool.{and_parts, cases_Bool, eq-eqb, eqb-true, ltb-
 use Rattle.std.proofs.lemmas.Bool.Decides.{nat_tests}
 use Rattle.std.proofs.lemmas.List.{reverse-append}
 use Rattle.std.proofs.lemmas.List.Sorted.{IsPermutation-reverse, list_any-IsPermutation}
-use Rattle.std.proofs.lemmas.List.Elements.{All-contains, All-from_recursion, Contains-get_or}
+use Rattle.std.proofs.lemmas.List.Elements.{Contains-get_or}
 use Rattle.olap_meaning.proofs.Members.{in_first, in_rest, none_in}
 use Rattle.olap_meaning.specs.declared.cells.Cell.{Cell}
 use Rattle.olap_meaning.specs.Covering.{among, just_covers}
 use Rattle.cache_flush.specs.Shuts.{is_live}
 use Rattle.cache_flush.specs.Loads.{IsGreatest, KeptOf, are_different, numbers_of, serves}
 use Rattle.segment_index.specs.Grouping.{loads_at}
-use Rattle.segment_index.specs.Keeping.{AreGrouped, IsGrouped}
+use Rattle.segment_index.specs.Keeping.{AreGrouped}
 use Rattle.segment_header.specs.Masks.{cell_mask, header_mask}
 use Rattle.segment_index.specs.Search.{later, later_serving, latest_serving, load_of, reaches, serving}
+use Rattle.segment_index.proofs.MaskedFacts.{stands_under}
 use Rattle.segment_header.proofs.MaskFacts.{cell_same}
 
 below : (a b : ℕ) → nat_lt a b ≡ true → a ≤ b
@@ -155,7 +156,7 @@ pub greatest_found : (loads : List KeptOf) (groups : List (ℕ × (List ℕ × �
 greatest_found loads groups cell grouped differ =
     greatest_of loads cell (latest_serving loads cell None (reverse (loads_at groups (cell_mask cell)))) (all-serves loads cell (reverse (loads_at groups (cell_mask cell))) None tt)
     (λ other there served.
-    let right : IsGrouped groups other = All-contains (IsGrouped groups) loads other (All-from_recursion (IsGrouped groups) loads grouped) there in
+    let right = stands_under groups loads other grouped there in
     let covers = (and_parts (just_covers other.body.header cell) (is_live other.shut cell) served).0 in
     let same : header_mask other.body.header ≡ cell_mask cell = cell_same other.body.header cell covers in
     let under : among (loads_at groups (cell_mask cell)) other.load ≡ true = rw same at right in

@@ -2,4 +2,5 @@ pub mod Grouping
 pub mod Index
 pub mod Keeping
 pub mod Numbered
+pub mod Rising
 pub mod Search

@@ -76,15 +76,22 @@ impl CacheShelf for SegmentIndex {
     }
 
     fn numbers(&self) -> Result<List<u64>, OutOfMemory> {
-        self.loads.numbers_differ();
-        let mut numbers = self.loads.numbers(self.alloc)?;
-        numbers.sort_unstable();
+        let numbers = self.loads.numbers(self.alloc)?;
         Ok(List::from_vec(numbers))
+    }
+
+    fn oldest(&self) -> Option<u64> {
+        self.loads.oldest()
+    }
+
+    fn groups(&self) -> u128 {
+        self.loads.groups()
     }
 
     fn find(&self, cell: &Cell) -> Option<&Kept> {
         self.loads.numbers_differ();
-        latest_serving(&self.loads, self.groups.at(cell_mask(cell)), cell)
+        let (front, back) = self.groups.at(cell_mask(cell));
+        latest_serving(&self.loads, front, back, cell)
     }
 
     fn candidates(&self, cell: &Cell) -> Result<List<u64>, OutOfMemory> {
@@ -108,6 +115,18 @@ impl CacheShelf for SegmentIndex {
         self.groups.add(header_mask(kept.body.header()), kept.load);
         self.places -= 1;
         self.loads.insert(kept);
+    }
+
+    fn release(&mut self, header: &Header) {
+        self.groups.release(header_mask(header));
+        self.places -= 1;
+    }
+
+    fn remove(&mut self, load: u64) -> Option<Kept> {
+        self.loads.numbers_differ();
+        let kept = self.loads.remove(load)?;
+        self.groups.remove(header_mask(kept.body.header()), load);
+        Some(kept)
     }
 
     fn reserve_shut(&mut self, region: &Arc<Region>) -> Result<List<Arc<Region>>, OutOfMemory> {

@@ -1,5 +1,5 @@
 //! The search among the loads of some numbers.
-ghost use Rattle.std.specs.Prelude.{◌≡◌, IfOk, None, filter, option_copied, option_map, reverse};
+ghost use Rattle.std.specs.Prelude.{◌≡◌, ◌++◌, IfOk, None, filter, option_copied, option_map, reverse};
 ghost use Rattle.cache_flush.specs.Loads.{kept_of};
 ghost use Rattle.segment_index.specs.Search as words;
 
@@ -49,17 +49,37 @@ fn later_serving<'a>(
     }
 }
 
-/// Of the loads with some numbers, the latest that serves a cell. They are asked from the last number on, which most often is
-/// the latest. It takes no memory.
-pub(crate) fn latest_serving<'a>(loads: &'a Loads, numbers: &[u64], cell: &Cell) -> Option<&'a Kept>
+// The latest that serves a cell, of a load and the loads with some numbers. They are asked from the last number on, which most
+// often is the latest.
+fn latest_of<'a>(
+    loads: &'a Loads,
+    cell: &Cell,
+    first: Option<&'a Kept>,
+    numbers: &[u64],
+) -> Option<&'a Kept>
     ensures { option_map kept_of (option_copied result)
-        ≡ words.latest_serving loads.now.loads cell.now None (reverse numbers.now) }
+        ≡ words.latest_serving loads.now.loads cell.now
+        (option_map kept_of (option_copied first.entry)) (reverse numbers.now) }
 {
-    let mut best = None;
+    let mut best = first;
     for place in (0..numbers.len()).rev() {
         best = later_serving(loads, cell, best, numbers[place]);
     }
     best
+}
+
+/// Of the loads with some numbers, which come in two parts, the latest that serves a cell. It takes no memory.
+pub(crate) fn latest_serving<'a>(
+    loads: &'a Loads,
+    front: &[u64],
+    back: &[u64],
+    cell: &Cell,
+) -> Option<&'a Kept>
+    ensures { option_map kept_of (option_copied result)
+        ≡ words.latest_serving loads.now.loads cell.now None (reverse (front.now ++ back.now)) }
+{
+    let latest = latest_of(loads, cell, None, back);
+    latest_of(loads, cell, latest, front)
 }
 
 // Whether there is a load, and it is a candidate for a cell.

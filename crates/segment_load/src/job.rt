@@ -1,4 +1,4 @@
-//! Jobs that load a segment.
+//! Loads of a segment: what is to be read, and what it has come to.
 ghost use Rattle.std.specs.Prelude.{◌≡◌, ◌≤◌, ◌+◌, All, IfErr, IfOk, IsTrue, OnOk, Some, length, map, option_map};
 ghost use Rattle.segment_header.specs.Headers.{is_header};
 ghost use Rattle.fact_reader.specs.BodyRows.{HoldsRows, are_batches, body_of, header_measure, is_loadable, rows_in};
@@ -21,7 +21,7 @@ use std::sync::ledger::Ledger;
 /// A load of a header from a version of its cube, for a call. It holds all that it needs, so that any thread may run it. It
 /// reads the cheapest of the facts and the aggregate tables that it was given.
 #[derive(Drop)]
-pub struct LoadJob {
+pub struct SegmentLoad {
     catalog: Arc<Catalog>,
     load: u64,
     who: Who,
@@ -31,7 +31,7 @@ pub struct LoadJob {
     cost: u64,
 }
 
-impl Model for LoadJob {
+impl Model for SegmentLoad {
     ghost use Rattle.std.specs.Prelude.{option_map};
     ghost use Rattle.segment_load.specs.Loads.{JobOf};
     ghost use Rattle.segment_load.specs.Jobs.{IsJob};
@@ -45,13 +45,13 @@ impl Model for LoadJob {
 
 /// What a load has come to: its number, the call that it is for, and the cells of its header.
 #[derive(Drop)]
-pub struct Delivery {
+pub struct LoadedSegment {
     pub load: u64,
     pub who: Who,
     pub body: Body,
 }
 
-impl LoadJob {
+impl SegmentLoad {
     /// A load by its number, and the call that it is for. It reads the cheapest of the facts and those of the tables that may
     /// be read: of several that cost as much the first, and the facts last.
     pub fn new(
@@ -61,7 +61,7 @@ impl LoadJob {
         header: Header,
         snapshot: Snapshot,
         tables: &[Arc<AggTable>],
-    ) -> Result<LoadJob, OutOfMemory>
+    ) -> Result<SegmentLoad, OutOfMemory>
         requires header { IsTrue (is_header header) }
         requires loadable { IsTrue (is_loadable catalog.value header) }
         requires fit { IsTrue (are_batches catalog.value header.cube snapshot) }
@@ -83,7 +83,7 @@ impl LoadJob {
         let cost = cost_of(&snapshot, &table);
         // A snapshot has no more rows than a body has room for.
         let _rows = snapshot.rows();
-        Ok(LoadJob {
+        Ok(SegmentLoad {
             catalog,
             load,
             who,
@@ -194,11 +194,11 @@ impl LoadJob {
 /// Runs a load: the rows of its version that its header allows are summed up by their values on the header's columns, from
 /// the facts, or from an aggregate table and the facts that are later than the table. Each row and each group that is handed
 /// out is a step. Where there is no memory, the job comes back as it was.
-pub fn run_load<L: Ledger>(
+pub fn load_segment<L: Ledger>(
     alloc: Global,
-    job: LoadJob,
+    job: SegmentLoad,
     steps: &mut Steps<L>,
-) -> Result<Delivery, LoadJob>
+) -> Result<LoadedSegment, SegmentLoad>
     ensures load { IfOk result (λ delivery. delivery.load ≡ job.load) }
     ensures who { IfOk result (λ delivery. delivery.who ≡ job.who) }
     ensures body { IfOk result
@@ -209,7 +209,7 @@ pub fn run_load<L: Ledger>(
     ensures err { IfErr result (λ back. back ≡ job) }
 {
     match job.fold(alloc, steps) {
-        Ok(body) => Ok(Delivery {
+        Ok(body) => Ok(LoadedSegment {
             load: job.load,
             who: job.who,
             body,

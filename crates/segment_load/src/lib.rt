@@ -1,5 +1,5 @@
-//! Jobs that load a segment: each folds the rows of a snapshot into the body of a header, from the cheapest of the facts and
-//! the aggregate tables that may be read.
+//! Loads of segments: each folds the rows of a snapshot into the body of a header, from the cheapest of the facts and the
+//! aggregate tables that may be read.
 #![tactic(auto)]
 
 mod choice;
@@ -7,4 +7,4 @@ mod job;
 pub mod laws;
 mod shared;
 
-pub use job::{Delivery, LoadJob, run_load};
+pub use job::{LoadedSegment, SegmentLoad, load_segment};

@@ -14,7 +14,7 @@ use crate::tables::{compared, parted};
 use crate::widens::{Allows, allowed, allows_of};
 use anyhow::{Result, anyhow, bail};
 use cache_manager::Manager;
-use cache_opening::open_cache;
+use cache_opening::{BUDGET, open_cache};
 use fact_versions::Steps;
 use line_session::{SessionEnd, Tools, serve};
 use manager_desk::ManagerDesk;
@@ -77,7 +77,7 @@ fn desk_with(manager: Manager) -> Result<ManagerDesk>
 fn desk_over(alloc: Global, catalog: Arc<Catalog>, row_limit: u32) -> Result<ManagerDesk>
     requires { row_limit ≤ ROW_LIMIT }
 {
-    match Manager::new(alloc, catalog, row_limit, 0) {
+    match Manager::new(alloc, catalog, row_limit, BUDGET) {
         Ok(manager) => desk_with(manager),
         Err(_) => bail!("no memory"),
     }

@@ -1,22 +1,21 @@
 -- An ask adds the loads that its cells lack, all ended, and then the answer, and costs what those loads do.
-use Rattle.std.proofs.Common.{◌≡◌, ◌∙◌, ◌+◌, ◌++◌, ◌∷◌, [], List, ap, sym, refl, subst, arith, length, map}
+use Rattle.std.proofs.Common.{◌≡◌, ◌∙◌, ◌+◌, [], ap, sym, refl, subst, arith, length, map}
 use Rattle.std.proofs.lemmas.List.Elements.{All-weaker}
 use Rattle.olap_meaning.specs.declared.cells.Who.{Who}
 use Rattle.olap_meaning.specs.declared.tables.Setting.{Setting}
-use Rattle.olap_meaning.specs.History.{Answer, Entry}
 use Rattle.olap_meaning.proofs.Lists.{on_err}
 use Rattle.segment_load.specs.Loads.{JobOf}
 use Rattle.history_core.specs.Cache.{CacheOf}
 use Rattle.history_core.specs.Groups.{load_count}
 use Rattle.segment_header.specs.contracts.widener.WidenerAllowsValues.TheImpl.{answers-value}
 use Rattle.segment_header.specs.Widening.{Widened}
-use Rattle.cache_manager.specs.Runs.{apart}
-use Rattle.cache_manager.proofs.JobFacts.{apart_numbers}
+use Rattle.cache_manager.specs.Jobs.{apart}
+use Rattle.manager_desk.proofs.Seeing.{apart_numbers, none_waits}
 use Rattle.line_session.specs.Desks.{costs_behind}
 use Rattle.manager_desk.specs.Ends.{AddsEnded}
 use Rattle.manager_desk.specs.Keeping.{IsCount}
-use Rattle.manager_desk.proofs.Counting.{count_one, count_starts}
-use Rattle.manager_desk.proofs.Joining.{IsStarted, adds_answer, adds_ended, all_delivered, jobs_own, next_again, none_allowed, none_lacking, numbers_are, only_started, cost_ended, cost_in_all, ready_again, still_idle}
+use Rattle.manager_desk.proofs.Counting.{count_starts}
+use Rattle.manager_desk.proofs.Joining.{IsStarted, adds_answer, adds_ended, all_delivered, cost_answered, cost_ended, cost_in_all, count_answered, idle_answered, jobs_own, next_again, none_allowed, none_lacking, numbers_are, only_started, ready_again}
 use Rattle.manager_desk.proofs.asking.ask.Goals as goal
 
 pub end_loads-requires : goal.end_loads-requires
@@ -86,7 +85,7 @@ answer_ready-requires-clause-ready g c =
       are = rw c.in-Load.is at c.in_ok-answer.ensures.jobs;
       legal = c.steps_are_legal-in-Load.ensures;
     } in
-    ready_again (Widened ((answers-value g.dyn-1).it c.args.widener.now)) c.args.manager.now c.end_loads.new.manager c.args.who c.args.cells.now (map (λ job. job.header) c.in-Load.jobs) look.allowed c.steps_are_legal-in-Load-2.ensures c.requires.known (c.end_loads.ensures.setting ∙ c.look.ensures.setting)
+    ready_again c.delivered_looks_are_ready.ensures (Widened ((answers-value g.dyn-1).it c.args.widener.now)) c.args.manager.now c.end_loads.new.manager c.args.who c.args.cells.now (map (λ job. job.header) c.in-Load.jobs) look.allowed c.steps_are_legal.ensures c.requires.idle c.requires.known (c.end_loads.ensures.setting ∙ c.look.ensures.setting)
     (all_delivered (Widened ((answers-value g.dyn-1).it c.args.widener.now)) c.args.manager.now c.look.new.self c.args.who c.args.cells.now (map (λ job. job.header) c.in-Load.jobs) c.in-Load.jobs look c.end_loads.new.manager.entries (c.end_loads.ensures.delivered c.if-not-end_loads.false))
 
 pub returns-in_err-answer-in-Load-clause-refused : goal.returns-in_err-answer-in-Load-clause-refused
@@ -117,20 +116,24 @@ returns-in_err-answer-in-Load-clause-at_most g c =
     let read = cost_ended (Widened ((answers-value g.dyn-1).it c.args.widener.now)) c.args.manager.now c.look.new.self c.args.who c.args.cells.now (map (λ job. job.header) c.in-Load.jobs) c.in-Load.jobs look c.end_loads.new.manager.entries c.end_loads.ensures.ended c.requires.seat in
     omega (arith, same, read, c.end_loads.ensures.at_most)
 
+pub unreachable-requires : goal.unreachable-requires
+unreachable-requires g c = none_waits c.args.manager.now c.args.cells.now c.in-Wait._loads c.requires.idle (rw c.in-Wait.is at c.in_ok-answer.ensures.wait)
+
 pub returns-in-Ready-clause-answered : goal.returns-in-Ready-clause-answered
 returns-in-Ready-clause-answered g c =
     adds_answer (Widened ((answers-value g.dyn-1).it c.args.widener.now)) c.args.manager.now c.args.manager.now c.look.new.self c.args.who c.args.cells.now [] c.in-Ready.answer (none_allowed (Widened ((answers-value g.dyn-1).it c.args.widener.now)) c.args.manager.now c.args.cells.now (rw c.in-Ready.is at c.in_ok-answer.ensures.ready)) refl
-    (none_lacking c.args.manager.now c.args.who c.args.cells.now (rw c.in-Ready.is at c.in_ok-answer.ensures.ready)) c.look.ensures.setting (rw c.in-Ready.is at c.in_ok-answer.ensures.answer_entry)
+    (none_lacking c.args.manager.now c.args.who c.args.cells.now (rw c.in-Ready.is at c.in_ok-answer.ensures.ready)) (rw c.in-Ready.is at c.in_ok-answer.ensures.answer_entries)
     (rw c.in-Ready.is at c.in_ok-answer.ensures.answer)
 
 pub returns-in-Ready-clause-idle : goal.returns-in-Ready-clause-idle
-returns-in-Ready-clause-idle g c =
-    still_idle c.args.manager.now.entries c.look.new.self.entries _ refl (rw c.in-Ready.is at c.in_ok-answer.ensures.answer_entry) c.requires.idle
+returns-in-Ready-clause-idle g c = idle_answered c.args.manager.now c.look.new.self c.args.who _ (rw c.in-Ready.is at c.in_ok-answer.ensures.answer_entries) c.requires.idle
 
 pub returns-in-Ready-clause-count : goal.returns-in-Ready-clause-count
 returns-in-Ready-clause-count g c =
-    count_one c.args.manager.now.setting c.args.manager.now.entries c.look.new.self.entries (Answer c.args.who c.in-Ready.answer.sources.value) c.args.read.now c.steps_are_legal.ensures refl
-    (rw c.in-Ready.is at c.in_ok-answer.ensures.answer_entry) c.requires.count
+    count_answered c.args.manager.now c.look.new.self c.args.who _ c.args.read.now c.steps_are_legal.ensures (rw c.in-Ready.is at c.in_ok-answer.ensures.answer_entries) c.requires.count
+
+pub returns-in-Ready-clause-cost : goal.returns-in-Ready-clause-cost
+returns-in-Ready-clause-cost g c = let none = cost_answered c.args.manager.now c.look.new.self c.args.who _ (rw c.in-Ready.is at c.in_ok-answer.ensures.answer_entries) in omega (arith, none)
 
 pub returns-in_ok-answer-in-Load-clause-answered : goal.returns-in_ok-answer-in-Load-clause-answered
 returns-in_ok-answer-in-Load-clause-answered g c =
@@ -143,17 +146,16 @@ returns-in_ok-answer-in-Load-clause-answered g c =
       legal = c.steps_are_legal-in-Load.ensures;
     } in
     adds_answer (Widened ((answers-value g.dyn-1).it c.args.widener.now)) c.args.manager.now c.end_loads.new.manager c.answer_ready.new.manager c.args.who c.args.cells.now (map (λ job. job.header) c.in-Load.jobs) c.in_ok-answer-in-Load.answer look.allowed (c.end_loads.ensures.setting ∙ c.look.ensures.setting)
-    (all_delivered (Widened ((answers-value g.dyn-1).it c.args.widener.now)) c.args.manager.now c.look.new.self c.args.who c.args.cells.now (map (λ job. job.header) c.in-Load.jobs) c.in-Load.jobs look c.end_loads.new.manager.entries (c.end_loads.ensures.delivered c.if-not-end_loads.false)) c.answer_ready.ensures.setting
-    c.in_ok-answer-in-Load.ensures.entry c.in_ok-answer-in-Load.ensures.answer
+    (all_delivered (Widened ((answers-value g.dyn-1).it c.args.widener.now)) c.args.manager.now c.look.new.self c.args.who c.args.cells.now (map (λ job. job.header) c.in-Load.jobs) c.in-Load.jobs look c.end_loads.new.manager.entries (c.end_loads.ensures.delivered c.if-not-end_loads.false)) c.in_ok-answer-in-Load.ensures.entries
+    c.in_ok-answer-in-Load.ensures.answer
 
 pub returns-in_ok-answer-in-Load-clause-idle : goal.returns-in_ok-answer-in-Load-clause-idle
-returns-in_ok-answer-in-Load-clause-idle g c =
-    still_idle c.end_loads.new.manager.entries c.answer_ready.new.manager.entries _ refl c.in_ok-answer-in-Load.ensures.entry c.end_loads.ensures.closed
+returns-in_ok-answer-in-Load-clause-idle g c = idle_answered c.end_loads.new.manager c.answer_ready.new.manager c.args.who _ c.in_ok-answer-in-Load.ensures.entries c.end_loads.ensures.closed
 
 pub returns-in_ok-answer-in-Load-clause-count : goal.returns-in_ok-answer-in-Load-clause-count
 returns-in_ok-answer-in-Load-clause-count g c =
     subst (λ (s : Setting). IsCount s.catalog c.answer_ready.new.manager.entries c.end_loads.new.read) (c.end_loads.ensures.setting ∙ c.look.ensures.setting)
-    (count_one c.end_loads.new.manager.setting c.end_loads.new.manager.entries c.answer_ready.new.manager.entries (Answer c.args.who c.in_ok-answer-in-Load.answer.sources.value) c.end_loads.new.read c.steps_are_legal-in-Load-2.ensures refl c.in_ok-answer-in-Load.ensures.entry
+    (count_answered c.end_loads.new.manager c.answer_ready.new.manager c.args.who _ c.end_loads.new.read c.steps_are_legal-in-Load-2.ensures c.in_ok-answer-in-Load.ensures.entries
     (subst (λ (s : Setting). IsCount s.catalog c.end_loads.new.manager.entries c.end_loads.new.read) (sym c.end_loads.ensures.setting) c.end_loads.ensures.count))
 
 pub returns-in_ok-answer-in-Load-clause-cost : goal.returns-in_ok-answer-in-Load-clause-cost
@@ -167,8 +169,8 @@ returns-in_ok-answer-in-Load-clause-cost g c =
       legal = c.steps_are_legal-in-Load.ensures;
     } in
     let read =
-    cost_in_all (Widened ((answers-value g.dyn-1).it c.args.widener.now)) c.args.manager.now c.look.new.self c.args.who c.args.cells.now (map (λ job. job.header) c.in-Load.jobs) c.in-Load.jobs look c.answer_ready.new.manager.entries (Answer c.args.who c.in_ok-answer-in-Load.answer.sources.value) c.requires.seat (λ es. refl)
-    (c.in_ok-answer-in-Load.ensures.entry ∙ ap (λ (es : List Entry). es ++ Answer c.args.who c.in_ok-answer-in-Load.answer.sources.value ∷ []) (c.end_loads.ensures.delivered c.if-not-end_loads.false)) in
+    cost_in_all (Widened ((answers-value g.dyn-1).it c.args.widener.now)) c.args.manager.now c.look.new.self c.args.who c.args.cells.now (map (λ job. job.header) c.in-Load.jobs) c.in-Load.jobs look c.end_loads.new.manager c.answer_ready.new.manager _ c.requires.seat
+    (c.end_loads.ensures.delivered c.if-not-end_loads.false) c.in_ok-answer-in-Load.ensures.entries in
     let cost = c.end_loads.ensures.cost c.if-not-end_loads.false in
     omega (arith, read, cost)
 
@@ -183,6 +185,6 @@ returns-in_ok-answer-in-Load-clause-at_most g c =
       legal = c.steps_are_legal-in-Load.ensures;
     } in
     let read =
-    cost_in_all (Widened ((answers-value g.dyn-1).it c.args.widener.now)) c.args.manager.now c.look.new.self c.args.who c.args.cells.now (map (λ job. job.header) c.in-Load.jobs) c.in-Load.jobs look c.answer_ready.new.manager.entries (Answer c.args.who c.in_ok-answer-in-Load.answer.sources.value) c.requires.seat (λ es. refl)
-    (c.in_ok-answer-in-Load.ensures.entry ∙ ap (λ (es : List Entry). es ++ Answer c.args.who c.in_ok-answer-in-Load.answer.sources.value ∷ []) (c.end_loads.ensures.delivered c.if-not-end_loads.false)) in
+    cost_in_all (Widened ((answers-value g.dyn-1).it c.args.widener.now)) c.args.manager.now c.look.new.self c.args.who c.args.cells.now (map (λ job. job.header) c.in-Load.jobs) c.in-Load.jobs look c.end_loads.new.manager c.answer_ready.new.manager _ c.requires.seat
+    (c.end_loads.ensures.delivered c.if-not-end_loads.false) c.in_ok-answer-in-Load.ensures.entries in
     omega (arith, read, c.end_loads.ensures.at_most)

@@ -2,7 +2,6 @@
 use Rattle.std.proofs.Common.{ℕ, ◌+◌, ◌++◌, ◌∷◌, [], ◌∙◌, ap, refl, subst, sym, arith}
 use Rattle.olap_meaning.specs.declared.cells.Who.{Who}
 use Rattle.olap_meaning.specs.History.{Done, Drop}
-use Rattle.cache_manager.proofs.JobFacts.{own_body}
 use Rattle.manager_desk.specs.Keeping.{IsCount}
 use Rattle.manager_desk.proofs.Counting.{count_done, count_one}
 use Rattle.manager_desk.proofs.asking.end_load.Goals as goal
@@ -21,4 +20,4 @@ returns-in-Err-clause-count g c =
     count_one c.args.manager.now.setting c.args.manager.now.entries c.abandon-in-Err.new.self.entries (Drop c.in-Err.back.who c.in-Err.back.load) c.args.read.now c.steps_are_legal.ensures refl c.abandon-in-Err.ensures.entry c.requires.count
 
 pub deliver-requires : goal.deliver-requires
-deliver-requires g c = rw (c.in-Ok.ensures.who, c.in-Ok.ensures.load) (record { own = own_body c.args.manager.now c.args.job c.in-Ok.delivery.body c.requires.job c.in-Ok.ensures.body })
+deliver-requires g c = record { own = rw (c.in-Ok.ensures.who, c.in-Ok.ensures.load) (c.own_bodies.ensures c.args.manager.now c.args.job c.in-Ok.delivery.body c.requires.job c.in-Ok.ensures.body) }

@@ -1,66 +1,69 @@
 -- Each job in turn is ended, and the jobs after it stay out.
-use Rattle.std.proofs.Common.{◌≡◌, ◌∙◌, ◌+◌, ◌<◌, ◌++◌, ◌∷◌, [], List, ap, sym, subst, arith, length, drop, get_or, map, All, true}
-use Rattle.std.proofs.lemmas.Iterator.Adapters.{YieldsList-from_vec}
-use Rattle.std.proofs.lemmas.Iterator.Consumers.{YieldsList-turn}
-use Rattle.std.proofs.lemmas.List.{append_assoc, length_push, map_push}
-use Rattle.std.proofs.lemmas.List.Elements.{All-get_or, All-head}
-use Rattle.std.proofs.lemmas.List.Sums.{sum_by_push}
+use Rattle.std.proofs.Common.{◌≡◌, ◌∙◌, ◌+◌, ◌++◌, List, Option, ap, refl, sym, subst, arith, false, length, map, suc, true}
+use Rattle.std.proofs.lemmas.List.Elements.{All-head}
+use Rattle.std.proofs.lemmas.Bool.{both_ways}
+use Rattle.std.specs.Prelude.{option_to_list, sum_by}
+use Rattle.std.specs.Vec.Iter.{into_iter_items, into_iter_len}
 use Rattle.olap_meaning.specs.declared.tables.Setting.{Setting}
-use Rattle.olap_meaning.specs.History.{Entry}
-use Rattle.olap_meaning.proofs.Lists.{drop_step}
 use Rattle.segment_load.specs.Loads.{JobOf, job_cost}
 use Rattle.cache_manager.specs.Jobs.{IsJobOf}
-use Rattle.cache_manager.specs.Runs.{apart}
-use Rattle.manager_desk.specs.Ends.{AreOut, done_of, end_of}
+use Rattle.manager_desk.specs.Ends.{EndsJobs, done_of}
 use Rattle.manager_desk.specs.Keeping.{IsCount}
-use Rattle.manager_desk.proofs.Ending.{ended_more, rest_out}
+use Rattle.manager_desk.proofs.Ending.{IsEnding, all_closed, all_ended, none_ended, none_left, one_ended, whole_done}
 use Rattle.manager_desk.proofs.asking.end_loads.Goals as goal
+
+pub loop-job-init : goal.loop-job-init
+loop-job-init g c =
+    let whole = c.into_iter-rest.ensures.rest ∙ c.into_vec.ensures in
+    record {
+      long = c.into_iter-rest.ensures.len ∙ c.into_vec.result.ok.0 ∙ sym (ap (λ (xs : List JobOf). length xs) c.into_iter-rest.ensures.rest);
+      ending =
+          subst (λ (xs : List JobOf). IsEnding c.args.manager.now c.args.manager.now c.args.jobs xs true c.args.steps.now c.args.steps.now c.args.read.now) (sym whole)
+          (none_ended c.args.manager.now c.args.jobs c.args.steps.now c.args.read.now c.requires.jobs c.requires.seats c.requires.different c.requires.complete c.requires.count);
+    }
 
 pub end_load-run-requires : goal.end_load-run-requires
 end_load-run-requires g c =
-    let given = c.into_iter-job-iterator.ensures.into_iter_gives in
-    let yields = YieldsList-from_vec {s = c.into_iter-job-iterator.result} c.into_vec-job-items.result.items given.0 (given.1 ∙ c.into_vec-job-items.result.ok.0) in
-    let turn = YieldsList-turn yields c.loop-job.yielded c.loop-job.job-iterator c.loop-job.yielded_by c.next.result c.next.new.self c.in-Some.job c.in-Some.is c.next.ensures.steps in
-    let within : length c.loop-job.yielded < length c.args.jobs = subst (λ (xs : List JobOf). length c.loop-job.yielded < length xs) c.into_vec-job-items.ensures turn.0 in
-    let at : c.in-Some.job ≡ get_or c.args.jobs (length c.loop-job.yielded) c.in-Some.job = subst (λ (xs : List JobOf). c.in-Some.job ≡ get_or xs (length c.loop-job.yielded) c.in-Some.job) c.into_vec-job-items.ensures turn.1 in
+    let left = c.next.ensures.items ∙ ap (λ (o : Option JobOf). option_to_list o ++ into_iter_items c.next.new.self) c.in-Some.is in
+    let so_far = subst (λ (xs : List JobOf). IsEnding c.args.manager.now c.loop-job.manager c.args.jobs xs c.loop-job.run c.args.steps.now c.loop-job.steps c.loop-job.read) left c.loop-job.invariant.ending in
     record {
-      job =
-          All-head (IsJobOf c.loop-job.manager) c.in-Some.job (drop (length c.loop-job.yielded + 1) c.args.jobs)
-          (subst (λ (xs : List JobOf). All (IsJobOf c.loop-job.manager) xs) (drop_step c.args.jobs (length c.loop-job.yielded) c.in-Some.job within at) c.loop-job.invariant.jobs);
-      seat =
-          subst (λ (job : JobOf). job.who.seat ≡ 1) (sym at) (All-get_or (λ (job : JobOf). job.who.seat ≡ 1) c.args.jobs (length c.loop-job.yielded) c.in-Some.job within c.requires.seats);
-      count = subst (λ (s : Setting). IsCount s.catalog c.loop-job.manager.entries c.loop-job.read) (sym c.loop-job.invariant.setting) c.loop-job.invariant.count;
+      job = All-head (IsJobOf c.loop-job.manager) c.in-Some.job (into_iter_items c.next.new.self) so_far.are;
+      seat = All-head (λ (job : JobOf). job.who.seat ≡ 1) c.in-Some.job (into_iter_items c.next.new.self) so_far.seats;
+      count = subst (λ (s : Setting). IsCount s.catalog c.loop-job.manager.entries c.loop-job.read) (sym so_far.setting) so_far.count;
     }
 
 pub loop-job-preserved : goal.loop-job-preserved
 loop-job-preserved g c =
-    let given = c.into_iter-job-iterator.ensures.into_iter_gives in
-    let yields = YieldsList-from_vec {s = c.into_iter-job-iterator.result} c.into_vec-job-items.result.items given.0 (given.1 ∙ c.into_vec-job-items.result.ok.0) in
-    let turn = YieldsList-turn yields c.loop-job.yielded c.loop-job.job-iterator c.loop-job.yielded_by c.next.result c.next.new.self c.in-Some.job c.in-Some.is c.next.ensures.steps in
-    let within : length c.loop-job.yielded < length c.args.jobs = subst (λ (xs : List JobOf). length c.loop-job.yielded < length xs) c.into_vec-job-items.ensures turn.0 in
-    let at : c.in-Some.job ≡ get_or c.args.jobs (length c.loop-job.yielded) c.in-Some.job = subst (λ (xs : List JobOf). c.in-Some.job ≡ get_or xs (length c.loop-job.yielded) c.in-Some.job) c.into_vec-job-items.ensures turn.1 in
-    let front = drop_step c.args.jobs (length c.loop-job.yielded) c.in-Some.job within at in
-    let out =
-    rest_out c.loop-job.manager c.end_load-run.new.manager c.in-Some.job (drop (length c.loop-job.yielded + 1) c.args.jobs) c.end_load-run.result c.end_load-run.ensures.setting c.end_load-run.ensures.entry c.steps_are_legal.ensures
-    (subst (λ (xs : List JobOf). All (IsJobOf c.loop-job.manager) xs) front c.loop-job.invariant.jobs)
-    (subst (λ (xs : List JobOf). apart (map (λ job. job.load) xs) ≡ true) front c.loop-job.invariant.different)
-    (subst (λ (xs : List JobOf). AreOut c.loop-job.manager.entries xs) front c.loop-job.invariant.complete) in
-    let more : length (c.loop-job.yielded ++ c.in-Some.job ∷ []) ≡ length c.loop-job.yielded + 1 = length_push c.loop-job.yielded c.in-Some.job in
-    let sums = sum_by_push job_cost c.loop-job.yielded c.in-Some.job in
+    let left = c.next.ensures.items ∙ ap (λ (o : Option JobOf). option_to_list o ++ into_iter_items c.next.new.self) c.in-Some.is in
+    let so_far = subst (λ (xs : List JobOf). IsEnding c.args.manager.now c.loop-job.manager c.args.jobs xs c.loop-job.run c.args.steps.now c.loop-job.steps c.loop-job.read) left c.loop-job.invariant.ending in
+    let fewer : into_iter_len c.next.new.self + 1 ≡ into_iter_len c.loop-job.rest = c.in-Some.ensures.len in
+    let count : length (into_iter_items c.loop-job.rest) ≡ suc (length (into_iter_items c.next.new.self)) = ap (λ (xs : List JobOf). length xs) left in
     record {
-      setting = c.end_load-run.ensures.setting ∙ c.loop-job.invariant.setting;
-      jobs = rw more out.0;
-      different = rw more out.1;
-      complete = rw more out.2;
-      ended = ended_more c.args.manager.now.entries c.loop-job.manager.entries c.end_load-run.new.manager.entries c.loop-job.yielded c.in-Some.job c.end_load-run.result c.loop-job.invariant.ended c.end_load-run.ensures.entry;
-      delivered = λ delivered.
-          c.end_load-run.ensures.entry
-          ∙ ap (λ b. c.loop-job.manager.entries ++ end_of c.in-Some.job b ∷ []) delivered
-          ∙ ap (λ (es : List Entry). es ++ done_of c.in-Some.job ∷ []) (c.loop-job.invariant.delivered (c.end_load-run.ensures.failed delivered))
-          ∙ append_assoc c.args.manager.now.entries (map done_of c.loop-job.yielded) (done_of c.in-Some.job ∷ [])
-          ∙ ap (λ (es : List Entry). c.args.manager.now.entries ++ es) (sym (map_push done_of c.loop-job.yielded c.in-Some.job));
-      count = subst (λ (s : Setting). IsCount s.catalog c.end_load-run.new.manager.entries c.end_load-run.new.read) c.loop-job.invariant.setting c.end_load-run.ensures.count;
-      cost = λ delivered. let here = c.end_load-run.ensures.cost delivered in let so_far = c.loop-job.invariant.cost (c.end_load-run.ensures.failed delivered) in omega (arith, here, so_far, sums);
-      at_least = omega (arith, c.end_load-run.ensures.at_least, c.loop-job.invariant.at_least);
-      at_most = omega (arith, c.end_load-run.ensures.at_most, c.loop-job.invariant.at_most, sums);
+      long = omega (arith, fewer, count, c.loop-job.invariant.long);
+      ending =
+          one_ended c.jobs_stay.ensures c.args.manager.now c.loop-job.manager c.end_load-run.new.manager c.args.jobs (into_iter_items c.next.new.self) c.in-Some.job c.loop-job.run c.end_load-run.result c.args.steps.now c.loop-job.steps c.end_load-run.new.steps c.loop-job.read c.end_load-run.new.read so_far
+          c.end_load-run.ensures.setting c.end_load-run.ensures.entry c.steps_are_legal.ensures c.end_load-run.ensures.count c.end_load-run.ensures.failed c.end_load-run.ensures.cost c.end_load-run.ensures.at_least c.end_load-run.ensures.at_most;
+    }
+
+pub destroy_empty-requires : goal.destroy_empty-requires
+destroy_empty-requires g c =
+    let none = none_left (into_iter_len c.loop-job.rest) (λ some. both_ways false refl (c.in_default.ensures.variant.1 some)) in
+    omega (arith, none, c.in_default.ensures.len)
+
+pub returns : goal.returns
+returns g c =
+    let none = none_left (into_iter_len c.loop-job.rest) (λ some. both_ways false refl (c.in_default.ensures.variant.1 some)) in
+    let is =
+    all_ended c.args.manager.now c.loop-job.manager c.args.jobs (into_iter_items c.loop-job.rest) c.loop-job.run c.args.steps.now c.loop-job.steps c.loop-job.read (into_iter_len c.loop-job.rest) c.loop-job.invariant.long none c.loop-job.invariant.ending in
+    let whole = whole_done c.args.manager.now c.loop-job.manager c.args.jobs c.loop-job.run c.args.steps.now c.loop-job.steps c.loop-job.read is in
+    let costs : sum_by job_cost is.done ≡ sum_by job_cost c.args.jobs = ap (λ (js : List JobOf). sum_by job_cost js) whole in
+    record {
+      setting = is.setting;
+      ended = subst (λ (js : List JobOf). EndsJobs c.args.manager.now.entries c.loop-job.manager.entries js) whole is.ended;
+      closed = all_closed c.loop-job.manager.entries is.complete;
+      delivered = λ all. is.delivered all ∙ ap (λ (js : List JobOf). c.args.manager.now.entries ++ map done_of js) whole;
+      count = is.count;
+      cost = λ all. let read = is.cost all in omega (arith, read, costs);
+      at_least = is.at_least;
+      at_most = omega (arith, is.at_most, costs);
     }

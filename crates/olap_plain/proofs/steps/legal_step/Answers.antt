@@ -17,3 +17,6 @@ returns-in-Done c = step_of c.args.setting.now (entries c.args.history.now) c.ar
 
 pub returns-in-Drop : goal.returns-in-Drop
 returns-in-Drop c = step_of c.args.setting.now (entries c.args.history.now) c.args.entry.now _ c.is_legal_end-in-Drop.result c.in-Drop.is c.is_legal_end-in-Drop.ensures
+
+pub returns-in-Evict : goal.returns-in-Evict
+returns-in-Evict c = step_of c.args.setting.now (entries c.args.history.now) c.args.entry.now _ c.is_legal_eviction.result c.in-Evict.is c.is_legal_eviction.ensures

@@ -1,8 +1,8 @@
 -- A call that may be made, after others that may.
 use Rattle.std.proofs.Common.{All, List, [], ◌∷◌, subst, sym}
 use Rattle.std.proofs.lemmas.List.Elements.{All-append, All-cons, All-nil}
-use Rattle.cache_manager.specs.Runs.{MayCall}
-use Rattle.cache_manager.specs.declared.calls.Call.{Call}
+use Rattle.manager_calls.specs.Runs.{MayCall}
+use Rattle.manager_calls.specs.declared.calls.Call.{Call}
 use Rattle.play_cases.proofs.plays.calls_of.Goals as goal
 
 pub loop-line-preserved : goal.loop-line-preserved

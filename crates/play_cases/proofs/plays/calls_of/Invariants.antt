@@ -1,6 +1,6 @@
 -- Each call so far may be made.
 use Rattle.std.proofs.Common.{All}
-use Rattle.cache_manager.specs.Runs.{MayCall}
+use Rattle.manager_calls.specs.Runs.{MayCall}
 use Rattle.play_cases.proofs.plays.calls_of.Given as goal
 
 -- each call so far may be made

@@ -59,6 +59,6 @@ returns c =
     all_found (cache_of c.self.inside.history) c.self.inside.shelf.loads kept c.args.cells.now c.in_ok-found.found.hits.items c.in_ok-found.found.rollups.items c.in_ok-found.ensures.cells c.in_ok-found.ensures.hits c.in_ok-found.ensures.rollups c.in_ok-wanted.wanted.items wanted
     (sym c.in_ok-wanted.wanted.ok.0 ∙ empty) in
     subst (λ (k : CacheOf). AreServed k c.args.cells.now c.in_ok-all_answered.field-0 c.in_ok-all_sources.field-0) c.self.view_is
-    (all_served (cache_of c.self.inside.history) c.self.inside.shelf.loads kept c.args.cells.now c.in_ok-found.found.hits.items c.in_ok-found.found.rollups.items c.in_ok-found.ensures.cells c.in_ok-found.ensures.hits c.in_ok-found.ensures.rollups c.in_ok-all_answered.field-0 c.in_ok-all_sources.field-0 some
+    (all_served (cache_of c.self.inside.history) c.self.inside.shelf.loads kept c.args.cells.now c.in_ok-found.found.hits.items c.in_ok-found.found.rollups.items c.in_ok-found.ensures.cells c.in_ok-found.ensures.hits c.in_ok-found.ensures.rollups c.in_ok-all_answered.field-0 c.in_ok-all_sources.field-0 c.in_ok-found.ensures.firsts some
     (rw (c.deref-6.ensures.value, c.deref-7.ensures.value) at c.in_ok-all_sources.ensures) (rw (c.deref-3.ensures.value, c.deref-4.ensures.value) at c.in_ok-all_answered.ensures.values)
     (rw (c.deref-3.ensures.value, c.deref-4.ensures.value) at c.in_ok-all_answered.ensures.versions))

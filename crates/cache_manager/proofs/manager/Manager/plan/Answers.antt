@@ -53,6 +53,8 @@ returns g c =
       allowed = rw header own;
       start = rw (header, c.in_ok-copy.ensures, c.version-version.ensures ∙ c.in_ok-snapshot.ensures.version, c.in_ok-copy_cell.ensures) refl;
       flight = rw (header, c.in_ok-other.ensures, c.version-version.ensures ∙ c.in_ok-snapshot.ensures.version) refl;
+      formed = rw c.in_ok-other.ensures (header_formed (Widened ((answers-value g.dyn-1).it c.args.widener.now)) c.args.self.now.setting.catalog c.args.group.now.first.now (lent c.args.group.now.cells.items) c.in_ok-header.header own
+          (known_of c.args.self.now.setting.catalog (lent c.args.group.now.cells.items) c.args.group.now.first.now c.requires.known c.requires.among));
       load = ap (λ (j : JobOf). j.load) c.in_ok-new.ensures;
       who_is = ap (λ (j : JobOf). j.who) c.in_ok-new.ensures;
       catalog = ap (λ (j : JobOf). j.catalog) c.in_ok-new.ensures ∙ c.in_ok-catalog.ensures ∙ c.catalog-2.ensures;

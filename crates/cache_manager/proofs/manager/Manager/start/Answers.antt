@@ -1,5 +1,5 @@
 -- The Starts that were prepared are legal, and their jobs and flights are those of the history.
-use Rattle.std.proofs.Common.{◌≡◌, ◌∙◌, ◌+◌, ◌++◌, List, [], ap, sym, subst, arith, length, map, true, not, All}
+use Rattle.std.proofs.Common.{◌≡◌, ◌∙◌, ◌+◌, ◌++◌, List, [], ap, sym, subst, arith, length, map, true, not, is_some, All}
 use Rattle.std.specs.List.{list_all}
 use Rattle.std.proofs.lemmas.Simd.{map-map}
 use Rattle.std.specs.Vec.{vec_len}
@@ -8,20 +8,19 @@ use Rattle.olap_meaning.specs.declared.tables.Setting.{Setting}
 use Rattle.segment_load.specs.Loads.{JobOf}
 use Rattle.segment_header.specs.contracts.widener.WidenerAllowsValues.TheImpl.{answers-value}
 use Rattle.segment_header.specs.Widening.{Widened}
-use Rattle.olap_meaning.specs.History.{Entry, Start}
+use Rattle.olap_meaning.specs.History.{Entry, Start, awaited_load}
 use Rattle.olap_meaning.specs.Legal.{Legal, has_source, is_cell}
 use Rattle.history_core.specs.Cache.{CacheOf}
 use Rattle.history_core.specs.Groups.{AreHeadersFor, firsts, loads_over}
 use Rattle.cell_groups.specs.Lent.{lent}
 use Rattle.cache_manager.specs.Jobs.{IsJobOf}
-use Rattle.history_core.specs.Seats.{NoneFlies}
 use Rattle.cache_manager.specs.declared.starts.Planned.{Planned}
 use Rattle.segment_index.specs.Index.{has_places}
 use Rattle.cache_manager.specs.Kept.{headers_of}
 use Rattle.cache_manager.specs.Plans.{AreLegalSteps, ArePrepared}
 use Rattle.cache_manager.proofs.Ends.{cache_of}
 use Rattle.cache_manager.proofs.Looking.{all_legal, jobs_started, manager_started, numbers_new}
-use Rattle.cache_manager.proofs.Planning.{planned_numbers, planned_steps, prepared_headers, step_of}
+use Rattle.cache_manager.proofs.Planning.{planned_numbers, planned_steps, prepared_formed, prepared_headers, step_of}
 use Rattle.cache_manager.proofs.manager.Manager.start.Goals as goal
 
 pub start_all-requires-clause-legal : goal.start_all-requires-clause-legal
@@ -29,7 +28,11 @@ start_all-requires-clause-legal g c =
     let legal : Legal c.args.self.now.setting c.args.self.now.entries = subst (λ (k : CacheOf). Legal k.setting k.entries) c.self.view_is c.steps_are_legal.ensures in
     rw (c.reserve-2.ensures.setting, c.reserve-2.ensures.entries)
     (subst (λ (k : CacheOf). AreLegalSteps k.setting k.entries (map step_of c.in_ok-plans.plans.items)) (sym c.self.view_is)
-    (all_legal (Widened ((answers-value g.dyn-1).it c.args.widener.now)) c.args.self.now c.args.who (lent c.args.wanted.now) c.in_ok-plans.plans.items legal c.requires.known c.requires.unserved c.requires.idle c.in_ok-plans.ensures))
+    (all_legal (Widened ((answers-value g.dyn-1).it c.args.widener.now)) c.args.self.now c.args.who (lent c.args.wanted.now) c.in_ok-plans.plans.items legal c.requires.known c.requires.unserved c.requires.unawaited c.in_ok-plans.ensures))
+
+pub start_all-requires-clause-formed : goal.start_all-requires-clause-formed
+start_all-requires-clause-formed g c =
+    prepared_formed (Widened ((answers-value g.dyn-1).it c.args.widener.now)) c.args.self.now c.args.who (lent c.args.wanted.now) (length c.args.self.now.entries + 1) (firsts [] (lent c.args.wanted.now)) c.in_ok-plans.plans.items c.in_ok-plans.ensures
 
 pub start_all-requires-clause-flights_new : goal.start_all-requires-clause-flights_new
 start_all-requires-clause-flights_new g c =
@@ -37,7 +40,7 @@ start_all-requires-clause-flights_new g c =
     (numbers_new (Widened ((answers-value g.dyn-1).it c.args.widener.now)) (cache_of c.self.inside.history) c.args.who (lent c.args.wanted.now) c.in_ok-plans.plans.items c.steps_are_legal.ensures
     (subst (λ (k : CacheOf). list_all (is_cell k.setting.catalog) (lent c.args.wanted.now) ≡ true) (sym c.self.view_is) c.requires.known)
     (subst (λ (k : CacheOf). list_all (λ cell. not (has_source k.setting.catalog k.entries cell)) (lent c.args.wanted.now) ≡ true) (sym c.self.view_is) c.requires.unserved)
-    (subst (λ (k : CacheOf). NoneFlies k.entries) (sym c.self.view_is) c.requires.idle)
+    (subst (λ (k : CacheOf). list_all (λ cell. not (is_some (awaited_load k.entries cell))) (lent c.args.wanted.now) ≡ true) (sym c.self.view_is) c.requires.unawaited)
     (subst (λ (k : CacheOf). ArePrepared (Widened ((answers-value g.dyn-1).it c.args.widener.now)) k c.args.who (lent c.args.wanted.now) (length k.entries + 1) (firsts [] (lent c.args.wanted.now)) c.in_ok-plans.plans.items) (sym c.self.view_is) c.in_ok-plans.ensures)
     c.self.inside.flights.flights c.self.invariant.flights_are)
 
@@ -48,12 +51,12 @@ invariant_of-self-2 g c =
     (manager_started (Widened ((answers-value g.dyn-1).it c.args.widener.now)) (cache_of c.self.inside.history) c.args.who (lent c.args.wanted.now) c.in_ok-plans.plans.items c.steps_are_legal.ensures
     (subst (λ (k : CacheOf). list_all (is_cell k.setting.catalog) (lent c.args.wanted.now) ≡ true) (sym c.self.view_is) c.requires.known)
     (subst (λ (k : CacheOf). list_all (λ cell. not (has_source k.setting.catalog k.entries cell)) (lent c.args.wanted.now) ≡ true) (sym c.self.view_is) c.requires.unserved)
-    (subst (λ (k : CacheOf). NoneFlies k.entries) (sym c.self.view_is) c.requires.idle)
+    (subst (λ (k : CacheOf). list_all (λ cell. not (is_some (awaited_load k.entries cell))) (lent c.args.wanted.now) ≡ true) (sym c.self.view_is) c.requires.unawaited)
     (subst (λ (k : CacheOf). ArePrepared (Widened ((answers-value g.dyn-1).it c.args.widener.now)) k c.args.who (lent c.args.wanted.now) (length k.entries + 1) (firsts [] (lent c.args.wanted.now)) c.in_ok-plans.plans.items) (sym c.self.view_is) c.in_ok-plans.ensures)
     c.self.inside.facts c.self.inside.shelf.loads c.self.inside.history.spare _ (has_places c.self.inside.shelf) (has_places c.reserve_places.new.shelf) c.self.inside.flights.flights _ c.self.invariant
-    (omega (arith, many, c.start_all.ensures.spare, c.in_ok-reserve-2.ensures.ok, c.in_ok-sum.ensures, c.in_ok-ends.ensures, c.len-2.ensures, c.len-3.ensures, c.len-5.ensures))
+    (omega (arith, many, c.start_all.ensures.spare, c.in_ok-reserve-2.ensures.ok, rw c.reserve.ensures.flights at c.in_ok-room_to_start.ensures, c.len-2.ensures))
     (subst (λ (plans : List Planned). has_places c.reserve_places.new.shelf (headers_of c.self.inside.flights.flights ++ map (λ p. p.flight.header) plans)) c.as_slice.ensures.value
-    (c.in_ok-reserve_places.ensures.ok (headers_of c.self.inside.flights.flights) c.self.invariant.places_fit)))
+    (c.in_default.ensures.ok (headers_of c.self.inside.flights.flights) c.self.invariant.places_fit)))
 
 pub returns-clause-headers : goal.returns-clause-headers
 returns-clause-headers g c =
@@ -89,4 +92,4 @@ returns-clause-jobs g c =
     subst (λ (js : List JobOf). All (IsJobOf (record { setting = c.start_all.new.history.setting; entries = c.start_all.new.history.entries })) js) (sym jobs)
     (subst (λ (s : Setting). All (IsJobOf (record { setting = s; entries = c.start_all.new.history.entries })) (map (λ p. p.job) c.in_ok-plans.plans.items)) (sym settings)
     (subst (λ (es : List Entry). All (IsJobOf (record { setting = c.args.self.now.setting; entries = es })) (map (λ p. p.job) c.in_ok-plans.plans.items)) (sym entries)
-    (jobs_started (Widened ((answers-value g.dyn-1).it c.args.widener.now)) c.args.self.now c.args.who (lent c.args.wanted.now) c.in_ok-plans.plans.items legal c.requires.known c.requires.unserved c.requires.idle c.in_ok-plans.ensures)))
+    (jobs_started (Widened ((answers-value g.dyn-1).it c.args.widener.now)) c.args.self.now c.args.who (lent c.args.wanted.now) c.in_ok-plans.plans.items legal c.requires.known c.requires.unserved c.requires.unawaited c.in_ok-plans.ensures)))

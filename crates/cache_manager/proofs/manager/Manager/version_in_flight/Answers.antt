@@ -2,7 +2,7 @@
 use Rattle.std.proofs.Common.{◌≡◌, ◌∙◌, ap, sym, refl, true, option_map}
 use Rattle.olap_meaning.specs.History.{flying, load_version}
 use Rattle.history_core.specs.Cache.{CacheOf}
-use Rattle.cache_flush.specs.Flights.{FlightOf}
+use Rattle.load_sharing.specs.Flights.{FlightOf}
 use Rattle.cache_manager.proofs.Managing.{flight_found, flight_version}
 use Rattle.cache_manager.proofs.manager.Manager.version_in_flight.Goals as goal
 

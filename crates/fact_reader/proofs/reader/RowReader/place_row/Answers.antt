@@ -7,7 +7,7 @@ use Rattle.olap_meaning.specs.Worth.{row_value}
 use Rattle.segment_body.specs.BodyOf.{BodyOf, different_values}
 use Rattle.segment_body.proofs.ValueFacts.{are_allowed_of}
 use Rattle.fact_reader.specs.Blocks.{IsPlacedRow, valued_rows}
-use Rattle.fact_reader.specs.BodyRows.{row_values}
+use Rattle.olap_meaning.specs.Budget.{row_values}
 use Rattle.fact_reader.specs.Reading.{row_at}
 use Rattle.fact_reader.proofs.BlockFacts.{placed_kept, valued_more}
 use Rattle.fact_reader.proofs.reader.RowReader.place_row.Goals as goal

@@ -6,7 +6,8 @@ use Rattle.std.proofs.lemmas.Option.{slice_get-get_or}
 use Rattle.olap_meaning.specs.declared.tables.Row.{Row}
 use Rattle.segment_body.specs.BodyOf.{BodyOf, different_values}
 use Rattle.fact_reader.specs.Blocks.{kept_rows, own_row, valued_row, valued_rows, with_block}
-use Rattle.fact_reader.specs.BodyRows.{body_row, row_values}
+use Rattle.fact_reader.specs.BodyRows.{body_row}
+use Rattle.olap_meaning.specs.Budget.{row_values}
 use Rattle.fact_reader.specs.Reading.{row_at}
 use Rattle.fact_reader.proofs.BlockFacts.{block_more, one_more, read_next}
 use Rattle.fact_reader.proofs.reader.RowReader.place_rows.Goals as goal

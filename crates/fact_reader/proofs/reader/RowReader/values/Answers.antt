@@ -3,7 +3,7 @@ use Rattle.std.proofs.Common.{◌≡◌, ◌∙◌, ◌<◌, ◌≤◌, ◌++◌
 use Rattle.std.specs.Prelude.{option_map}
 use Rattle.olap_meaning.specs.Worth.{row_value}
 use Rattle.fact_reader.specs.Reading.{ReaderOf, row_at}
-use Rattle.fact_reader.specs.BodyRows.{row_values}
+use Rattle.olap_meaning.specs.Budget.{row_values}
 use Rattle.segment_body.proofs.ValueFacts.{values_end, values_next, values_whole}
 use Rattle.fact_reader.proofs.reader.RowReader.values.Goals as goal
 

@@ -3,8 +3,7 @@ use Rattle.std.proofs.Common.{◌≡◌, ◌++◌, drop}
 use Rattle.std.specs.Prelude.{option_map}
 use Rattle.olap_meaning.specs.Worth.{row_value}
 use Rattle.fact_reader.specs.Reading.{row_at}
-use Rattle.segment_body.specs.Narrowed.{allowed_values}
-use Rattle.fact_reader.specs.BodyRows.{row_values}
+use Rattle.olap_meaning.specs.Budget.{allowed_values, row_values}
 use Rattle.fact_reader.proofs.reader.RowReader.values.Given as goal
 
 -- the values so far, and those on the columns that are left

@@ -28,7 +28,7 @@ pub returns-in_err-answer-clause-refused : goal.returns-in_err-answer-clause-ref
 returns-in_err-answer-clause-refused g c =
     on_err c.from_residual.result
     (subst (λ (cache : CacheOf). HasNotAsked (Widened ((answers-value g.dyn-1).it c.args.widener.now)) (desk_of cache) (desk_of c.ask.new.manager) c.args.cells.now) c.self.view_is
-    (has_not_asked (Widened ((answers-value g.dyn-1).it c.args.widener.now)) c.self.inside.manager c.in-Some.who c.args.cells.now c.ask.new.manager c.self.invariant.idle c.ask.ensures.idle (ap (λ (who : Who). who.seat) c.in-Some.ensures.next)
+    (has_not_asked (Widened ((answers-value g.dyn-1).it c.args.widener.now)) c.self.inside.manager c.in-Some.who c.args.cells.now c.ask.new.manager c.ask.ensures.idle (ap (λ (who : Who). who.seat) c.in-Some.ensures.next)
     (ap (is_next_call c.self.inside.manager.entries) c.in-Some.ensures.next ∙ c.self.invariant.next) c.in_err-answer.ensures.refused))
 
 pub invariant_of-self-2 : goal.invariant_of-self-2
@@ -41,4 +41,4 @@ invariant_of-self-2 g c = record {
 pub returns-clause-asked : goal.returns-clause-asked
 returns-clause-asked g c =
     subst (λ (cache : CacheOf). HasAsked (Widened ((answers-value g.dyn-1).it c.args.widener.now)) (desk_of cache) (desk_of c.ask.new.manager) c.args.cells.now c.in_ok-answer.answer) c.self.view_is
-    (has_asked (Widened ((answers-value g.dyn-1).it c.args.widener.now)) c.self.inside.manager c.in-Some.who c.args.cells.now c.ask.new.manager c.in_ok-answer.answer c.self.invariant.idle c.ask.ensures.idle (ap (λ (who : Who). who.seat) c.in-Some.ensures.next) c.in_ok-answer.ensures.answered)
+    (has_asked (Widened ((answers-value g.dyn-1).it c.args.widener.now)) c.self.inside.manager c.in-Some.who c.args.cells.now c.ask.new.manager c.in_ok-answer.answer c.ask.ensures.idle (ap (λ (who : Who). who.seat) c.in-Some.ensures.next) c.in_ok-answer.ensures.answered)

@@ -1,7 +1,7 @@
 -- That `add` ensures what it says.
 use Rattle.std.proofs.Common.{◌≡◌, ◌∙◌, ◌+◌, ◌-◌, ◌++◌, ◌∷◌, [], ◌≤◌, ◌<◌, ap, sym, refl, Some, None, nat_eq, rules, arith}
 use Rattle.std.specs.Option.{option_copied_mut}
-use Rattle.std.specs.Vec.{vec_len, vec_capacity}
+use Rattle.std.specs.VecDeque.{deque_capacity, deque_len}
 use Rattle.std.specs.Map.{lookup}
 use Rattle.segment_index.proofs.GroupFacts.{loads-changed, places-changed, room-found, room-set, place-there, place-none}
 use Rattle.segment_index.proofs.groups.Groups.add.Goals as goal
@@ -21,7 +21,7 @@ returns-in_default-clause-places c =
 pub add-requires : goal.add-requires
 add-requires c =
     let had : lookup (nat_eq c.args.mask) c.self.inside.by_mask.entries ≡ Some c.in-Some.group.now = sym c.get_mut.ensures.value ∙ ap option_copied_mut c.in-Some.is in
-    let room : vec_len c.in-Some.group.now.loads + c.in-Some.group.now.places ≤ vec_capacity c.in-Some.group.now.loads = rw had at (room-found c.self.inside.by_mask.entries c.args.mask c.self.invariant) in
+    let room : deque_len c.in-Some.group.now.loads + c.in-Some.group.now.places ≤ deque_capacity c.in-Some.group.now.loads = rw had at (room-found c.self.inside.by_mask.entries c.args.mask c.self.invariant) in
     let some : 0 < c.in-Some.group.now.places = place-there c.self.inside.by_mask.entries c.args.mask _ had (rw (← c.self.view_is) at c.requires) in
     omega (arith, room, some)
 
@@ -34,7 +34,7 @@ overflow_sub-group c =
 pub invariant_of-self-2 : goal.invariant_of-self-2
 invariant_of-self-2 c =
     let had : lookup (nat_eq c.args.mask) c.self.inside.by_mask.entries ≡ Some c.in-Some.group.now = sym c.get_mut.ensures.value ∙ ap option_copied_mut c.in-Some.is in
-    let room : vec_len c.in-Some.group.now.loads + c.in-Some.group.now.places ≤ vec_capacity c.in-Some.group.now.loads = rw had at (room-found c.self.inside.by_mask.entries c.args.mask c.self.invariant) in
+    let room : deque_len c.in-Some.group.now.loads + c.in-Some.group.now.places ≤ deque_capacity c.in-Some.group.now.loads = rw had at (room-found c.self.inside.by_mask.entries c.args.mask c.self.invariant) in
     let some : 0 < c.in-Some.group.now.places = place-there c.self.inside.by_mask.entries c.args.mask _ had (rw (← c.self.view_is) at c.requires) in
     rw (c.get_mut.follows.holds (record { loads = c.add.new.items; places = c.in-Some.group.now.places - 1 })).0 (room-set c.self.inside.by_mask.entries c.args.mask _ c.self.invariant (grind (arith, room, some, c.add.ensures.capacity, c.add.ensures.len)))
 

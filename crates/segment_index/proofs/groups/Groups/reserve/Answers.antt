@@ -1,7 +1,7 @@
 -- That `reserve` ensures what it says.
 use Rattle.std.proofs.Common.{◌≡◌, ◌∙◌, ◌+◌, ◌≤◌, ap, sym, refl, Some, None, nat_eq, rules, arith}
 use Rattle.std.specs.Option.{option_copied_mut}
-use Rattle.std.specs.Vec.{vec_len, vec_capacity}
+use Rattle.std.specs.VecDeque.{deque_capacity, deque_len}
 use Rattle.std.specs.Map.{lookup}
 use Rattle.olap_meaning.proofs.Lists.{on_err}
 use Rattle.segment_index.proofs.GroupFacts.{loads-same, places-same, places-changed, room-found, room-set, room-insert}
@@ -10,13 +10,13 @@ use Rattle.segment_index.proofs.groups.Groups.reserve.Goals as goal
 pub overflow_add-group : goal.overflow_add-group
 overflow_add-group c =
     let had : lookup (nat_eq c.args.mask) c.self.inside.by_mask.entries ≡ Some c.in-Some.group.now = sym c.get_mut.ensures.value ∙ ap option_copied_mut c.in-Some.is in
-    let room : vec_len c.in-Some.group.now.loads + c.in-Some.group.now.places ≤ vec_capacity c.in-Some.group.now.loads = rw had at (room-found c.self.inside.by_mask.entries c.args.mask c.self.invariant) in
+    let room : deque_len c.in-Some.group.now.loads + c.in-Some.group.now.places ≤ deque_capacity c.in-Some.group.now.loads = rw had at (room-found c.self.inside.by_mask.entries c.args.mask c.self.invariant) in
     grind (arith, room)
 
 pub invariant_of-self : goal.invariant_of-self
 invariant_of-self c =
     let had : lookup (nat_eq c.args.mask) c.self.inside.by_mask.entries ≡ Some c.in-Some.group.now = sym c.get_mut.ensures.value ∙ ap option_copied_mut c.in-Some.is in
-    let room : vec_len c.in-Some.group.now.loads + c.in-Some.group.now.places ≤ vec_capacity c.in-Some.group.now.loads = rw had at (room-found c.self.inside.by_mask.entries c.args.mask c.self.invariant) in
+    let room : deque_len c.in-Some.group.now.loads + c.in-Some.group.now.places ≤ deque_capacity c.in-Some.group.now.loads = rw had at (room-found c.self.inside.by_mask.entries c.args.mask c.self.invariant) in
     rw (c.get_mut.follows.holds (record { loads = c.reserve.new.self; places = c.in-Some.group.now.places })).0 (room-set c.self.inside.by_mask.entries c.args.mask _ c.self.invariant (grind (arith, room, c.reserve.ensures.capacity, c.reserve.ensures.len)))
 
 pub returns-in_err-reserve-clause-loads : goal.returns-in_err-reserve-clause-loads

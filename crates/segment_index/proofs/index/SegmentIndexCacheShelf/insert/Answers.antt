@@ -1,7 +1,7 @@
 -- That `insert` uses the place that was made, and puts the load under its mask.
 use Rattle.std.proofs.Common.{◌-◌, arith}
 use Rattle.cache_flush.specs.Loads.{kept_of}
-use Rattle.segment_index.proofs.LoadFacts.{grouped_more}
+use Rattle.segment_index.proofs.MaskedFacts.{grouped_more}
 use Rattle.segment_index.proofs.PlaceFacts.{index_of, place_used, places_seen, seen_less, some_place, some_under}
 use Rattle.segment_index.proofs.index.SegmentIndexCacheShelf.insert.Goals as goal
 
@@ -16,7 +16,7 @@ pub invariant_of-self : goal.invariant_of-self
 invariant_of-self c =
     let (grouped, room) = c.self.invariant in
     let its = rw c.header.ensures.value at c.header_mask.ensures in (
-      rw c.insert.ensures.loads (grouped_more c.self.inside.groups c.add.new.self c.header_mask.result (kept_of c.args.kept) c.self.inside.loads.loads its c.add.ensures.loads grouped),
+      rw c.insert.ensures.loads (grouped_more c.self.inside.groups c.add.new.self c.header_mask.result (kept_of c.args.kept) c.self.inside.loads.loads its (rw (← c.self.view_is) at c.requires.another) c.add.ensures.loads grouped),
       omega (arith, room, c.insert.ensures.places),
     )
 

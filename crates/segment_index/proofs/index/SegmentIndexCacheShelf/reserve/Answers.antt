@@ -1,6 +1,6 @@
 -- That `reserve` makes one place more, and keeps the others.
 use Rattle.std.proofs.Common.{arith}
-use Rattle.segment_index.proofs.LoadFacts.{grouped_still}
+use Rattle.segment_index.proofs.MaskedFacts.{grouped_still}
 use Rattle.segment_index.proofs.PlaceFacts.{index_of, place_made, places_kept, places_stay, seen_more, seen_same}
 use Rattle.segment_index.proofs.index.SegmentIndexCacheShelf.reserve.Goals as goal
 

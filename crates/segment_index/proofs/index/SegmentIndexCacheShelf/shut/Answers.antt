@@ -1,6 +1,6 @@
 -- That `shut` keeps each load under its mask.
 use Rattle.std.proofs.Common.{arith}
-use Rattle.segment_index.proofs.LoadFacts.{grouped_shut}
+use Rattle.segment_index.proofs.MaskedFacts.{grouped_shut}
 use Rattle.segment_index.proofs.index.SegmentIndexCacheShelf.shut.Goals as goal
 
 pub invariant_of-self : goal.invariant_of-self

@@ -1,0 +1,3 @@
+pub mod Flights
+pub mod Masks
+pub mod Counted
