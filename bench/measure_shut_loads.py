@@ -52,12 +52,12 @@ look 2 1:2=0 => loading
 {FLUSHED} => entry 9
 deliver 0 => ended
 {LOOKED} => loading
-entries => 14
+entries => 18
 """)
 KEPT = "answer 10: Whole(15) of 1 Whole(3) of 1 Whole(15) of 1 Whole(3) of 1"
 RIGHT = {
     "ok a flush": "flushed",
-    f"a flush:\n{FLUSHED} => no memory, not entry 9\n{LOOKED} => {KEPT}, not loading\nentries => 10, not 14": "refused, and nothing changed",
+    f"a flush:\n{FLUSHED} => no memory, not entry 9\n{LOOKED} => {KEPT}, not loading\nentries => 10, not 18": "refused, and nothing changed",
 }
 counts = dict.fromkeys([*RIGHT.values(), "no memory before the flush, or after it"], 0)
 wrong = at = 0

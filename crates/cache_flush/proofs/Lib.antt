@@ -1,6 +1,6 @@
 pub mod ListFacts
 pub mod Differing
 pub mod NumberFacts
-pub mod Shelves
-pub mod Naming
-pub mod Putting
+pub mod Concerning
+pub mod Recording
+pub mod RisingFacts

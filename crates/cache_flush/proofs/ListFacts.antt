@@ -30,3 +30,8 @@ module _ {X : Type 0} where
   later_set P (x ∷ xs) (suc i) new later zero d above below = absurd (omega arith)
   later_set P (x ∷ xs) (suc i) new later (suc k) d above below =
       later_set P xs i new (λ j e le lt. later (suc j) e (omega arith) (omega arith)) k d (omega arith) (omega arith)
+
+module _ {X Y Z : Type 0} where
+  pub map_mapped : (g : Y → Z) (f : X → Y) (xs : List X) → map g (map f xs) ≡ map (λ x. g (f x)) xs
+  map_mapped g f [] = refl
+  map_mapped g f (x ∷ xs) = ap (λ (zs : List _). g (f x) ∷ zs) (map_mapped g f xs)

@@ -1,4 +1,3 @@
 pub mod Shuts
-pub mod Named
-pub mod Handles
+pub mod Records
 pub mod Loads

@@ -1,5 +1,5 @@
 -- Kept loads, as a list.
-use Rattle.std.specs.Prelude.{ℕ, ◌≡◌, ◌≤◌, ◌++◌, ◌∷◌, [], ◌&&◌, List, Bool, true, false, not, All, Contains, Option, Some, None, length, map}
+use Rattle.std.specs.Prelude.{ℕ, ◌≡◌, ◌≤◌, ◌++◌, ◌∷◌, [], ◌&&◌, List, Bool, true, false, not, All, Contains, Option, Some, None, drop, length, map}
 use Rattle.std.specs.List.{list_any}
 use Rattle.olap_meaning.specs.declared.cells.Cell.{Cell}
 use Rattle.olap_meaning.specs.declared.regions.Region.{Region}
@@ -15,21 +15,20 @@ pub record KeptOf : Type 0 where
   pub body : BodyOf
   pub shut : List Region
 
--- a kept load without the room that it has for more regions
-abbrev pub kept_of : Kept → KeptOf
-kept_of kept =
+-- a kept load, under the regions that were flushed: those after its place that concern its header shut off part of it
+abbrev pub kept_in : List Region → Kept → KeptOf
+kept_in regions kept =
     record {
       load = kept.load;
       version = kept.version;
       body = kept.body;
-      shut = kept.shut.regions;
+      shut = concerning kept.body.header (drop kept.place regions);
     }
 
--- kept loads, how many more there is room for, and for how many more regions each of them has room
-pub record ShelfOf : Type 0 where
-  pub loads : List KeptOf
-  pub places : ℕ
-  pub rooms : List ℕ
+-- a kept load without what shuts off part of it
+abbrev pub kept_of : Kept → KeptOf
+kept_of kept =
+    record { load = kept.load; version = kept.version; body = kept.body; shut = [] }
 
 -- the numbers of kept loads
 abbrev pub numbers_of : List KeptOf → List ℕ

@@ -1,9 +1,9 @@
-//! Whether a region concerns a header, and whether it touches it. Nothing here takes memory.
+//! Whether a region touches a header. Nothing here takes memory.
 ghost use Rattle.std.specs.Prelude.{◌≡◌, ◌==◌, ◌||◌, not};
 ghost use Rattle.std.specs.List.{list_all, list_any};
 ghost use Rattle.olap_meaning.specs.Covering as covering;
 
-use olap_meaning::{Allowed, ColumnId, Header, List, MeasureId, Region, RegionBox, ValueId};
+use olap_meaning::{Allowed, ColumnId, Header, List, Region, RegionBox, ValueId};
 use region_algebra::is_of_measure;
 
 /// Whether a region touches a header: the cube is the header's, and one of its boxes is of the header's measure and has,
@@ -12,23 +12,6 @@ pub fn touches(region: &Region, header: &Header) -> bool
     ensures { result ≡ covering.region_touches region.now header.now }
 {
     region.cube == header.cube && some_box_touches(region.boxes.as_slice(), header)
-}
-
-/// Whether a region concerns a header: the cube is the header's, and one of its boxes is of the header's measure. It may
-/// then cover a cell above those of the header, also where it does not touch the header. It takes no memory.
-pub fn concerns(region: &Region, header: &Header) -> bool
-    ensures { result ≡ covering.region_concerns region.now header.now }
-{
-    region.cube == header.cube && some_box_is_of(region.boxes.as_slice(), header.measure)
-}
-
-// One of some boxes is of a measure.
-fn some_box_is_of(boxes: &[RegionBox], measure: MeasureId) -> bool
-    ensures { result ≡ list_any (λ box. covering.of_measure box.measures measure) boxes.now }
-{
-    boxes
-        .iter()
-        .any(|one| is_of_measure(&one.measures, measure))
 }
 
 // One of some boxes touches a header.

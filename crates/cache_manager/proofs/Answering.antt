@@ -14,7 +14,7 @@ use Rattle.olap_meaning.proofs.Fresh.{answers_are_fresh}
 use Rattle.olap_meaning.proofs.Growing.{floor_grows, legal_grows}
 use Rattle.olap_meaning.proofs.Positions.{get_last}
 use Rattle.history_core.specs.declared.answers.Answered.{Answered}
-use Rattle.cache_manager.proofs.Pushes.{load_on}
+use Rattle.olap_meaning.proofs.Pushes.{load_on}
 
 -- a cell that is taken from a source
 abbrev pub IsSourced : Setting → List Entry → CellSource → Type 0

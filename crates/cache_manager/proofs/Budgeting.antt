@@ -1,11 +1,9 @@
 -- What the kept loads hold is what the history says, and the oldest of them may be evicted.
-use Rattle.std.proofs.Common.{◌≡◌, refl, sym, ◌∙◌, ap, subst, ℕ, zero, suc, ◌+◌, ◌<◌, ◌≤◌, List, [], ◌∷◌, ◌++◌, append_assoc, length, map, filter, filter_map, Bool, true, false, not, ◌&&◌, ◌||◌, ◌==◌, cond, Option, Some, None, option_map, sum_by, All, Contains, inl, inr, arith, ℤ}
+use Rattle.std.proofs.Common.{◌≡◌, refl, sym, ◌∙◌, ap, subst, ℕ, zero, suc, ◌≤◌, List, [], ◌∷◌, ◌++◌, length, map, Bool, true, false, not, ◌||◌, ◌==◌, cond, Option, Some, sum_by, All, inl, inr, arith, ℤ}
 use Rattle.std.specs.Option.{option_map_or}
-use Rattle.std.specs.List.{list_any}
-use Rattle.std.specs.List.Sorted.{IsPermutation}
 use Rattle.std.proofs.lemmas.Bool.{and_from, and_parts, both_ways, eq-eqb, eqb-true, false_from_ne_true, not-true, not_from_false, or_cases, or_left, or_right}
 use Rattle.std.proofs.lemmas.List.{append-nil}
-use Rattle.std.proofs.lemmas.List.Elements.{All-contains, All-head, All-tail, All-weaker}
+use Rattle.std.proofs.lemmas.List.Elements.{All-head, All-tail}
 use Rattle.std.proofs.lemmas.List.Folds.{list_any-append}
 use Rattle.std.proofs.lemmas.List.Sorted.{IsPermutation-map}
 use Rattle.std.proofs.lemmas.List.Sums.{sum_by-append, sum_by-cons}
@@ -16,8 +14,7 @@ use Rattle.olap_meaning.specs.Budget as budget
 use Rattle.olap_meaning.specs.Budget.{kept_groups, oldest_kept, row_values}
 use Rattle.olap_meaning.specs.Catalog.{first_appearances}
 use Rattle.olap_meaning.specs.Covering.{among}
-use Rattle.olap_meaning.specs.Equivalents.{IsOldestKept}
-use Rattle.olap_meaning.specs.History.{Entry, Load, kept, kept_loads, kept_up_to, load_at, rows_of}
+use Rattle.olap_meaning.specs.History.{Entry, Load, kept, kept_loads, kept_up_to, rows_of}
 use Rattle.olap_meaning.specs.Legal.{Legal}
 use Rattle.olap_meaning.proofs.Different.{appearances_counted}
 use Rattle.olap_meaning.proofs.Evicting.{kept_within, oldest_is_least}

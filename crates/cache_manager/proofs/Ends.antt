@@ -1,17 +1,19 @@
 -- What the ends of loads ask for.
-use Rattle.std.proofs.Common.{◌≡◌, refl, sym, ◌∙◌, ap, subst, ℕ, ◌<◌, List, [], ◌∷◌, ◌++◌, map, true, false, arith, Some, option_map, All, ◌==◌, Option, None}
+use Rattle.std.proofs.Common.{◌≡◌, refl, sym, ◌∙◌, ap, subst, ℕ, ◌<◌, List, [], ◌∷◌, ◌++◌, ◌≤◌, map, length, drop, take, true, false, arith, Some, option_map, All, ◌==◌, Option, None}
 use Rattle.std.specs.Prelude.{IsSome, IsTrue, option_copied}
 use Rattle.std.specs.Borrow.{Bor}
 use Rattle.std.specs.List.{AllByRecursion}
 use Rattle.std.proofs.lemmas.Bool.{false_from_ne_true, both_ways, eqb-true}
-use Rattle.std.proofs.lemmas.List.Elements.{All-weaker, recursion_from_All}
+use Rattle.std.proofs.lemmas.List.{length-append, take-append-drop}
+use Rattle.std.proofs.lemmas.List.Elements.{All-weaker, filter_map-append, recursion_from_All}
 use Rattle.olap_meaning.specs.declared.cells.Header.{Header}
 use Rattle.olap_meaning.specs.declared.cells.Who.{Who}
 use Rattle.olap_meaning.specs.declared.regions.Region.{Region}
 use Rattle.olap_meaning.specs.declared.tables.Row.{Row}
-use Rattle.olap_meaning.specs.Covering.{among}
-use Rattle.olap_meaning.specs.History.{Done, Entry, Load, flying, load_at, load_version, rows_of, shutting}
+use Rattle.olap_meaning.specs.Covering.{among, concerning}
+use Rattle.olap_meaning.specs.History.{Done, Entry, Load, flushed, flying, load_at, load_version, regions_after, rows_of, shutting}
 use Rattle.olap_meaning.specs.Legal.{IsLegalEnd, Legal}
+use Rattle.olap_meaning.proofs.Shutting.{shutting_of}
 use Rattle.olap_meaning.proofs.Versions.{rows_stay}
 use Rattle.fact_versions.specs.Facts.{FactsOf}
 use Rattle.history_core.specs.History.{HistoryOf}
@@ -20,11 +22,12 @@ use Rattle.agg_tables.specs.Tables.{TableOf}
 use Rattle.cache_flush.specs.Loads.{KeptOf}
 use Rattle.load_sharing.specs.Flights.{FlightOf, flight_at}
 use Rattle.cache_manager.specs.Jobs.{IsOwn, IsOwnBody}
-use Rattle.cache_manager.specs.Kept.{IsFlight, IsKept, IsManager, headers_of}
+use Rattle.cache_manager.specs.Kept.{IsFlight, IsKept, IsManager, headers_of, regions_of}
 use Rattle.segment_body.specs.BodyOf.{BodyOf}
 use Rattle.segment_header.specs.Headers.{is_header}
 use Rattle.fact_reader.specs.BodyRows.{HoldsRows}
-use Rattle.cache_manager.proofs.Pushes.{kept_landed, kept_new, load_on, recorded, shutting_on}
+use Rattle.olap_meaning.proofs.Pushes.{kept_landed, kept_new, load_on, recorded, shutting_on}
+use Rattle.cache_manager.proofs.Awaiting.{since_start}
 use Rattle.cache_manager.proofs.Managing.{flight_found, length-others, numbers_kept, others, place_of_one}
 use Rattle.cache_manager.proofs.Own.{own_ends, own_flies}
 
@@ -42,7 +45,7 @@ module _ (cache : CacheOf) (history : HistoryOf) (who : Who) (j : ℕ) (is : cac
   pub flies : flying history.entries j ≡ true
   flies = own_flies (cache_of history) who j load legal own_here
 
-  module _ (facts : FactsOf) (held : List KeptOf) (places : List Header → Type 0) (flights : List FlightOf) (tables : List TableOf) (manages : IsManager history.setting history.entries history.spare facts held places flights tables) where
+  module _ (facts : FactsOf) (regions : List Region) (held : List KeptOf) (places : List Header → Type 0) (flights : List FlightOf) (tables : List TableOf) (manages : IsManager history.setting history.entries history.spare facts regions held places flights tables) where
     pub spares : 0 < history.spare
     spares = omega (arith, length-others j flights (manages.flights_all j flies), manages.ends_fit)
 
@@ -55,12 +58,28 @@ module _ (cache : CacheOf) (history : HistoryOf) (who : Who) (j : ℕ) (is : cac
     unkept = false_from_ne_true _ (λ h. both_ways _ (kept_landed history.entries j (numbers_kept history.setting.catalog history.entries held j manages.kept_are h)) flies)
 
     -- what shuts off part of it is what the history says
-    pub shut_of : (regions : List Region) → option_map (λ (f : FlightOf). f.shut) (flight_at flights j) ≡ Some regions → regions ≡ shutting history.entries j
-    shut_of regions told =
+    pub shut_of : (place : ℕ) (header : Header) → option_map (λ (f : FlightOf). f.place) (flight_at flights j) ≡ Some place → load.header ≡ header → concerning header (drop place regions) ≡ shutting history.entries j
+    shut_of place header told own_header =
         let found = flight_found history.entries j flights manages.flights_are in_flight in
-        let both : Some regions ≡ Some found.0.shut = sym told ∙ ap (option_map (λ (f : FlightOf). f.shut)) found.1 in
-        let same : regions ≡ found.0.shut = cc in
-        same ∙ found.2.shut ∙ ap (shutting history.entries) found.3
+        let both : Some place ≡ Some found.0.place = sym told ∙ ap (option_map (λ (f : FlightOf). f.place)) found.1 in
+        let same : place ≡ found.0.place = cc in
+        ap (λ (n : ℕ). concerning header (drop n regions)) (same ∙ found.2.place ∙ ap (λ (n : ℕ). length (regions_of (take n history.entries))) found.3)
+        ∙ ap (λ (rs : List Region). concerning header (drop (length (regions_of (take j history.entries))) rs)) manages.regions_are
+        ∙ ap (concerning header) (since_start history.entries j)
+        ∙ ap (λ (h : Header). concerning h (regions_after history.entries j)) (sym own_header)
+        ∙ sym (shutting_of history.entries j load own_here.started)
+
+    -- its place is one of the regions
+    pub place_within : (place : ℕ) → option_map (λ (f : FlightOf). f.place) (flight_at flights j) ≡ Some place → place ≤ length regions
+    place_within place told =
+        let found = flight_found history.entries j flights manages.flights_are in_flight in
+        let both : Some place ≡ Some found.0.place = sym told ∙ ap (option_map (λ (f : FlightOf). f.place)) found.1 in
+        let same : place ≡ found.0.place = cc in
+        let at : place ≡ length (regions_of (take j history.entries)) = same ∙ found.2.place ∙ ap (λ (n : ℕ). length (regions_of (take n history.entries))) found.3 in
+        let whole : length (regions_of history.entries) ≡ length (regions_of (take j history.entries) ++ regions_after history.entries j) = ap length (ap regions_of (sym (take-append-drop j history.entries)) ∙ filter_map-append flushed (take j history.entries) (drop j history.entries)) in
+        let parts = length-append (regions_of (take j history.entries)) (regions_after history.entries j) in
+        let all = ap length manages.regions_are in
+        omega (arith, at, whole, parts, all)
 
 -- what an own load has come to is a kept load
 pub keeps :

@@ -1,17 +1,16 @@
 -- A manager after evictions.
-use Rattle.std.proofs.Common.{◌≡◌, refl, sym, ◌∙◌, ap, subst, ℕ, suc, ◌+◌, ◌<◌, ◌≤◌, List, [], ◌∷◌, ◌++◌, append_assoc, length, map, filter, Bool, true, false, not, ◌&&◌, ◌||◌, ◌==◌, Some, None, sum_by, All, Contains, inl, inr, arith}
-use Rattle.std.specs.List.{list_any}
+use Rattle.std.proofs.Common.{◌≡◌, refl, sym, ◌∙◌, ap, subst, ℕ, suc, ◌+◌, ◌<◌, ◌≤◌, List, [], ◌∷◌, ◌++◌, append_assoc, length, map, filter, Bool, true, false, not, ◌==◌, Some, sum_by, All, Contains, inl, inr, arith}
 use Rattle.std.specs.List.Sorted.{IsPermutation}
 use Rattle.std.proofs.lemmas.Bool.{and_parts, both_ways, eq-eqb, eqb-true, false_from_ne_true, not-true, or_cases, or_left, or_right}
 use Rattle.std.proofs.lemmas.List.{append-nil, length_push}
 use Rattle.std.proofs.lemmas.List.Elements.{All-contains, All-contains_itself, All-filter, filter_passes}
 use Rattle.std.proofs.lemmas.List.Sorted.{Contains-permutation, IsPermutation-map, IsPermutation-sym, length_permutation, list_any-IsPermutation}
 use Rattle.olap_meaning.specs.declared.cells.Header.{Header}
-use Rattle.olap_meaning.specs.declared.tables.Catalog.{Catalog}
+use Rattle.olap_meaning.specs.declared.regions.Region.{Region}
 use Rattle.olap_meaning.specs.declared.tables.Setting.{Setting}
-use Rattle.olap_meaning.specs.Budget.{kept_groups, lets_evict, may_evict}
+use Rattle.olap_meaning.specs.Budget.{lets_evict, may_evict}
 use Rattle.olap_meaning.specs.Covering.{among}
-use Rattle.olap_meaning.specs.History.{Entry, Evict, entry_at, evicts, flying, is_some_and, kept}
+use Rattle.olap_meaning.specs.History.{Entry, Evict, entry_at, flying, is_some_and, kept}
 use Rattle.olap_meaning.specs.Legal.{IsLegalEviction, Legal}
 use Rattle.olap_meaning.proofs.Evicting.{evicted_unkept}
 use Rattle.olap_meaning.proofs.Positions.{get_last}
@@ -23,12 +22,12 @@ use Rattle.load_costs.proofs.BuiltFacts.{tables_stay}
 use Rattle.load_costs.specs.Costs.{tables_built}
 use Rattle.cache_flush.specs.Loads.{IsOldest, KeptOf, are_different, group_count, numbers_of}
 use Rattle.load_sharing.specs.Flights.{FlightOf}
-use Rattle.cache_manager.specs.Kept.{AreFactsOf, IsFlight, IsKept, IsManager, closing, headers_of}
+use Rattle.cache_manager.specs.Kept.{AreFactsOf, IsFlight, IsKept, IsManager, closing, headers_of, regions_of}
 use Rattle.cache_manager.specs.Rollups.{AreKept}
 use Rattle.cache_manager.proofs.Budgeting.{groups_held, oldest_held}
 use Rattle.cache_manager.proofs.Facts.{facts_on}
-use Rattle.cache_manager.proofs.Managing.{all_flights_on, flights_all_on, kept_grown, nothing_more}
-use Rattle.cache_manager.proofs.Pushes.{kept_back}
+use Rattle.cache_manager.proofs.Managing.{all_flights_on, flights_all_on, kept_grown, nothing_more, regions_on}
+use Rattle.olap_meaning.proofs.Pushes.{kept_back}
 
 -- those that are kept except for one
 abbrev pub rest : ℕ → List KeptOf → List KeptOf
@@ -128,14 +127,15 @@ onward setting P step (j ∷ js) entries legal here =
 
 -- a manager after evictions
 pub evicted_manager :
-    (setting : Setting) (entries : List Entry) (spare left : ℕ) (facts : FactsOf) (held now_held : List KeptOf) (places now : List Header → Type 0) (flights : List FlightOf) (tables : List TableOf) (loads : List ℕ)
-    → IsManager setting entries spare facts held places flights tables → Legal setting (entries ++ map Evict loads) → AreKept setting.catalog (entries ++ map Evict loads) now_held → closing flights now_held ≤ left → now (headers_of flights)
-    → IsManager setting (entries ++ map Evict loads) left facts now_held now flights tables
-evicted_manager setting entries spare left facts held now_held places now flights tables loads is legal are room fit = record {
+    (setting : Setting) (entries : List Entry) (spare left : ℕ) (facts : FactsOf) (regions : List Region) (held now_held : List KeptOf) (places now : List Header → Type 0) (flights : List FlightOf) (tables : List TableOf) (loads : List ℕ)
+    → IsManager setting entries spare facts regions held places flights tables → Legal setting (entries ++ map Evict loads) → AreKept setting.catalog (entries ++ map Evict loads) now_held → closing flights now_held ≤ left → now (headers_of flights)
+    → IsManager setting (entries ++ map Evict loads) left facts regions now_held now flights tables
+evicted_manager setting entries spare left facts regions held now_held places now flights tables loads is legal are room fit = record {
   facts_are = onward setting (λ es. AreFactsOf setting es facts) (λ es j legal here. facts_on setting es facts (Evict j) (λ cube. refl) refl here) loads entries legal is.facts_are;
+  regions_are = onward setting (λ es. regions ≡ regions_of es) (λ es j legal here. here ∙ sym (regions_on es (Evict j) refl)) loads entries legal is.regions_are;
   kept_are = are.are;
   kept_all = are.every;
-  flights_are = onward setting (λ es. All (IsFlight es) flights) (λ es j legal here. all_flights_on es (Evict j) flights (λ i. refl) refl here) loads entries legal is.flights_are;
+  flights_are = onward setting (λ es. All (IsFlight es) flights) (λ es j legal here. all_flights_on es (Evict j) flights (λ i. refl) here) loads entries legal is.flights_are;
   flights_all = onward setting (λ es. (j : ℕ) → flying es j ≡ true → among (map (λ f. f.load) flights) j ≡ true) (λ es j legal here. flights_all_on es (Evict j) (map (λ f. f.load) flights) refl here) loads entries legal is.flights_all;
   tables_are = onward setting (λ es. tables ≡ tables_built setting.catalog es) (λ es j legal here. here ∙ sym (tables_stay setting es (Evict j) legal refl)) loads entries legal is.tables_are;
   ends_fit = room;

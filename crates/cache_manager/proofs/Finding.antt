@@ -86,7 +86,7 @@ module _ (catalog : Catalog) (entries : List Entry) where
 
     -- what was found is a source
     pub source_is : (cell : Cell) (found : Found) → IsFound catalog entries rollups cell found → is_nothing found ≡ false → IsSource catalog entries cell (loads_found rollups found)
-    source_is cell (Exact k) is some = rw is.source refl
+    source_is cell (Exact k) is some = rw is.1.source refl
     source_is cell (Rolled number place) is some =
         let at = rolled_at number place cell is in
         let own : IsRollup catalog entries loads at.0 = at.3 in

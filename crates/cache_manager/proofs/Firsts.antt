@@ -2,8 +2,7 @@
 use Rattle.std.proofs.Common.{◌≡◌, refl, sym, ◌∙◌, ap, subst, ℕ, suc, ◌<◌, List, [], ◌∷◌, ◌++◌, length, map, Bool, true, false, cond, ◌&&◌, ◌||◌, ◌==◌, Option, Some, None, All, Contains, nat_lt, not, option_map, position, slice_get, slice_set, unwrap_or, arith, ◌+◌, zero}
 use Rattle.std.specs.Prelude.{IsTrue}
 use Rattle.std.specs.List.{list_all, list_any, position_or_len}
-use Rattle.std.specs.Borrow.{Bor}
-use Rattle.std.proofs.lemmas.Bool.{and_from, and_parts, both_ways, eqb-true, false_from_ne_true, lt-ltb, ltb-true}
+use Rattle.std.proofs.lemmas.Bool.{and_from, and_parts, eqb-true, false_from_ne_true, lt-ltb, ltb-true}
 use Rattle.std.proofs.lemmas.List.{length-set, length_push}
 use Rattle.std.proofs.lemmas.List.Elements.{All-contains, All-head, All-tail, All-weaker}
 use Rattle.std.proofs.lemmas.List.Folds.{position_or_len-set, position_or_len_push}
@@ -15,7 +14,7 @@ use Rattle.olap_meaning.specs.Covering.{among, header_covers, names_column}
 use Rattle.olap_meaning.specs.History.{Entry, exact_source, is_some_and}
 use Rattle.olap_meaning.proofs.Loads.{some_and}
 use Rattle.olap_meaning.proofs.Lists.{holds_at}
-use Rattle.olap_meaning.proofs.Members.{all_member, member_any, member_map}
+use Rattle.olap_meaning.proofs.Members.{member_any, member_map}
 use Rattle.cell_groups.proofs.Alike.{alike_self}
 use Rattle.olap_meaning.proofs.Appearances.{position_at}
 use Rattle.history_core.specs.Groups.{alike}
@@ -171,10 +170,10 @@ module _ (catalog : Catalog) (entries : List Entry) (loads : List KeptOf) (kept 
 
   same_found : (cell : Cell) (one other : Found) → IsFound catalog entries rollups cell one → IsFound catalog entries rollups cell other → IsFirst loads rollups cell one → IsFirst loads rollups cell other → is_nothing one ≡ false → is_nothing other ≡ false
       → loads_found rollups one ≡ loads_found rollups other
-  same_found cell (Exact k) (Exact l) is too first other some more = let same : ◌≡◌ {A = Option ℕ} (Some k.now.load) (Some l.now.load) = sym is.source ∙ too.source in let one : k.now.load ≡ l.now.load = cc in ap (λ (n : ℕ). n ∷ []) one
-  same_found cell (Exact k) (Rolled n q) is too first other some more = let clash : ◌≡◌ {A = Option ℕ} (Some k.now.load) None = sym is.source ∙ unserved cell n q too in absurd (cc)
+  same_found cell (Exact k) (Exact l) is too first other some more = let same : ◌≡◌ {A = Option ℕ} (Some k.now.load) (Some l.now.load) = sym is.1.source ∙ too.1.source in let one : k.now.load ≡ l.now.load = cc in ap (λ (n : ℕ). n ∷ []) one
+  same_found cell (Exact k) (Rolled n q) is too first other some more = let clash : ◌≡◌ {A = Option ℕ} (Some k.now.load) None = sym is.1.source ∙ unserved cell n q too in absurd (cc)
   same_found cell (Exact k) Nothing is too first other some more = absurd (cc)
-  same_found cell (Rolled m p) (Exact l) is too first other some more = let clash : ◌≡◌ {A = Option ℕ} (Some l.now.load) None = sym too.source ∙ unserved cell m p is in absurd (cc)
+  same_found cell (Rolled m p) (Exact l) is too first other some more = let clash : ◌≡◌ {A = Option ℕ} (Some l.now.load) None = sym too.1.source ∙ unserved cell m p is in absurd (cc)
   same_found cell (Rolled m p) (Rolled n q) is too first other some more =
       let same : ◌≡◌ {A = Option ℕ} (Some m) (Some n) = sym first ∙ other in
       let one : m ≡ n = cc in

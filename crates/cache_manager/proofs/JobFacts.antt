@@ -23,7 +23,7 @@ use Rattle.history_core.specs.Cache.{CacheOf}
 use Rattle.cache_manager.specs.Jobs.{IsJobOf, IsOwnBody}
 use Rattle.cache_manager.specs.Laws.{JobsStay}
 use Rattle.history_core.specs.Seats.{entries_of, is_of_seat}
-use Rattle.cache_manager.proofs.Pushes.{load_on, recorded}
+use Rattle.olap_meaning.proofs.Pushes.{load_on, recorded}
 
 -- what a job has come to, which holds the rows of its snapshot, is the body of an own load
 pub own_body : (cache : CacheOf) (job : JobOf) (body : BodyOf) → IsJobOf cache job → HoldsRows job.catalog job.header (rows_in job.snapshot) body → IsOwnBody cache job.who job.load body

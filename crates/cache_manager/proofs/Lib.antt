@@ -1,4 +1,3 @@
-pub mod Pushes
 pub mod Facts
 pub mod Managing
 pub mod Moves

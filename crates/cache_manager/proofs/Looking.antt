@@ -1,13 +1,14 @@
 -- The loads that a look starts.
-use Rattle.std.proofs.Common.{◌≡◌, refl, sym, ap, subst, ℕ, suc, ◌+◌, ◌≤◌, List, [], ◌∷◌, ◌++◌, length, map, Bool, true, false, not, ◌&&◌, ◌<◌, Option, Some, None, is_some, filter, arith, All, Contains}
+use Rattle.std.proofs.Common.{◌≡◌, refl, sym, ap, subst, ℕ, ◌+◌, ◌≤◌, List, [], ◌∷◌, ◌++◌, length, map, Bool, true, false, not, ◌<◌, Option, Some, None, is_some, filter, arith, All, Contains}
 use Rattle.std.specs.List.{list_all}
-use Rattle.std.proofs.lemmas.Bool.{and_from, and_parts, both_ways, false_from_ne_true, not-true}
+use Rattle.std.proofs.lemmas.Bool.{and_from, and_parts, not-true}
 use Rattle.std.proofs.lemmas.List.{length-append, length-map}
 use Rattle.std.proofs.lemmas.List.Elements.{All-cons, All-contains, All-contains_itself, All-filter, All-head, All-nil, All-tail, filter_passes}
 use Rattle.olap_meaning.specs.declared.cells.Cell.{Cell}
 use Rattle.olap_meaning.specs.declared.cells.CellSource.{CellSource}
 use Rattle.olap_meaning.specs.declared.cells.Header.{Header}
 use Rattle.olap_meaning.specs.declared.cells.Who.{Who}
+use Rattle.olap_meaning.specs.declared.regions.Region.{Region}
 use Rattle.olap_meaning.specs.declared.tables.Setting.{Setting}
 use Rattle.olap_meaning.specs.History.{Entry, awaited_load}
 use Rattle.olap_meaning.specs.Legal.{IsSource, Legal, has_source, is_cell}
@@ -48,10 +49,11 @@ kept_cells keep cells cell held = (
 
 -- other room
 pub refit :
-    (setting : Setting) (entries : List Entry) (spare left : ℕ) (facts : FactsOf) (held : List KeptOf) (places now : List Header → Type 0) (flights : List FlightOf) (tables : List TableOf) → IsManager setting entries spare facts held places flights tables → closing flights held ≤ left → now (headers_of flights)
-    → IsManager setting entries left facts held now flights tables
-refit setting entries spare left facts held places now flights tables is room fit = record {
+    (setting : Setting) (entries : List Entry) (spare left : ℕ) (facts : FactsOf) (regions : List Region) (held : List KeptOf) (places now : List Header → Type 0) (flights : List FlightOf) (tables : List TableOf) → IsManager setting entries spare facts regions held places flights tables → closing flights held ≤ left → now (headers_of flights)
+    → IsManager setting entries left facts regions held now flights tables
+refit setting entries spare left facts regions held places now flights tables is room fit = record {
   facts_are = is.facts_are;
+  regions_are = is.regions_are;
   kept_are = is.kept_are;
   kept_all = is.kept_all;
   flights_are = is.flights_are;
@@ -61,10 +63,10 @@ refit setting entries spare left facts held places now flights tables is room fi
   places_fit = fit;
 }
 
-headers_started : (flights : List FlightOf) (plans : List Planned) → headers_of (flights ++ map (λ p. flight_for p.flight) plans) ≡ headers_of flights ++ map (λ p. p.flight.header) plans
-headers_started [] [] = refl
-headers_started [] (p ∷ ps) = ap (λ (hs : List Header). p.flight.header ∷ hs) (headers_started [] ps)
-headers_started (f ∷ fs) plans = ap (λ (hs : List Header). f.header ∷ hs) (headers_started fs plans)
+headers_started : (place : ℕ) (flights : List FlightOf) (plans : List Planned) → headers_of (flights ++ map (λ p. flight_for place p.flight) plans) ≡ headers_of flights ++ map (λ p. p.flight.header) plans
+headers_started place [] [] = refl
+headers_started place [] (p ∷ ps) = ap (λ (hs : List Header). p.flight.header ∷ hs) (headers_started place [] ps)
+headers_started place (f ∷ fs) plans = ap (λ (hs : List Header). f.header ∷ hs) (headers_started place fs plans)
 
 module _ (allowing : Allowing) (cache : CacheOf) (who : Who) (wanted : List Cell) (plans : List Planned) (legal : Legal cache.setting cache.entries) (known : list_all (is_cell cache.setting.catalog) wanted ≡ true) (unserved : list_all (λ cell. not (has_source cache.setting.catalog cache.entries cell)) wanted ≡ true) (unawaited : list_all (λ cell. not (is_some (awaited_load cache.entries cell))) wanted ≡ true) (are : ArePrepared allowing cache who wanted (length cache.entries + 1) (firsts [] wanted) plans) where
   pub all_legal : AreLegalSteps cache.setting cache.entries (map step_of plans)
@@ -78,15 +80,15 @@ module _ (allowing : Allowing) (cache : CacheOf) (who : Who) (wanted : List Cell
       all_jobs allowing cache who wanted plans cache.entries [] (length cache.entries + 1) (firsts [] wanted) legal refl all_legal are (omega arith) (λ cube. refl) (λ cube. refl) (All-nil (IsJobOf (record { setting = cache.setting; entries = cache.entries })))
 
   pub manager_started :
-      (facts : FactsOf) (held : List KeptOf) (spare left : ℕ) (places now : List Header → Type 0) (flights : List FlightOf) (tables : List TableOf) → IsManager cache.setting cache.entries spare facts held places flights tables → closing flights held + length plans + length plans ≤ left
+      (facts : FactsOf) (regions : List Region) (held : List KeptOf) (spare left : ℕ) (places now : List Header → Type 0) (flights : List FlightOf) (tables : List TableOf) → IsManager cache.setting cache.entries spare facts regions held places flights tables → closing flights held + length plans + length plans ≤ left
       → now (headers_of flights ++ map (λ p. p.flight.header) plans)
-      → IsManager cache.setting (cache.entries ++ map step_of plans) left facts held now (flights ++ map (λ p. flight_for p.flight) plans) tables
-  manager_started facts held spare left places now flights tables is room fit =
-      refit cache.setting (cache.entries ++ map step_of plans) left left facts held anywhere now (flights ++ map (λ p. flight_for p.flight) plans) tables
-      (all_started allowing cache who wanted facts held tables left plans cache.entries flights (length cache.entries + 1) (firsts [] wanted) legal all_legal are (omega arith)
-      (refit cache.setting cache.entries spare left facts held places anywhere flights tables is (omega (arith, room)) tt) room)
-      (omega (arith, room, length-append flights (map (λ (p : Planned). flight_for p.flight) plans), length-map plans (λ (p : Planned). flight_for p.flight)))
-      (subst now (sym (headers_started flights plans)) fit)
+      → IsManager cache.setting (cache.entries ++ map step_of plans) left facts regions held now (flights ++ map (λ p. flight_for (length regions) p.flight) plans) tables
+  manager_started facts regions held spare left places now flights tables is room fit =
+      refit cache.setting (cache.entries ++ map step_of plans) left left facts regions held anywhere now (flights ++ map (λ p. flight_for (length regions) p.flight) plans) tables
+      (all_started allowing cache who wanted facts regions held tables left plans cache.entries flights (length cache.entries + 1) (firsts [] wanted) legal all_legal are (omega arith)
+      (refit cache.setting cache.entries spare left facts regions held places anywhere flights tables is (omega (arith, room)) tt) room)
+      (omega (arith, room, length-append flights (map (λ (p : Planned). flight_for (length regions) p.flight) plans), length-map plans (λ (p : Planned). flight_for (length regions) p.flight)))
+      (subst now (sym (headers_started (length regions) flights plans)) fit)
 
   -- the numbers of the loads are new
   pub numbers_new : (flights : List FlightOf) → All (IsFlight cache.entries) flights → AreNew (map (λ f. f.load) flights) (map (λ p. p.flight.load) plans)

@@ -1,9 +1,9 @@
 -- What a manager keeps, after one more entry.
-use Rattle.std.proofs.Common.{◌≡◌, refl, sym, ◌∙◌, ap, subst, ℕ, ◌<◌, ◌≤◌, List, [], ◌∷◌, ◌++◌, length, map, filter, Bool, true, false, not, ◌==◌, ◌||◌, ◌⊎◌, inl, inr, Option, Some, None, arith, option_map, option_to_list, All}
+use Rattle.std.proofs.Common.{◌≡◌, refl, sym, ◌∙◌, ap, subst, ℕ, ◌<◌, ◌≤◌, List, [], ◌∷◌, ◌++◌, length, map, filter, Bool, true, false, not, ◌==◌, ◌||◌, ◌⊎◌, inl, inr, Option, Some, None, arith, option_map, option_to_list, filter_map, take, All}
 use Rattle.std.specs.List.{AllByRecursion, find}
 use Rattle.std.proofs.lemmas.Bool.{both_ways, or_cases, or_left, or_right, eqb-true, eq-eqb, false_from_ne_true}
-use Rattle.std.proofs.lemmas.List.{append_assoc, append-nil, map-append}
-use Rattle.std.proofs.lemmas.List.Elements.{All-cons, All-filter, All-head, All-map, All-nil, All-tail, All-weaker}
+use Rattle.std.proofs.lemmas.List.{append_assoc, append-nil, map-append, take-append-le}
+use Rattle.std.proofs.lemmas.List.Elements.{All-cons, All-filter, All-head, All-map, All-nil, All-tail, All-weaker, filter_map-append}
 use Rattle.std.proofs.lemmas.List.Folds.{list_any-append}
 use Rattle.olap_meaning.specs.declared.cells.Header.{Header}
 use Rattle.olap_meaning.specs.declared.cells.Who.{Who}
@@ -12,17 +12,16 @@ use Rattle.olap_meaning.specs.declared.tables.Catalog.{Catalog}
 use Rattle.olap_meaning.specs.declared.tables.Row.{Row}
 use Rattle.olap_meaning.specs.declared.tables.Setting.{Setting}
 use Rattle.olap_meaning.specs.Covering.{among, concerning}
-use Rattle.olap_meaning.specs.History.{Entry, Flush, Load, load_version, kept, delivers, ends, evicts, flushed, flying, shutting, started}
+use Rattle.olap_meaning.specs.History.{Entry, Flush, Load, load_version, kept, delivers, ends, evicts, flushed, flying, load_at, shutting, started}
 use Rattle.olap_meaning.specs.Legal.{Legal}
 use Rattle.olap_meaning.proofs.Shutting.{shutting_grows}
 use Rattle.olap_meaning.proofs.Versions.{rows_stay}
 use Rattle.fact_reader.specs.BodyRows.{HoldsRows}
 use Rattle.cache_flush.specs.Loads as of_loads
 use Rattle.cache_flush.specs.Loads.{KeptOf}
-use Rattle.load_sharing.specs.Flights as of_flights
-use Rattle.load_sharing.specs.Flights.{FlightOf, numbers_of}
-use Rattle.cache_manager.specs.Kept.{IsKept, IsFlight, headers_of}
-use Rattle.cache_manager.proofs.Pushes.{flying_back, flying_on, kept_back, kept_stays, load_on, load_within, recorded}
+use Rattle.load_sharing.specs.Flights.{FlightOf}
+use Rattle.cache_manager.specs.Kept.{IsKept, IsFlight, headers_of, regions_of}
+use Rattle.olap_meaning.proofs.Pushes.{flying_back, flying_on, kept_back, kept_stays, load_on, load_within, recorded}
 
 -- nothing is shut off by an entry that flushes nothing
 pub nothing_more : (shut : List Region) (header : Header) (entry : Entry) → flushed entry ≡ None → shut ≡ shut ++ concerning header (option_to_list (flushed entry))
@@ -74,43 +73,36 @@ numbers_kept catalog entries (k ∷ ks) j all h = elim (or_cases (k.load == j) (
   | inr there ↦ numbers_kept catalog entries ks j (All-tail (IsKept catalog entries) k ks all) there
 ]
 
--- a load in flight stays one, where it does not end, with the region that an entry flushes
-flight_grown :
-    (entries : List Entry) (entry : Entry) (f : FlightOf) (shut : List Region) → ends f.load entry ≡ false → shut ≡ f.shut ++ concerning f.header (option_to_list (flushed entry)) → IsFlight entries f → IsFlight (entries ++ entry ∷ []) (record f { shut = shut })
-flight_grown entries entry f shut unended more is = record {
+-- the regions with one entry more
+pub regions_more : (entries : List Entry) (entry : Entry) → regions_of (entries ++ entry ∷ []) ≡ regions_of entries ++ option_to_list (flushed entry)
+regions_more entries entry = filter_map-append flushed entries (entry ∷ []) ∙ ap (λ (rs : List Region). regions_of entries ++ rs) (by (flushed entry) refl)
+  where
+    by : (o : Option Region) → flushed entry ≡ o → filter_map flushed (entry ∷ []) ≡ option_to_list (flushed entry)
+    by None e = rw e refl
+    by (Some r) e = rw e refl
+
+-- the regions that were flushed before a load that was started stay
+regions_still : (entries : List Entry) (entry : Entry) (j : ℕ) (load : Load) → load_at entries j ≡ Some load → take j (entries ++ entry ∷ []) ≡ take j entries
+regions_still entries entry j load at = take-append-le j entries (entry ∷ []) (load_within entries j load at).1
+
+-- a load in flight stays one, where it does not end
+pub flight_on : (entries : List Entry) (entry : Entry) (f : FlightOf) → ends f.load entry ≡ false → IsFlight entries f → IsFlight (entries ++ entry ∷ []) f
+flight_on entries entry f unended is = record {
   load = is.load;
   started = load_on entries entry f.load is.load is.started;
   flies = flying_on entries entry f.load is.flies unended;
   who = is.who;
   header = is.header;
   version = is.version;
-  shut =
-      more
-      ∙ ap (λ (rs : List Region). rs ++ concerning f.header (option_to_list (flushed entry))) is.shut
-      ∙ ap (λ (h : Header). shutting entries f.load ++ concerning h (option_to_list (flushed entry))) is.header
-      ∙ sym (shutting_grows entries entry f.load is.load is.started);
+  place = is.place ∙ ap (λ (es : List Entry). length (regions_of es)) (sym (regions_still entries entry f.load is.load is.started));
 }
 
-pub flight_on : (entries : List Entry) (entry : Entry) (f : FlightOf) → ends f.load entry ≡ false → flushed entry ≡ None → IsFlight entries f → IsFlight (entries ++ entry ∷ []) f
-flight_on entries entry f unended none is = flight_grown entries entry f f.shut unended (nothing_more f.shut f.header entry none) is
+pub all_flights_on : (entries : List Entry) (entry : Entry) (flights : List FlightOf) → ((j : ℕ) → ends j entry ≡ false) → All (IsFlight entries) flights → All (IsFlight (entries ++ entry ∷ [])) flights
+all_flights_on entries entry flights unended all = All-weaker (IsFlight entries) (IsFlight (entries ++ entry ∷ [])) (λ f is. flight_on entries entry f (unended f.load) is) flights all
 
-pub all_flights_on : (entries : List Entry) (entry : Entry) (flights : List FlightOf) → ((j : ℕ) → ends j entry ≡ false) → flushed entry ≡ None → All (IsFlight entries) flights → All (IsFlight (entries ++ entry ∷ [])) flights
-all_flights_on entries entry flights unended none all = All-weaker (IsFlight entries) (IsFlight (entries ++ entry ∷ [])) (λ f is. flight_on entries entry f (unended f.load) none is) flights all
-
-pub all_flights_shut :
-    (entries : List Entry) (who : Who) (region : Region) (flights : List FlightOf) → All (IsFlight entries) flights → All (IsFlight (entries ++ Flush who region ∷ [])) (map (of_flights.shut_off region) flights)
-all_flights_shut entries who region flights all =
-    All-map (IsFlight (entries ++ Flush who region ∷ [])) (of_flights.shut_off region) flights
-    (All-weaker (IsFlight entries) (λ f. IsFlight (entries ++ Flush who region ∷ []) (of_flights.shut_off region f))
-    (λ f is. flight_grown entries (Flush who region) f (f.shut ++ concerning f.header (region ∷ [])) refl refl is) flights all)
-
-pub flight_numbers_shut : (region : Region) (flights : List FlightOf) → numbers_of (map (of_flights.shut_off region) flights) ≡ numbers_of flights
-flight_numbers_shut region [] = refl
-flight_numbers_shut region (f ∷ fs) = ap (λ (ns : List ℕ). f.load ∷ ns) (flight_numbers_shut region fs)
-
-pub flight_headers_shut : (region : Region) (flights : List FlightOf) → headers_of (map (of_flights.shut_off region) flights) ≡ headers_of flights
-flight_headers_shut region [] = refl
-flight_headers_shut region (f ∷ fs) = ap (λ (hs : List Header). f.header ∷ hs) (flight_headers_shut region fs)
+-- an entry that flushes nothing leaves the regions
+pub regions_on : (entries : List Entry) (entry : Entry) → flushed entry ≡ None → regions_of (entries ++ entry ∷ []) ≡ regions_of entries
+regions_on entries entry none = regions_more entries entry ∙ ap (λ (o : Option Region). regions_of entries ++ option_to_list o) none ∙ append-nil (regions_of entries)
 
 -- an entry that delivers nothing leaves the kept loads all that there are
 pub kept_all_on :
@@ -227,11 +219,11 @@ module _ (j : ℕ) where
 
   -- an entry that ends just this load leaves the others in flight
   pub flights_but :
-      (entries : List Entry) (entry : Entry) (flights : List FlightOf) → ((i : ℕ) → ends i entry ≡ (j == i)) → flushed entry ≡ None → All (IsFlight entries) flights → All (IsFlight (entries ++ entry ∷ [])) (others flights)
-  flights_but entries entry flights just none all i d l =
+      (entries : List Entry) (entry : Entry) (flights : List FlightOf) → ((i : ℕ) → ends i entry ≡ (j == i)) → All (IsFlight entries) flights → All (IsFlight (entries ++ entry ∷ [])) (others flights)
+  flights_but entries entry flights just all i d l =
       let kept = All-filter (λ f. not (f.load == j)) (IsFlight entries) flights all i d l in
       let apart = others_apart flights i d l in
-      flight_on entries entry _ (just _ ∙ eqb_other _ apart) none kept
+      flight_on entries entry _ (just _ ∙ eqb_other _ apart) kept
     where
       eqb_other : (n : ℕ) → (n == j) ≡ false → (j == n) ≡ false
       eqb_other n h = false_from_ne_true (j == n) (λ e. both_ways (n == j) h (eq-eqb n j (sym (eqb-true j n e))))

@@ -1,7 +1,7 @@
 -- A manager after each of its calls.
 use Rattle.std.proofs.Common.{◌≡◌, refl, sym, ◌∙◌, ap, subst, ℕ, suc, ◌+◌, ◌<◌, ◌≤◌, List, [], ◌∷◌, ◌++◌, length, map, Some, true, arith, inl, inr}
 use Rattle.std.proofs.lemmas.Bool.{eqb-true}
-use Rattle.std.proofs.lemmas.List.{length-append, length-map, length_push, map-append}
+use Rattle.std.proofs.lemmas.List.{length-append, length-map, length_push, map-append, take_all}
 use Rattle.std.proofs.lemmas.List.Elements.{All-push}
 use Rattle.olap_meaning.specs.declared.cells.CellSource.{CellSource}
 use Rattle.olap_meaning.specs.declared.cells.Header.{Header}
@@ -12,7 +12,6 @@ use Rattle.olap_meaning.specs.Catalog.{table_cube}
 use Rattle.olap_meaning.specs.Covering.{among}
 use Rattle.olap_meaning.specs.History.{Entry, Append, Agg, Flush, Start, Done, Drop, Answer, Saw, Load, flying, kept, rows_of, version}
 use Rattle.olap_meaning.specs.Legal.{Legal}
-use Rattle.olap_meaning.proofs.Shutting.{loads_start_whole}
 use Rattle.olap_meaning.proofs.Orders.{among_still}
 use Rattle.fact_versions.specs.FactRows.{FactRows}
 use Rattle.fact_versions.specs.Facts.{FactsOf, with_batch}
@@ -23,27 +22,27 @@ use Rattle.agg_tables.specs.Tables.{TableOf, built_over}
 use Rattle.installed_tables.specs.Installed.{put}
 use Rattle.installed_tables.proofs.BuiltFacts.{tables_built_more}
 use Rattle.load_costs.proofs.BuiltFacts.{tables_stay}
-use Rattle.load_sharing.specs.Flights as of_flights
 use Rattle.load_sharing.specs.Flights.{FlightOf}
-use Rattle.cache_manager.specs.Kept.{IsFlight, IsKept, IsManager, closing, headers_of}
+use Rattle.cache_manager.specs.Kept.{IsFlight, IsKept, IsManager, closing, headers_of, regions_of}
 use Rattle.cache_manager.proofs.Facts.{facts_more, facts_on}
-use Rattle.cache_manager.proofs.Managing.{all_flights_on, all_flights_shut, all_kept_on, all_kept_shut, among_last, flight_headers_shut, flight_numbers_shut, flights_all_but, flights_all_on, flights_but, kept_all_on, kept_numbers_shut, length-others, others}
-use Rattle.cache_manager.proofs.Pushes.{flying_back, kept_back, load_last, starts_flying}
+use Rattle.cache_manager.proofs.Managing.{all_flights_on, all_kept_on, all_kept_shut, among_last, flights_all_but, flights_all_on, flights_but, kept_all_on, kept_numbers_shut, length-others, others, regions_more, regions_on}
+use Rattle.olap_meaning.proofs.Pushes.{flying_back, kept_back, load_last, starts_flying}
 
-module _ (setting : Setting) (entries : List Entry) (facts : FactsOf) (held : List KeptOf) (places : List Header → Type 0) (flights : List FlightOf) (tables : List TableOf) (legal : Legal setting entries) where
+module _ (setting : Setting) (entries : List Entry) (facts : FactsOf) (regions : List Region) (held : List KeptOf) (places : List Header → Type 0) (flights : List FlightOf) (tables : List TableOf) (legal : Legal setting entries) where
   -- a load is given up
   pub dropped :
-      (spare left : ℕ) (now : List Header → Type 0) (who : Who) (j : ℕ) → IsManager setting entries spare facts held places flights tables → flying entries j ≡ true → left + 1 ≡ spare → now (headers_of (others j flights))
-      → IsManager setting (entries ++ Drop who j ∷ []) left facts held now (others j flights) tables
+      (spare left : ℕ) (now : List Header → Type 0) (who : Who) (j : ℕ) → IsManager setting entries spare facts regions held places flights tables → flying entries j ≡ true → left + 1 ≡ spare → now (headers_of (others j flights))
+      → IsManager setting (entries ++ Drop who j ∷ []) left facts regions held now (others j flights) tables
   dropped spare left now who j is flies room fit =
       let gone = length-others j flights (is.flights_all j flies) in
       let before : length flights + length flights + length held ≤ spare = is.ends_fit in
       let after : length (others j flights) + length (others j flights) + length held ≤ left = omega (arith, gone, before, room) in
       record {
         facts_are = facts_on setting entries facts (Drop who j) (λ cube. refl) refl is.facts_are;
+        regions_are = is.regions_are ∙ sym (regions_on entries (Drop who j) refl);
         kept_are = all_kept_on setting entries (Drop who j) held (λ i. refl) refl legal is.kept_are;
         kept_all = kept_all_on entries (Drop who j) (map (λ k. k.load) held) (λ i. refl) is.kept_all;
-        flights_are = flights_but j entries (Drop who j) flights (λ i. refl) refl is.flights_are;
+        flights_are = flights_but j entries (Drop who j) flights (λ i. refl) is.flights_are;
         flights_all = flights_all_but j entries (Drop who j) flights (λ i. refl) refl is.flights_all;
         tables_are = is.tables_are ∙ sym (tables_stay setting entries (Drop who j) legal refl);
         ends_fit = after;
@@ -52,21 +51,22 @@ module _ (setting : Setting) (entries : List Entry) (facts : FactsOf) (held : Li
 
   -- a load is delivered
   pub delivered :
-      (spare left : ℕ) (now : List Header → Type 0) (who : Who) (j : ℕ) (k : KeptOf) → IsManager setting entries spare facts held places flights tables → flying entries j ≡ true → left + 1 ≡ spare → now (headers_of (others j flights)) → k.load ≡ j
-      → IsKept setting.catalog (entries ++ Done who j ∷ []) k → IsManager setting (entries ++ Done who j ∷ []) left facts (held ++ k ∷ []) now (others j flights) tables
+      (spare left : ℕ) (now : List Header → Type 0) (who : Who) (j : ℕ) (k : KeptOf) → IsManager setting entries spare facts regions held places flights tables → flying entries j ≡ true → left + 1 ≡ spare → now (headers_of (others j flights)) → k.load ≡ j
+      → IsKept setting.catalog (entries ++ Done who j ∷ []) k → IsManager setting (entries ++ Done who j ∷ []) left facts regions (held ++ k ∷ []) now (others j flights) tables
   delivered spare left now who j k is flies room fit same keeps =
       let gone = length-others j flights (is.flights_all j flies) in
       let before : length flights + length flights + length held ≤ spare = is.ends_fit in
       let after : length (others j flights) + length (others j flights) + length (held ++ k ∷ []) ≤ left = omega (arith, gone, before, room, length_push held k) in
       record {
         facts_are = facts_on setting entries facts (Done who j) (λ cube. refl) refl is.facts_are;
+        regions_are = is.regions_are ∙ sym (regions_on entries (Done who j) refl);
         kept_are = All-push (IsKept setting.catalog (entries ++ Done who j ∷ [])) held k (all_kept_on setting entries (Done who j) held (λ i. refl) refl legal is.kept_are) keeps;
         kept_all = λ i h. ap (λ (loads : List ℕ). among loads i) (map-append (λ (o : KeptOf). o.load) held (k ∷ []))
             ∙ elim (kept_back entries (Done who j) i h) [
               | inl old ↦ among_still (map (λ o. o.load) held) k.load i (is.kept_all i old)
               | inr new ↦ among_last (map (λ o. o.load) held) k.load i (same ∙ eqb-true j i new)
             ];
-        flights_are = flights_but j entries (Done who j) flights (λ i. refl) refl is.flights_are;
+        flights_are = flights_but j entries (Done who j) flights (λ i. refl) is.flights_are;
         flights_all = flights_all_but j entries (Done who j) flights (λ i. refl) refl is.flights_all;
         tables_are = is.tables_are ∙ sym (tables_stay setting entries (Done who j) legal refl);
         ends_fit = after;
@@ -74,12 +74,13 @@ module _ (setting : Setting) (entries : List Entry) (facts : FactsOf) (held : Li
       }
 
   -- cells are answered
-  pub answered : (spare left : ℕ) (who : Who) (cells : List CellSource) → IsManager setting entries spare facts held places flights tables → closing flights held ≤ left → IsManager setting (entries ++ Answer who cells ∷ []) left facts held places flights tables
+  pub answered : (spare left : ℕ) (who : Who) (cells : List CellSource) → IsManager setting entries spare facts regions held places flights tables → closing flights held ≤ left → IsManager setting (entries ++ Answer who cells ∷ []) left facts regions held places flights tables
   answered spare left who cells is room = record {
     facts_are = facts_on setting entries facts (Answer who cells) (λ cube. refl) refl is.facts_are;
+    regions_are = is.regions_are ∙ sym (regions_on entries (Answer who cells) refl);
     kept_are = all_kept_on setting entries (Answer who cells) held (λ i. refl) refl legal is.kept_are;
     kept_all = kept_all_on entries (Answer who cells) (map (λ k. k.load) held) (λ i. refl) is.kept_all;
-    flights_are = all_flights_on entries (Answer who cells) flights (λ i. refl) refl is.flights_are;
+    flights_are = all_flights_on entries (Answer who cells) flights (λ i. refl) is.flights_are;
     flights_all = flights_all_on entries (Answer who cells) (map (λ f. f.load) flights) refl is.flights_all;
     tables_are = is.tables_are ∙ sym (tables_stay setting entries (Answer who cells) legal refl);
     ends_fit = room;
@@ -87,12 +88,13 @@ module _ (setting : Setting) (entries : List Entry) (facts : FactsOf) (held : Li
   }
 
   -- what is kept is shown
-  pub shown : (spare left : ℕ) (who : Who) → IsManager setting entries spare facts held places flights tables → closing flights held ≤ left → IsManager setting (entries ++ Saw who ∷ []) left facts held places flights tables
+  pub shown : (spare left : ℕ) (who : Who) → IsManager setting entries spare facts regions held places flights tables → closing flights held ≤ left → IsManager setting (entries ++ Saw who ∷ []) left facts regions held places flights tables
   shown spare left who is room = record {
     facts_are = facts_on setting entries facts (Saw who) (λ cube. refl) refl is.facts_are;
+    regions_are = is.regions_are ∙ sym (regions_on entries (Saw who) refl);
     kept_are = all_kept_on setting entries (Saw who) held (λ i. refl) refl legal is.kept_are;
     kept_all = kept_all_on entries (Saw who) (map (λ k. k.load) held) (λ i. refl) is.kept_all;
-    flights_are = all_flights_on entries (Saw who) flights (λ i. refl) refl is.flights_are;
+    flights_are = all_flights_on entries (Saw who) flights (λ i. refl) is.flights_are;
     flights_all = flights_all_on entries (Saw who) (map (λ f. f.load) flights) refl is.flights_all;
     tables_are = is.tables_are ∙ sym (tables_stay setting entries (Saw who) legal refl);
     ends_fit = room;
@@ -101,48 +103,50 @@ module _ (setting : Setting) (entries : List Entry) (facts : FactsOf) (held : Li
 
   -- a region is flushed: what it covers is shut off in each load
   pub flushed :
-      (spare left : ℕ) (now : List Header → Type 0) (who : Who) (region : Region) → IsManager setting entries spare facts held places flights tables → closing flights held ≤ left → ((headers : List Header) → places headers → now headers)
-      → IsManager setting (entries ++ Flush who region ∷ []) left facts (map (of_loads.shut_off region) held) now (map (of_flights.shut_off region) flights) tables
+      (spare left : ℕ) (now : List Header → Type 0) (who : Who) (region : Region) → IsManager setting entries spare facts regions held places flights tables → closing flights held ≤ left → ((headers : List Header) → places headers → now headers)
+      → IsManager setting (entries ++ Flush who region ∷ []) left facts (regions ++ region ∷ []) (map (of_loads.shut_off region) held) now flights tables
   flushed spare left now who region is room on = record {
     facts_are = facts_on setting entries facts (Flush who region) (λ cube. refl) refl is.facts_are;
+    regions_are = ap (λ (rs : List Region). rs ++ region ∷ []) is.regions_are ∙ sym (regions_more entries (Flush who region));
     kept_are = all_kept_shut setting entries who region held legal is.kept_are;
     kept_all = subst (λ (loads : List ℕ). (j : ℕ) → kept (entries ++ Flush who region ∷ []) j ≡ true → among loads j ≡ true) (sym (kept_numbers_shut region held))
         (kept_all_on entries (Flush who region) (map (λ k. k.load) held) (λ i. refl) is.kept_all);
-    flights_are = all_flights_shut entries who region flights is.flights_are;
-    flights_all = subst (λ (loads : List ℕ). (j : ℕ) → flying (entries ++ Flush who region ∷ []) j ≡ true → among loads j ≡ true) (sym (flight_numbers_shut region flights))
-        (flights_all_on entries (Flush who region) (map (λ f. f.load) flights) refl is.flights_all);
+    flights_are = all_flights_on entries (Flush who region) flights (λ i. refl) is.flights_are;
+    flights_all = flights_all_on entries (Flush who region) (map (λ f. f.load) flights) refl is.flights_all;
     tables_are = is.tables_are ∙ sym (tables_stay setting entries (Flush who region) legal refl);
-    ends_fit = omega (arith, length-map flights (of_flights.shut_off region), length-map held (of_loads.shut_off region), room);
-    places_fit = subst now (sym (flight_headers_shut region flights)) (on (headers_of flights) is.places_fit);
+    ends_fit = omega (arith, length-map held (of_loads.shut_off region), room);
+    places_fit = on (headers_of flights) is.places_fit;
   }
 
   -- a batch is appended
   pub appended :
-      (spare left : ℕ) (who : Who) (cube v : ℕ) (batch : FactRows) → IsManager setting entries spare facts held places flights tables → closing flights held ≤ left → cube < length facts.cubes → is_batch setting.catalog cube batch ≡ true
-      → IsManager setting (entries ++ Append who cube v batch.rows ∷ []) left (with_batch facts cube batch) held places flights tables
+      (spare left : ℕ) (who : Who) (cube v : ℕ) (batch : FactRows) → IsManager setting entries spare facts regions held places flights tables → closing flights held ≤ left → cube < length facts.cubes → is_batch setting.catalog cube batch ≡ true
+      → IsManager setting (entries ++ Append who cube v batch.rows ∷ []) left (with_batch facts cube batch) regions held places flights tables
   appended spare left who cube v batch is room known fits = record {
     facts_are = facts_more setting entries facts who cube v batch known fits is.facts_are;
+    regions_are = is.regions_are ∙ sym (regions_on entries (Append who cube v batch.rows) refl);
     kept_are = all_kept_on setting entries (Append who cube v batch.rows) held (λ i. refl) refl legal is.kept_are;
     kept_all = kept_all_on entries (Append who cube v batch.rows) (map (λ k. k.load) held) (λ i. refl) is.kept_all;
-    flights_are = all_flights_on entries (Append who cube v batch.rows) flights (λ i. refl) refl is.flights_are;
+    flights_are = all_flights_on entries (Append who cube v batch.rows) flights (λ i. refl) is.flights_are;
     flights_all = flights_all_on entries (Append who cube v batch.rows) (map (λ f. f.load) flights) refl is.flights_all;
     tables_are = is.tables_are ∙ sym (tables_stay setting entries (Append who cube v batch.rows) legal refl);
     ends_fit = room;
     places_fit = is.places_fit;
   }
 
-  -- a load is started, of which no part is shut off
+  -- a load is started, after the regions that were flushed
   pub starts :
-      (spare left : ℕ) (load : Load) (flight : FlightOf) → IsManager setting entries spare facts held places flights tables → closing flights held + 2 ≤ left → places (headers_of (flights ++ flight ∷ []))
-      → flight ≡ record { load = suc (length entries); who = load.who; header = load.header; version = load.version; shut = [] }
-      → IsManager setting (entries ++ Start load ∷ []) left facts held places (flights ++ flight ∷ []) tables
+      (spare left : ℕ) (load : Load) (flight : FlightOf) → IsManager setting entries spare facts regions held places flights tables → closing flights held + 2 ≤ left → places (headers_of (flights ++ flight ∷ []))
+      → flight ≡ record { load = suc (length entries); who = load.who; header = load.header; version = load.version; place = length regions }
+      → IsManager setting (entries ++ Start load ∷ []) left facts regions held places (flights ++ flight ∷ []) tables
   starts spare left load flight is room fit made =
       let number : flight.load ≡ suc (length entries) = ap (λ (f : FlightOf). f.load) made in
       record {
         facts_are = facts_on setting entries facts (Start load) (λ cube. refl) refl is.facts_are;
+        regions_are = is.regions_are ∙ sym (regions_on entries (Start load) refl);
         kept_are = all_kept_on setting entries (Start load) held (λ i. refl) refl legal is.kept_are;
         kept_all = kept_all_on entries (Start load) (map (λ k. k.load) held) (λ i. refl) is.kept_all;
-        flights_are = All-push (IsFlight (entries ++ Start load ∷ [])) flights flight (all_flights_on entries (Start load) flights (λ i. refl) refl is.flights_are)
+        flights_are = All-push (IsFlight (entries ++ Start load ∷ [])) flights flight (all_flights_on entries (Start load) flights (λ i. refl) is.flights_are)
             (subst (IsFlight (entries ++ Start load ∷ [])) (sym made)
             (record {
               load = load;
@@ -151,7 +155,7 @@ module _ (setting : Setting) (entries : List Entry) (facts : FactsOf) (held : Li
               who = refl;
               header = refl;
               version = refl;
-              shut = sym (loads_start_whole entries (Start load));
+              place = ap length (is.regions_are ∙ sym (regions_on entries (Start load) refl) ∙ ap regions_of (sym (take_all (suc (length entries)) (entries ++ Start load ∷ []) (let more = length_push entries (Start load) in omega (arith, more)))));
             }));
         flights_all = λ i h. ap (λ (loads : List ℕ). among loads i) (map-append (λ (f : FlightOf). f.load) flights (flight ∷ []))
             ∙ elim (flying_back entries (Start load) i h).1 [
@@ -165,16 +169,17 @@ module _ (setting : Setting) (entries : List Entry) (facts : FactsOf) (held : Li
 
   -- an aggregate table is installed
   pub installs :
-      (spare left : ℕ) (who : Who) (table : TableOf) (cube : ℕ) → IsManager setting entries spare facts held places flights tables → closing flights held ≤ left → table_cube setting.catalog table.table ≡ Some cube → table.version ≤ version entries cube
+      (spare left : ℕ) (who : Who) (table : TableOf) (cube : ℕ) → IsManager setting entries spare facts regions held places flights tables → closing flights held ≤ left → table_cube setting.catalog table.table ≡ Some cube → table.version ≤ version entries cube
       → built_over setting.catalog table.table table.version (rows_of entries cube table.version) ≡ Some table
-      → IsManager setting (entries ++ Agg who table.table table.version ∷ []) left facts held places flights (put table tables)
+      → IsManager setting (entries ++ Agg who table.table table.version ∷ []) left facts regions held places flights (put table tables)
   installs spare left who table cube is room known reached own =
       let entry : Entry = Agg who table.table table.version in
       record {
         facts_are = facts_on setting entries facts entry (λ cube. refl) refl is.facts_are;
+        regions_are = is.regions_are ∙ sym (regions_on entries entry refl);
         kept_are = all_kept_on setting entries entry held (λ i. refl) refl legal is.kept_are;
         kept_all = kept_all_on entries entry (map (λ k. k.load) held) (λ i. refl) is.kept_all;
-        flights_are = all_flights_on entries entry flights (λ i. refl) refl is.flights_are;
+        flights_are = all_flights_on entries entry flights (λ i. refl) is.flights_are;
         flights_all = flights_all_on entries entry (map (λ f. f.load) flights) refl is.flights_all;
         tables_are = ap (put table) is.tables_are ∙ sym (tables_built_more setting entries who table cube legal known reached own);
         ends_fit = room;

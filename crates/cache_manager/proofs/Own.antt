@@ -11,7 +11,7 @@ use Rattle.olap_meaning.proofs.Loads.{load_start, start_load}
 use Rattle.history_core.specs.Cache.{CacheOf}
 use Rattle.cache_manager.specs.Jobs.{IsOwn}
 use Rattle.history_core.specs.Seats.{actor, is_of_seat}
-use Rattle.cache_manager.proofs.Pushes.{flying_from}
+use Rattle.olap_meaning.proofs.Pushes.{flying_from}
 
 any_filtered : {A : Type 0} (keep test : A → Bool) (xs : List A) (i : ℕ) (x : A) → slice_get xs i ≡ Some x → keep x ≡ true → test x ≡ true → list_any test (filter keep xs) ≡ true
 any_filtered keep test [] i x at k t = absurd (cc)

@@ -10,6 +10,7 @@ use Rattle.olap_meaning.specs.declared.cells.Header.{Header}
 use Rattle.olap_meaning.specs.declared.cells.Who.{Who}
 use Rattle.olap_meaning.specs.Covering.{among}
 use Rattle.olap_meaning.specs.History.{Entry, Start, Load, ends, load_at, rows_of, version}
+use Rattle.olap_meaning.specs.declared.regions.Region.{Region}
 use Rattle.olap_meaning.specs.Legal.{Legal}
 use Rattle.olap_meaning.specs.Worth.{load_rows}
 use Rattle.olap_meaning.proofs.Growing.{legal_grows, version_grows}
@@ -39,7 +40,7 @@ use Rattle.cache_manager.specs.Kept.{IsManager, closing}
 use Rattle.cache_manager.specs.Plans.{AreLegalSteps, AreNew, ArePrepared, IsPrepared, flight_for}
 use Rattle.cache_manager.proofs.Managing.{among_back}
 use Rattle.cache_manager.proofs.Moves.{starts}
-use Rattle.cache_manager.proofs.Pushes.{any_none, load_last, load_on, recorded}
+use Rattle.olap_meaning.proofs.Pushes.{any_none, load_last, load_on, recorded}
 
 -- the step that was prepared
 abbrev pub step_of : Planned → Entry
@@ -113,21 +114,21 @@ module _ (allowing : Allowing) (cache : CacheOf) (who : Who) (wanted : List Cell
 
   -- the manager after the loads are started
   pub all_started :
-      (facts : FactsOf) (held : List KeptOf) (tables : List TableOf) (left : ℕ) (plans : List Planned) (entries : List Entry) (flights : List FlightOf) (n : ℕ) (cells : List Cell) → Legal cache.setting entries → AreLegalSteps cache.setting entries (map step_of plans)
-      → ArePrepared allowing cache who wanted n cells plans → n ≡ suc (length entries) → IsManager cache.setting entries left facts held anywhere flights tables → closing flights held + length plans + length plans ≤ left
-      → IsManager cache.setting (entries ++ map step_of plans) left facts held anywhere (flights ++ map (λ p. flight_for p.flight) plans) tables
-  all_started facts held tables left [] entries flights n cells legal steps are number is room = rw (append-nil entries, append-nil flights) is
-  all_started facts held tables left (p ∷ ps) entries flights n [] legal steps are number is room = absurd are
-  all_started facts held tables left (p ∷ ps) entries flights n (c ∷ cs) legal steps are number is room =
-      let made : flight_for p.flight ≡ record { load = suc (length entries); who = who; header = p.job.header; version = version cache.entries c.cube; shut = [] } =
-      ap flight_for are.0.flight ∙ ap (λ (m : ℕ). flight_for (record { load = m; who = who; header = p.job.header; version = version cache.entries c.cube })) number in
-      let first : IsManager cache.setting (entries ++ step_of p ∷ []) left facts held anywhere (flights ++ flight_for p.flight ∷ []) tables =
-      subst (λ (e : Entry). IsManager cache.setting (entries ++ e ∷ []) left facts held anywhere (flights ++ flight_for p.flight ∷ []) tables) (sym are.0.start)
-      (starts cache.setting entries facts held anywhere flights tables legal left left (load_of c p) (flight_for p.flight) is (omega (arith, room)) tt made) in
-      rw (← append_assoc entries (step_of p ∷ []) (map step_of ps), ← append_assoc flights (flight_for p.flight ∷ []) (map (λ q. flight_for q.flight) ps))
-      (all_started facts held tables left ps (entries ++ step_of p ∷ []) (flights ++ flight_for p.flight ∷ []) (suc n) cs (legal_grows cache.setting entries (step_of p) legal steps.0) steps.1 are.1
+      (facts : FactsOf) (regions : List Region) (held : List KeptOf) (tables : List TableOf) (left : ℕ) (plans : List Planned) (entries : List Entry) (flights : List FlightOf) (n : ℕ) (cells : List Cell) → Legal cache.setting entries → AreLegalSteps cache.setting entries (map step_of plans)
+      → ArePrepared allowing cache who wanted n cells plans → n ≡ suc (length entries) → IsManager cache.setting entries left facts regions held anywhere flights tables → closing flights held + length plans + length plans ≤ left
+      → IsManager cache.setting (entries ++ map step_of plans) left facts regions held anywhere (flights ++ map (λ p. flight_for (length regions) p.flight) plans) tables
+  all_started facts regions held tables left [] entries flights n cells legal steps are number is room = rw (append-nil entries, append-nil flights) is
+  all_started facts regions held tables left (p ∷ ps) entries flights n [] legal steps are number is room = absurd are
+  all_started facts regions held tables left (p ∷ ps) entries flights n (c ∷ cs) legal steps are number is room =
+      let made : flight_for (length regions) p.flight ≡ record { load = suc (length entries); who = who; header = p.job.header; version = version cache.entries c.cube; place = length regions } =
+      ap (flight_for (length regions)) are.0.flight ∙ ap (λ (m : ℕ). flight_for (length regions) (record { load = m; who = who; header = p.job.header; version = version cache.entries c.cube })) number in
+      let first : IsManager cache.setting (entries ++ step_of p ∷ []) left facts regions held anywhere (flights ++ flight_for (length regions) p.flight ∷ []) tables =
+      subst (λ (e : Entry). IsManager cache.setting (entries ++ e ∷ []) left facts regions held anywhere (flights ++ flight_for (length regions) p.flight ∷ []) tables) (sym are.0.start)
+      (starts cache.setting entries facts regions held anywhere flights tables legal left left (load_of c p) (flight_for (length regions) p.flight) is (omega (arith, room)) tt made) in
+      rw (← append_assoc entries (step_of p ∷ []) (map step_of ps), ← append_assoc flights (flight_for (length regions) p.flight ∷ []) (map (λ q. flight_for (length regions) q.flight) ps))
+      (all_started facts regions held tables left ps (entries ++ step_of p ∷ []) (flights ++ flight_for (length regions) p.flight ∷ []) (suc n) cs (legal_grows cache.setting entries (step_of p) legal steps.0) steps.1 are.1
       (let long = length_push entries (step_of p) in omega (arith, long, number)) first
-      (let more = length_push flights (flight_for p.flight) in omega (arith, more, room)))
+      (let more = length_push flights (flight_for (length regions) p.flight) in omega (arith, more, room)))
 
   -- the cache at some entries
   abbrev at : List Entry → CacheOf

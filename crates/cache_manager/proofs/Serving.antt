@@ -7,6 +7,7 @@ use Rattle.std.proofs.lemmas.Bool.{and_from, and_parts, both_ways, eqb-true, fal
 use Rattle.std.proofs.lemmas.List.Elements.{All-contains, All-head, All-tail}
 use Rattle.olap_meaning.specs.declared.cells.Cell.{Cell}
 use Rattle.olap_meaning.specs.declared.cells.Header.{Header}
+use Rattle.olap_meaning.specs.declared.regions.Region.{Region}
 use Rattle.olap_meaning.specs.declared.tables.Catalog.{Catalog}
 use Rattle.olap_meaning.specs.Covering.{among, header_covers, just_covers, names_column, region_covers}
 use Rattle.olap_meaning.specs.History.{Entry, Load, exact_source, flushed_after, is_some_and, kept, live, load_at, load_covers, load_just_covers}
@@ -18,10 +19,10 @@ use Rattle.fact_reader.specs.BodyRows.{body_value}
 use Rattle.fact_reader.proofs.LawFacts.{held_rows_are_worth_in_versions}
 use Rattle.cache_flush.specs.declared.kept.Kept.{Kept}
 use Rattle.cache_flush.specs.Loads as of_loads
-use Rattle.cache_flush.specs.Loads.{IsGreatest, KeptOf, kept_of}
+use Rattle.cache_flush.specs.Loads.{IsGreatest, KeptOf, kept_in}
 use Rattle.cache_flush.specs.Shuts.{is_live}
 use Rattle.cache_manager.specs.Kept.{IsKept}
-use Rattle.cache_manager.proofs.Pushes.{load_within}
+use Rattle.olap_meaning.proofs.Pushes.{load_within}
 
 -- a kept load by its number, with what holds of all
 pub load_among :
@@ -96,18 +97,18 @@ module _ (catalog : Catalog) (entries : List Entry) (cell : Cell) where
         omega (arith, most, back.2))
 
     -- the same of what is found
-    pub source_found : (r : Option (Bor Kept)) → IsGreatest held cell (option_map kept_of (option_copied r)) → exact_source entries cell ≡ option_map (λ (k : Kept). k.load) (option_copied r)
-    source_found None g = source_is_greatest None g
-    source_found (Some b) g = source_is_greatest (Some (kept_of b.now)) g
+    pub source_found : (regions : List Region) (r : Option (Bor Kept)) → IsGreatest held cell (option_map (kept_in regions) (option_copied r)) → exact_source entries cell ≡ option_map (λ (k : Kept). k.load) (option_copied r)
+    source_found regions None g = source_is_greatest None g
+    source_found regions (Some b) g = source_is_greatest (Some (kept_in regions b.now)) g
 
-  pub found_kept : (held : List KeptOf) (r : Option (Bor Kept)) → All (IsKept catalog entries) held → IsGreatest held cell (option_map kept_of (option_copied r)) → IfSome r (λ b. IsKept catalog entries (kept_of b.now))
-  found_kept held None all g = tt
-  found_kept held (Some b) all g = All-contains (IsKept catalog entries) held (kept_of b.now) all g.0
+  pub found_kept : (held : List KeptOf) (regions : List Region) (r : Option (Bor Kept)) → All (IsKept catalog entries) held → IsGreatest held cell (option_map (kept_in regions) (option_copied r)) → IfSome r (λ b. IsKept catalog entries (kept_in regions b.now))
+  found_kept held regions None all g = tt
+  found_kept held regions (Some b) all g = All-contains (IsKept catalog entries) held (kept_in regions b.now) all g.0
 
 -- it covers the cell with just its columns
-pub found_serves : (held : List KeptOf) (cell : Cell) (r : Option (Bor Kept)) → IsGreatest held cell (option_map kept_of (option_copied r)) → IfSome r (λ b. just_covers b.now.body.header cell ≡ true)
-found_serves held cell None g = tt
-found_serves held cell (Some b) g = (and_parts (just_covers b.now.body.header cell) (is_live b.now.shut.regions cell) g.1).0
+pub found_serves : (held : List KeptOf) (cell : Cell) (regions : List Region) (r : Option (Bor Kept)) → IsGreatest held cell (option_map (kept_in regions) (option_copied r)) → IfSome r (λ b. just_covers b.now.body.header cell ≡ true)
+found_serves held cell regions None g = tt
+found_serves held cell regions (Some b) g = (and_parts (just_covers b.now.body.header cell) (is_live (kept_in regions b.now).shut cell) g.1).0
 
 -- what a cell is worth, by the body of its exact source, and in which version
 pub kept_version : (catalog : Catalog) (entries : List Entry) (k : KeptOf) (cell : Cell) → IsKept catalog entries k → answered_version entries (record { cell = cell; loads = k.load ∷ [] }) ≡ Some k.version

@@ -7,6 +7,7 @@ use Rattle.std.proofs.lemmas.Bool.{both_ways, eq-eqb, eqb-true, or_cases, or_lef
 use Rattle.std.proofs.lemmas.List.Elements.{All-head, All-tail}
 use Rattle.cell_groups.proofs.HeaderFacts.{passing_there, rise_passing, there_passes}
 use Rattle.olap_meaning.specs.declared.cells.Header.{Header}
+use Rattle.olap_meaning.specs.declared.regions.Region.{Region}
 use Rattle.olap_meaning.specs.declared.tables.Catalog.{Catalog}
 use Rattle.olap_meaning.specs.Covering.{among, touching}
 use Rattle.olap_meaning.specs.Legal.{rise}
@@ -15,11 +16,11 @@ use Rattle.olap_meaning.proofs.Shutting.{touching_are_counted}
 use Rattle.history_core.specs.declared.answers.CacheLine.{CacheLine}
 use Rattle.history_core.specs.Groups.{numbers_from}
 use Rattle.cache_flush.specs.declared.kept.Kept.{Kept}
-use Rattle.cache_flush.specs.Loads.{KeptOf, kept_of}
+use Rattle.cache_flush.specs.Loads.{KeptOf, kept_in}
 use Rattle.cache_manager.specs.Kept.{IsKept}
 use Rattle.history_core.specs.Shown.{cache_lines, kept_line, line_of}
 use Rattle.cache_manager.proofs.Managing.{numbers_kept}
-use Rattle.cache_manager.proofs.Pushes.{load_within}
+use Rattle.olap_meaning.proofs.Pushes.{load_within}
 use Rattle.cache_manager.proofs.Rising.{same_rising}
 use Rattle.cache_manager.proofs.Serving.{load_among}
 
@@ -37,9 +38,9 @@ kept_found P (k ∷ ks) j all h = by (k.load == j) refl (kept_found P ks j (All-
         pass other rest = (rest.0, rw other rest.1, rest.2, rest.3)
 
 -- and so is what the shelf answers
-pub some_kept : (r : Option (Bor Kept)) (k : KeptOf) → option_map kept_of (option_copied r) ≡ Some k → (b : Bor Kept) × (r ≡ Some b) × (kept_of b.now ≡ k)
-some_kept None k h = absurd (cc)
-some_kept (Some b) k h = (b, refl, cc)
+pub some_kept : (regions : List Region) (r : Option (Bor Kept)) (k : KeptOf) → option_map (kept_in regions) (option_copied r) ≡ Some k → (b : Bor Kept) × (r ≡ Some b) × (kept_in regions b.now ≡ k)
+some_kept regions None k h = absurd (cc)
+some_kept regions (Some b) k h = (b, refl, cc)
 
 module _ (catalog : Catalog) (entries : List Entry) where
   -- the line of a kept load

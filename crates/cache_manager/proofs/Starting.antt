@@ -52,10 +52,10 @@ next_new before number all front x new so_far within at =
     subst (λ (xs : List ℕ). among (before ++ xs) (number x) ≡ false) fronts (new_at before (map number all) (length front) (number x) new there)
 
 -- the numbers in flight, with those of loads that were started
-pub numbers_started : (flights : List FlightOf) (plans : List Planned) → numbers_of (flights ++ map (λ p. flight_for p.flight) plans) ≡ numbers_of flights ++ map (λ p. p.flight.load) plans
-numbers_started [] [] = refl
-numbers_started [] (p ∷ ps) = ap (λ (ns : List ℕ). p.flight.load ∷ ns) (numbers_started [] ps)
-numbers_started (f ∷ fs) plans = ap (λ (ns : List ℕ). f.load ∷ ns) (numbers_started fs plans)
+pub numbers_started : (place : ℕ) (flights : List FlightOf) (plans : List Planned) → numbers_of (flights ++ map (λ p. flight_for place p.flight) plans) ≡ numbers_of flights ++ map (λ p. p.flight.load) plans
+numbers_started place [] [] = refl
+numbers_started place [] (p ∷ ps) = ap (λ (ns : List ℕ). p.flight.load ∷ ns) (numbers_started place [] ps)
+numbers_started place (f ∷ fs) plans = ap (λ (ns : List ℕ). f.load ∷ ns) (numbers_started place fs plans)
 
 -- the headers of the first loads, with one more
 pub headers_more :

@@ -2,6 +2,7 @@
 use Rattle.std.specs.Prelude.{ℕ, ◌≡◌, ◌<◌, ⊤, List, [], ◌∷◌, Bool, true, false, Some, IsTrue, length, map, option_map, slice_get, unwrap_or}
 use Rattle.olap_meaning.specs.declared.cells.Cell.{Cell}
 use Rattle.olap_meaning.specs.declared.cells.CellSource.{CellSource}
+use Rattle.olap_meaning.specs.declared.regions.Region.{Region}
 use Rattle.olap_meaning.specs.declared.tables.Catalog.{Catalog}
 use Rattle.olap_meaning.specs.Covering.{just_covers}
 use Rattle.olap_meaning.specs.History.{Entry, exact_source}
@@ -12,6 +13,7 @@ use Rattle.history_core.specs.Answers.{AreSources}
 use Rattle.history_core.specs.Cache.{CacheOf}
 use Rattle.history_core.specs.Groups.{wanting}
 use Rattle.cache_flush.specs.Loads.{KeptOf, kept_of}
+use Rattle.cache_flush.specs.declared.kept.Kept.{Kept}
 use Rattle.cache_manager.specs.Kept.{IsKept}
 use Rattle.cell_groups.specs.Lent.{lent}
 use Rattle.cache_manager.specs.Rollups.{cell_at, first_serving}
@@ -29,10 +31,15 @@ pub record IsExact (catalog : Catalog) (entries : List Entry) (cell : Cell) (kep
   pub is : IsKept catalog entries kept
   pub serves : IsTrue (just_covers kept.body.header cell)
 
+-- so is one that is lent, whatever shuts off part of it
+abbrev pub IsExactBy : Catalog → List Entry → Cell → Kept → Type 0
+IsExactBy catalog entries cell kept =
+    (shut : List Region) × IsExact catalog entries cell (record (kept_of kept) { shut = shut })
+
 -- what is found for a cell: the kept load that is its exact source; that it is a cell of a rollup; or that it has no
 -- source
 abbrev pub IsFound : Catalog → List Entry → List Rollup → Cell → Found → Type 0
-IsFound catalog entries rollups cell (Exact kept) = IsExact catalog entries cell (kept_of kept.now)
+IsFound catalog entries rollups cell (Exact kept) = IsExactBy catalog entries cell kept.now
 IsFound catalog entries rollups cell (Rolled rollup place) =
     cell_at rollups rollup place ≡ Some cell
 IsFound catalog entries rollups cell Nothing = has_source catalog entries cell ≡ false

@@ -1,12 +1,13 @@
 -- What a manager keeps beside its history, and what that means in the history.
-use Rattle.std.specs.Prelude.{ℕ, ◌≡◌, ◌≤◌, ◌+◌, List, All, IsTrue, Some, filter_map, length, map}
+use Rattle.std.specs.Prelude.{ℕ, ◌≡◌, ◌≤◌, ◌+◌, List, All, IsTrue, Some, filter_map, length, map, take}
 use Rattle.olap_meaning.specs.declared.TheConstants.{ROW_LIMIT}
 use Rattle.olap_meaning.specs.declared.cells.Header.{Header}
+use Rattle.olap_meaning.specs.declared.regions.Region.{Region}
 use Rattle.olap_meaning.specs.declared.tables.Catalog.{Catalog}
 use Rattle.olap_meaning.specs.declared.tables.Setting.{Setting}
 use Rattle.olap_meaning.specs.Covering.{among}
 use Rattle.olap_meaning.specs.History as history
-use Rattle.olap_meaning.specs.History.{Entry, Load, appended, flying, load_at, rows_of, shutting, version}
+use Rattle.olap_meaning.specs.History.{Entry, Load, appended, flushed, flying, load_at, rows_of, shutting, version}
 use Rattle.olap_meaning.specs.Legal as legal
 use Rattle.fact_versions.specs.Facts.{FactsOf, batches_of, rows_held}
 use Rattle.segment_header.specs.Headers.{is_header}
@@ -41,8 +42,12 @@ pub record IsKept (catalog : Catalog) (entries : List Entry) (kept : KeptOf) : T
       kept.body
   pub shut : kept.shut ≡ shutting entries kept.load
 
--- a load in flight is one that flies: by whom, of its header and version, and what shuts off part of it is what the
--- history says
+-- the regions that a history flushed, in order
+abbrev pub regions_of : List Entry → List Region
+regions_of entries = filter_map flushed entries
+
+-- a load in flight is one that flies: by whom, of its header and version, and its place is how many regions were flushed
+-- before its Start
 pub record IsFlight (entries : List Entry) (flight : FlightOf) : Type 0 where
   pub load : Load
   pub started : load_at entries flight.load ≡ Some load
@@ -50,7 +55,7 @@ pub record IsFlight (entries : List Entry) (flight : FlightOf) : Type 0 where
   pub who : flight.who ≡ load.who
   pub header : flight.header ≡ load.header
   pub version : flight.version ≡ load.version
-  pub shut : flight.shut ≡ shutting entries flight.load
+  pub place : flight.place ≡ length (regions_of (take flight.load entries))
 
 -- the headers of loads in flight
 abbrev pub headers_of : List FlightOf → List Header
@@ -61,13 +66,14 @@ headers_of flights = map (λ flight. flight.header) flights
 abbrev pub closing : List FlightOf → List KeptOf → ℕ
 closing flights loads = length flights + length flights + length loads
 
--- what a manager keeps is what its history says: the facts, each kept load and no other, each load in flight and no
--- other, and of each aggregate table the one that was built last; and there is room for the entries that close all of this,
--- and a place on the shelf for each load in flight
+-- what a manager keeps is what its history says: the facts, the regions that were flushed, each kept load and no other,
+-- each load in flight and no other, and of each aggregate table the one that was built last; and there is room for the
+-- entries that close all of this, and a place on the shelf for each load in flight
 pub record IsManager (setting : Setting) (entries : List Entry) (spare : ℕ) (facts : FactsOf)
-    (loads : List KeptOf) (has_places : List Header → Type 0) (flights : List FlightOf)
+    (regions : List Region) (loads : List KeptOf) (has_places : List Header → Type 0) (flights : List FlightOf)
     (tables : List TableOf) : Type 0 where
   pub facts_are : AreFactsOf setting entries facts
+  pub regions_are : regions ≡ regions_of entries
   pub kept_are : All (IsKept setting.catalog entries) loads
   pub kept_all : (j : ℕ) → IsTrue (history.kept entries j)
       → IsTrue (among (kept.numbers_of loads) j)

@@ -20,15 +20,15 @@ use Rattle.load_sharing.specs.Flights.{FlightOf}
 use Rattle.cache_manager.specs.declared.starts.Flying.{Flying}
 use Rattle.cache_manager.specs.declared.starts.Planned.{Planned}
 
--- a load that is about to fly, as one in flight of which no part is shut off
-abbrev pub flight_for : Flying → FlightOf
-flight_for flying =
+-- a load that is about to fly, as one in flight, with its place among the regions that were flushed
+abbrev pub flight_for : ℕ → Flying → FlightOf
+flight_for place flying =
     record {
       load = flying.load;
       who = flying.who;
       header = flying.header;
       version = flying.version;
-      shut = [];
+      place = place;
     }
 
 -- what a load of a header from a version of a cube reads: the cheapest of the facts and the tables that were built

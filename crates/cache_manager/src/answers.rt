@@ -3,8 +3,7 @@ ghost use Rattle.std.specs.Prelude.{◌≡◌, ◌<◌, ◌++◌, ◌∷◌, [],
 ghost use Rattle.std.specs.List.{list_all};
 ghost use Rattle.olap_meaning.specs.Legal.{is_cell};
 ghost use Rattle.olap_meaning.specs.Worth.{answered_version, worth};
-ghost use Rattle.cache_flush.specs.Loads.{kept_of};
-ghost use Rattle.cache_manager.specs.Found.{IsExact, IsHit, IsPlaced, cells_of, loads_found, source_found, wants};
+ghost use Rattle.cache_manager.specs.Found.{IsExactBy, IsHit, IsPlaced, cells_of, loads_found, source_found, wants};
 ghost use Rattle.cache_manager.specs.Rollups.{AreRolledUp, IsWorth};
 
 use crate::findings::{Found, Hit};
@@ -18,8 +17,7 @@ use std::alloc::Global;
 /// What a cell is worth, by its exact source.
 fn exact_worth(history: &History, cell: &Cell, kept: &Kept) -> Answered
     requires known { IsTrue (is_cell history.now.setting.catalog cell.now) }
-    requires exact { IsExact history.now.setting.catalog history.now.entries cell.now
-        (kept_of kept.now) }
+    requires exact { IsExactBy history.now.setting.catalog history.now.entries cell.now kept.now }
     ensures { IsWorth history.now.setting.catalog history.now.entries (kept.now.load ∷ [])
         cell.now result }
 {

@@ -21,6 +21,7 @@ fn evict_oldest(history: &mut History, shelf: &mut SegmentIndex)
     ensures entry { (load : ℕ) × (history.new.entries ≡ history.old.entries ++ Evict load ∷ []) }
     ensures kept { AreKept history.new.setting.catalog history.new.entries shelf.new.loads }
     ensures fewer { length shelf.new.loads + 1 ≡ length shelf.old.loads }
+    ensures flushed { shelf.new.flushed ≡ shelf.old.flushed }
     ensures spare { history.new.spare + 1 ≡ history.old.spare }
     ensures places { (headers : List Header)
         → has_places shelf.old headers → has_places shelf.new headers }
@@ -42,6 +43,7 @@ pub(crate) fn evict(history: &mut History, shelf: &mut SegmentIndex)
     ensures evicted { (loads : List ℕ)
         × (history.new.entries ≡ history.old.entries ++ map Evict loads) }
     ensures kept { AreKept history.new.setting.catalog history.new.entries shelf.new.loads }
+    ensures flushed { shelf.new.flushed ≡ shelf.old.flushed }
     ensures within { kept_groups history.new.setting.catalog history.new.entries
         ≤ history.new.setting.budget }
     ensures spare { history.new.spare + length shelf.old.loads

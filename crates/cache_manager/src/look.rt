@@ -21,6 +21,7 @@ use crate::jobs::LoadJob;
 use crate::manager::{Manager, room_for};
 use crate::outcome::Look;
 use crate::starts::{Flying, Planned, reserve_places, start_all};
+use cache_flush::Shelf;
 use cell_groups::{Group, group_cells, header_for};
 use history_core::{Answer, CellSources, Entry};
 use load_sharing::Flights;
@@ -290,7 +291,14 @@ impl Manager {
             jobs.destroy_empty();
             return Err(error);
         }
-        start_all(&mut self.history, &mut self.flights, &mut jobs, plans);
+        let place = self.shelf.shut_list().len();
+        start_all(
+            &mut self.history,
+            &mut self.flights,
+            &mut jobs,
+            plans,
+            place,
+        );
         Ok(List::from_vec(jobs))
     }
 }

@@ -60,12 +60,12 @@ impl Model for Manager {
 
     ghost view = { λ a. record { setting = a.history.setting; entries = a.history.entries } };
 
-    ghost invariant = { λ a. IsManager a.history.setting a.history.entries a.history.spare a.facts a.shelf.loads (has_places a.shelf) a.flights.flights a.installed };
+    ghost invariant = { λ a. IsManager a.history.setting a.history.entries a.history.spare a.facts a.shelf.flushed a.shelf.loads (has_places a.shelf) a.flights.flights a.installed };
 }
 
 impl Manager {
-    /// The manager of a cache in which nothing has happened. A limit of rows is over all cubes; the budget is how many
-    /// groups the kept loads may hold after an answer.
+    /// The manager of a cache in which nothing has happened. A limit of rows is over all cubes; the budget is the most
+    /// groups that the kept loads have after an answer.
     pub fn new(
         alloc: Global,
         catalog: Arc<Catalog>,
@@ -206,12 +206,12 @@ impl Manager {
         self.history.steps_are_legal();
         let version = self.version_in_flight(load);
         self.history.push(Entry::Done { who, load });
-        let shut = self.flights.end(load);
+        let place = self.flights.end(load);
         self.shelf.insert(Kept {
             load,
             version,
             body,
-            shut,
+            place,
         });
     }
 
@@ -235,7 +235,7 @@ impl Manager {
     /// Flushes the cells of a region (Cache Control): no load that was started before serves them from now on. A load of
     /// which only some cells are covered serves the others on; that is so also of the loads in flight, once they are
     /// delivered. It answers the position of its entry. All its room is made first: where there is no memory, nothing has
-    /// changed.
+    /// changed. What it costs does not grow with the loads that are kept.
     pub fn flush(&mut self, who: Who, region: Region) -> Result<u64, OutOfMemory>
         requires call { IsTrue (is_next_call self.old.entries who) }
         requires flushable { IsTrue (is_flushable self.old.setting.catalog region) }
@@ -246,20 +246,8 @@ impl Manager {
     {
         self.history.steps_are_legal();
         let region = Arc::new(self.alloc, region)?;
-        let room = make_room(
-            &mut self.history,
-            &mut self.shelf,
-            &mut self.flights,
-            &region,
-        )?;
-        shut_off(
-            &mut self.history,
-            &mut self.shelf,
-            &mut self.flights,
-            who,
-            region,
-            room,
-        );
+        make_room(&mut self.history, &mut self.shelf, &self.flights, &region)?;
+        shut_off(&mut self.history, &mut self.shelf, who, region);
         Ok(self.history.len())
     }
 }

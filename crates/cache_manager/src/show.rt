@@ -43,7 +43,7 @@ impl Manager {
             load,
             version: kept.version,
             header: copy_header(self.alloc, header)?,
-            flushes: kept.shut.count(header),
+            flushes: kept.flushes(self.shelf.shut_list()),
         })
     }
 

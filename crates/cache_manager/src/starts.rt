@@ -38,6 +38,7 @@ fn release_places(shelf: &mut SegmentIndex, plans: &[Planned])
     requires places { (headers : List Header)
         × has_places shelf.old (headers ++ map (λ planned. planned.flight.header) plans.now) }
     ensures loads { shelf.new.loads ≡ shelf.old.loads }
+    ensures flushed { shelf.new.flushed ≡ shelf.old.flushed }
     ensures kept { (headers : List Header)
         → has_places shelf.old (headers ++ map (λ planned. planned.flight.header) plans.now)
         → has_places shelf.new headers }
@@ -51,6 +52,7 @@ fn release_places(shelf: &mut SegmentIndex, plans: &[Planned])
 /// made.
 pub(crate) fn reserve_places(shelf: &mut SegmentIndex, plans: &[Planned]) -> Result<(), OutOfMemory>
     ensures loads { shelf.new.loads ≡ shelf.old.loads }
+    ensures flushed { shelf.new.flushed ≡ shelf.old.flushed }
     ensures kept { (headers : List Header)
         → has_places shelf.old headers → has_places shelf.new headers }
     ensures ok { OnOk result ((headers : List Header) → has_places shelf.old headers
@@ -65,12 +67,13 @@ pub(crate) fn reserve_places(shelf: &mut SegmentIndex, plans: &[Planned]) -> Res
     Ok(())
 }
 
-/// Starts loads. It takes no memory: the room is there.
+/// Starts loads, with their place among the regions that were flushed. It takes no memory: the room is there.
 pub(crate) fn start_all(
     history: &mut History,
     flights: &mut Flights,
     jobs: &mut Vec<LoadJob>,
     plans: Vec<Planned>,
+    place: u64,
 )
     requires legal { AreLegalSteps history.old.setting history.old.entries
         (map (λ planned. entry_of planned.start) plans.items) }
@@ -85,13 +88,19 @@ pub(crate) fn start_all(
         ++ map (λ planned. entry_of planned.start) plans.items }
     ensures spare { history.new.spare + length plans.items ≡ history.old.spare }
     ensures flights { flights.new.flights ≡ flights.old.flights
-        ++ map (λ planned. flight_for planned.flight) plans.items }
+        ++ map (λ planned. flight_for place planned.flight) plans.items }
     ensures jobs { jobs.new.items ≡ jobs.old.items ++ map (λ planned. planned.job) plans.items }
 {
     for planned in plans {
         history.push(planned.start);
         let flight = planned.flight;
-        flights.start(flight.load, flight.who, flight.header, flight.version);
+        flights.start(
+            flight.load,
+            flight.who,
+            flight.header,
+            flight.version,
+            place,
+        );
         jobs.push_reserved(LoadJob {
             segment: planned.job,
         });

@@ -7,6 +7,7 @@ ghost use Rattle.history_core.specs.Groups.{awaited_loads, unawaited};
 ghost use Rattle.cell_groups.specs.Lent.{lent};
 
 use crate::manager::Manager;
+use cache_flush::Shelf;
 use olap_meaning::{Cell, List, OutOfMemory};
 
 impl Manager {
@@ -14,7 +15,7 @@ impl Manager {
     fn awaited(&self, cell: &Cell) -> Option<u64>
         ensures { result ≡ history.awaited_load self.now.entries cell.now }
     {
-        self.flights.flying(cell)
+        self.flights.flying(self.shelf.shut_list(), cell)
     }
 
     /// Those of some cells that await no load in flight, in order.

@@ -27,7 +27,7 @@ use Rattle.cache_opening.specs.declared.fault.OpenFault.{OpenFault}
 use Rattle.cache_opening.specs.declared.fault.OpenFault.TheVariants as fault
 use Rattle.cache_opening.specs.Asking.{Asking, made, refused, ask, ◌>>=◌, Leads, bytes_of, read_by}
 
--- how many groups the kept loads of a cache may hold
+-- the most groups that the kept loads of a cache have after an answer
 abbrev pub budget : ℕ
 budget = 1_000_000
 

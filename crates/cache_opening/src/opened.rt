@@ -20,7 +20,7 @@ use std::alloc::Global;
 use std::sync::Arc;
 use std::sync::ledger::Ledger;
 
-/// How many groups the kept loads may hold (no effect yet).
+/// The most groups that the kept loads have after an answer.
 pub const BUDGET: u64 = 1_000_000;
 
 /// Opens a cache from a schema's file: it reads the schema, the tables of its dimensions, the base batches of its cubes

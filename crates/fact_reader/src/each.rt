@@ -181,8 +181,8 @@ fn add_pieces_to_each<L: Ledger>(
 }
 
 /// Adds the rows of a version to each of some bodies, as far as their headers allow them. The bodies are alike: they differ at
-/// most in their measures, their aggregators and the numbers of their rows. Each row is handed out once, for a step. Where memory
-/// is wanting, nothing is said of the bodies.
+/// most in their measures, their aggregators and the numbers of their rows. Each row is handed out once, for a step. Where there
+/// is no memory, nothing is said of the bodies.
 pub fn add_to_each<L: Ledger>(
     alloc: Global,
     catalog: &Catalog,

@@ -115,7 +115,7 @@ impl History {
         self.row_limit
     }
 
-    /// How many groups the segments of the cache may hold.
+    /// The most groups that the kept loads have after an answer.
     pub fn budget(&self) -> u64
         ensures { result ≡ self.now.setting.budget }
     {

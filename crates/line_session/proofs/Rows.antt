@@ -12,10 +12,10 @@ use Rattle.load_costs.specs.Costs.{seat_costs}
 use Rattle.load_costs.proofs.CostFacts.{costs-append}
 use Rattle.history_core.specs.Seats.{is_of_seat}
 use Rattle.history_core.specs.Cache.{CacheOf}
-use Rattle.line_session.specs.Desks.{DeskOf, GoesOn, costs_between, costs_behind, with_more}
+use Rattle.line_session.specs.Desks.{DeskOf, GoesOn, costs_between, costs_after, with_more}
 
 -- what the entries after a history cost a seat
-pub started_are : (catalog : Catalog) (seat : ℕ) (before final more : List Entry) → final ≡ before ++ more → costs_behind catalog seat before final ≡ seat_costs catalog seat before more
+pub started_are : (catalog : Catalog) (seat : ℕ) (before final more : List Entry) → final ≡ before ++ more → costs_after catalog seat before final ≡ seat_costs catalog seat before more
 started_are catalog seat before final more grown = ap (seat_costs catalog seat before) (ap (drop (length before)) grown ∙ drop-append_seam before more)
 
 -- an entry of a seat, or an eviction

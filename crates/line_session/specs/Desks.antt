@@ -98,10 +98,10 @@ is_start_or_done (Done who load) = true
 is_start_or_done _ = false
 
 -- no load is started after one that was given up
-abbrev pub none_behind_drops : List Entry → Bool
-none_behind_drops [] = true
-none_behind_drops (Drop who load ∷ entries) = list_all is_end entries
-none_behind_drops (entry ∷ entries) = none_behind_drops entries
+abbrev pub none_after_drops : List Entry → Bool
+none_after_drops [] = true
+none_after_drops (Drop who load ∷ entries) = list_all is_end entries
+none_after_drops (entry ∷ entries) = none_after_drops entries
 
 -- a load is one that a look at some cells may start: that of one of their groups, with a header as may be allowed
 pub record MayBeStarted (allowing : Allowing) (cache : CacheOf) (who : Who) (cells : List Cell)
@@ -176,8 +176,8 @@ AreLoadsEnded allowing cache who cells more =
     × (more ≡ map Start (loads_with cache who cells headers) ++ ends))
 
 -- cells were answered: the loads that they lack, each delivered, and then, as the last entry except for evictions, the
--- answer to the cells at that time, with the sources that it tells; no load of the seat flies. A desk alone starts the loads of one look, and
--- none where each cell has a source
+-- answer to the cells at that time, with the sources that it tells; no load of the seat flies. A desk alone starts the
+-- loads of one look, and none where each cell has a source
 pub record HasAsked (allowing : Allowing) (before after : DeskOf) (cells : List Cell)
     (answer : Answer) : Type 0 where
   pub who : Who
@@ -201,7 +201,7 @@ pub record HasNotAsked (allowing : Allowing) (before after : DeskOf)
   pub goes_on : GoesOnBy before after more
   pub fronts : after.fronts ≡ before.fronts
   pub loads : AreLoadsFor allowing before.cache who cells more
-  pub given_up : none_behind_drops (entries_of more before.seat) ≡ true
+  pub given_up : none_after_drops (entries_of more before.seat) ≡ true
   pub idle : IsIdle after
   pub alone : before.alone ≡ true → AreLoadsEnded allowing before.cache who cells more
 
@@ -267,11 +267,11 @@ pub record HasReadFront (before after : DeskOf) (front : ℕ) : Type 0 where
   pub fronts : after.fronts ≡ option_map (λ fronts. fronts ++ front ∷ []) before.fronts
 
 -- what the entries after a history cost a seat: its loads, and the tables that it has built, each by the entries before it
-abbrev pub costs_behind : Catalog → ℕ → List Entry → List Entry → ℕ
-costs_behind catalog seat before after =
+abbrev pub costs_after : Catalog → ℕ → List Entry → List Entry → ℕ
+costs_after catalog seat before after =
     seat_costs catalog seat before (drop (length before) after)
 
 -- what the entries between two states cost a desk's seat
 abbrev pub costs_between : DeskOf → DeskOf → ℕ
 costs_between before after =
-    costs_behind before.cache.setting.catalog before.seat before.cache.entries after.cache.entries
+    costs_after before.cache.setting.catalog before.seat before.cache.entries after.cache.entries

@@ -1,8 +1,7 @@
 -- Loads in flight, as they are seen: their numbers, and what is left where one is taken out.
-use Rattle.std.proofs.Common.{◌≡◌, ◌∙◌, ◌++◌, ℕ, suc, true, false, not, List, [], ◌∷◌, Some, refl, ap, map, take, drop, slice_get, filter, option_map}
+use Rattle.std.proofs.Common.{◌≡◌, ◌∙◌, ◌++◌, ℕ, suc, true, false, not, List, [], ◌∷◌, Some, refl, map, take, drop, slice_get, filter, option_map}
 use Rattle.std.specs.Prelude.{◌==◌}
 use Rattle.std.proofs.lemmas.Option.{slice_get-map}
-use Rattle.olap_meaning.specs.declared.regions.Region.{Region}
 use Rattle.olap_meaning.specs.Covering.{among}
 use Rattle.olap_meaning.proofs.Lists.{option_map-map}
 use Rattle.cache_flush.specs.Loads.{are_different}
@@ -19,11 +18,6 @@ module _ {X Y : Type 0} where
   differ_with g f xs x differ another =
       rw (map_append f xs (x ∷ []), map_append g (map f xs) (f x ∷ [])) (differ_more (map g (map f xs)) (g (f x)) differ another)
 
--- regions change no number
-pub same_flights : (region : Region) (flights : List FlightOf) → flying.numbers_of (map (flying.shut_off region) flights) ≡ flying.numbers_of flights
-same_flights region [] = refl
-same_flights region (f ∷ flights) = ap (λ (zs : List _). f.load ∷ zs) (same_flights region flights)
-
 -- a place, as it is seen
 seen_place : (flights : List Flight) (place load : ℕ) → option_map (λ flight. flight.load) (slice_get flights place) ≡ Some load → option_map (λ flight. flight.load) (slice_get (map flight_of flights) place) ≡ Some load
 seen_place flights place load is = rw (slice_get-map flight_of flights place, option_map-map (λ flight. flight.load) flight_of (slice_get flights place)) is
@@ -39,7 +33,7 @@ pub left_differ : (flights : List Flight) (place load : ℕ) → are_different (
 left_differ flights place load differ is =
     rw (left_flights flights place load differ is) (differ_fewer (λ flight. flight.load) (λ flight. not (flight.load == load)) (map flight_of flights) differ)
 
--- what shuts off part of the load that is taken out
-pub taken_shut : (flights : List Flight) (place load : ℕ) (taken : Flight) → are_different (flying.numbers_of (map flight_of flights)) ≡ true → option_map (λ flight. flight.load) (slice_get flights place) ≡ Some load → slice_get flights place ≡ Some taken → option_map (λ flight. flight.shut) (flying.flight_at (map flight_of flights) load) ≡ Some taken.shut.regions
-taken_shut flights place load taken differ is at =
+-- the place of the load that is taken out
+pub taken_place : (flights : List Flight) (place load : ℕ) (taken : Flight) → are_different (flying.numbers_of (map flight_of flights)) ≡ true → option_map (λ flight. flight.load) (slice_get flights place) ≡ Some load → slice_get flights place ≡ Some taken → option_map (λ flight. flight.place) (flying.flight_at (map flight_of flights) load) ≡ Some taken.place
+taken_place flights place load taken differ is at =
     rw (found_by (λ flight. flight.load) (map flight_of flights) place load differ (seen_place flights place load is), slice_get-map flight_of flights place, at) refl

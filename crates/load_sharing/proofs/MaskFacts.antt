@@ -1,13 +1,11 @@
--- The counts of the masks of the loads in flight: where a load is started, where one ends, and where a region shuts off part
--- of each.
+-- The counts of the masks of the loads in flight: where a load is started, and where one ends.
 use Rattle.std.proofs.Common.{◌≡◌, ◌≤◌, ◌+◌, ◌-◌, ◌++◌, ℕ, suc, Bool, true, false, List, [], ◌∷◌, Some, refl, arith, map, take, drop, slice_get, cond, nat_eq, length, if◌then◌else◌}
 use Rattle.std.proofs.lemmas.List.{length-map}
-use Rattle.std.proofs.lemmas.List.Sums.{count_by-le-length, sum_by-cons, sum_by_push}
+use Rattle.std.proofs.lemmas.List.Sums.{count_by-le-length, sum_by_push}
 use Rattle.std.proofs.lemmas.Option.{slice_get-map}
-use Rattle.olap_meaning.specs.declared.regions.Region.{Region}
 use Rattle.segment_header.specs.Masks.{header_mask}
 use Rattle.cache_flush.proofs.ListFacts.{map_append, remove_mapped}
-use Rattle.load_sharing.specs.Flights.{FlightOf, flight_of, shut_off}
+use Rattle.load_sharing.specs.Flights.{FlightOf, flight_of}
 use Rattle.load_sharing.specs.declared.flight.Flight.{Flight}
 use Rattle.load_sharing.specs.Masks.{count_at}
 use Rattle.load_sharing.specs.Counted.{AreMaskCounts, count_with}
@@ -38,17 +36,6 @@ counted_less counts after flights place taken mask own at counted less q =
     let all = sum_without (λ (f : FlightOf). cond (nat_eq (header_mask f.header) q) 1 0) (map flight_of flights) place (flight_of taken) seen in
     rw (remove_mapped flight_of flights place, less q, counted q, own)
     (one_less (nat_eq (header_mask taken.header) q) (count_with q (map flight_of flights)) (count_with q (take place (map flight_of flights) ++ drop (suc place) (map flight_of flights))) all)
-
--- a region changes no mask
-with_shut : (region : Region) (q : ℕ) (flights : List FlightOf) → count_with q (map (shut_off region) flights) ≡ count_with q flights
-with_shut region q [] = refl
-with_shut region q (f ∷ flights) =
-    let before = sum_by-cons (λ (f : FlightOf). cond (nat_eq (header_mask f.header) q) 1 0) f flights in
-    let after = sum_by-cons (λ (f : FlightOf). cond (nat_eq (header_mask f.header) q) 1 0) (shut_off region f) (map (shut_off region) flights) in
-    rw (before, after, with_shut region q flights) refl
-
-pub counted_shut : (counts : List (ℕ × ℕ)) (region : Region) (flights : List FlightOf) → AreMaskCounts counts flights → AreMaskCounts counts (map (shut_off region) flights)
-counted_shut counts region flights counted q = rw (with_shut region q flights) (counted q)
 
 -- no mask is counted more often than there are loads
 pub count_within : (counts : List (ℕ × ℕ)) (flights : List Flight) (q : ℕ) → AreMaskCounts counts (map flight_of flights) → count_at counts q ≤ length flights

@@ -5,24 +5,21 @@ ghost use Rattle.olap_meaning.specs.Covering.{among};
 ghost use Rattle.segment_header.specs.Headers.{is_header};
 ghost use Rattle.load_sharing.specs.Flights as flying;
 ghost use Rattle.load_sharing.specs.Flights.{IsLeastAwaited, flight_at, flight_of, is_less, numbers_of};
-ghost use Rattle.cache_flush.specs.Handles.{AreHandles};
 ghost use Rattle.cache_flush.specs.Loads.{are_different};
 
 use crate::flight::Flight;
 use crate::masks::Masks;
-use cache_flush::{Shut, handles_of, next_handle};
-use olap_meaning::{Cell, Header, List, OutOfMemory, Region, Version, Who};
+use cache_flush::Shut;
+use olap_meaning::{Cell, Header, OutOfMemory, Version, Who};
 use segment_header::{cell_mask, header_mask};
 use std::alloc::Global;
 use std::marker::Model;
-use std::sync::Arc;
 
-/// The loads in flight, in the order in which they were started, each with the regions that shut off part of it. Room is
-/// made by `reserve` and `reserve_shut`. The room for loads that was made and is not used yet is counted: what the containers
-/// have beyond it is not promised to anybody.
+/// The loads in flight, in the order in which they were started. A flush changes nothing here: each load knows its place
+/// among the regions that were flushed, and those after it shut off part of the load. Room is made by `reserve`. The room that
+/// was made and is not used yet is counted: what the containers have beyond it is not promised to anybody.
 #[derive(Drop)]
 pub struct Flights {
-    alloc: Global,
     flights: Vec<Flight>,
     masks: Masks,
     places: usize,
@@ -37,7 +34,7 @@ impl Model for Flights {
 
     ghost Value = { FlightsOf };
 
-    ghost view = { λ a. record { flights = map flight_of a.flights.items; places = a.places; rooms = map (λ flight. flight.shut.spare) a.flights.items } };
+    ghost view = { λ a. record { flights = map flight_of a.flights.items; places = a.places } };
 
     ghost invariant = { λ a. IsTrue (are_different (numbers_of (map flight_of a.flights.items)))
         × AreMaskCounts a.masks.counts (map flight_of a.flights.items)
@@ -55,10 +52,9 @@ fn some_flies_for(flights: &[Flight], seat: u32) -> bool
 impl Flights {
     /// No load in flight. It takes no memory.
     pub fn new(alloc: Global) -> Flights
-        ensures { result ≡ record { flights = []; places = 0; rooms = [] } }
+        ensures { result ≡ record { flights = []; places = 0 } }
     {
         Flights {
-            alloc,
             flights: Vec::new(alloc),
             masks: Masks::new(alloc),
             places: 0,
@@ -121,15 +117,16 @@ impl Flights {
         Some(&flight.header)
     }
 
-    /// The least load in flight that a cell awaits: one that covers the cell with just its columns, and that no region shuts off
-    /// for it; None exactly where there is none. It takes no memory. A cell whose columns no load in flight has costs one look-up.
-    pub fn flying(&self, cell: &Cell) -> Option<u64>
-        ensures { IsLeastAwaited self.now.flights cell.now result }
+    /// The least load in flight that a cell awaits, where some regions were flushed: one that covers the cell with just its
+    /// columns, and that no region after its place shuts off for it; None exactly where there is none. It takes no memory. A cell
+    /// whose columns no load in flight has costs one look-up.
+    pub fn flying(&self, shut: &Shut, cell: &Cell) -> Option<u64>
+        ensures { IsLeastAwaited shut.now.regions self.now.flights cell.now result }
     {
         if !self.masks.has(cell_mask(cell)) {
             return None;
         }
-        least_awaited(self.flights.as_slice(), cell)
+        least_awaited(self.flights.as_slice(), shut, cell)
     }
 
     /// Makes room for this many loads more, so that starting them takes no memory.
@@ -146,8 +143,8 @@ impl Flights {
         Ok(())
     }
 
-    /// Adds a load of which no part is shut off. It takes no memory: the room is there.
-    pub fn start(&mut self, load: u64, who: Who, header: Header, version: Version)
+    /// Adds a load, with its place among the regions that were flushed. It takes no memory: the room is there.
+    pub fn start(&mut self, load: u64, who: Who, header: Header, version: Version, place: u64)
         requires place { 0 < self.old.places }
         requires another { IsFalse (among (numbers_of self.old.flights) load) }
         requires header { IsTrue (is_header header) }
@@ -158,53 +155,30 @@ impl Flights {
               who = who;
               header = header;
               version = version;
-              shut = [];
+              place = place;
             } ∷ [] }
         ensures places { self.new.places + 1 ≡ self.old.places }
     {
         self.masks.add(header_mask(&header));
         self.flights
-            .push_reserved(Flight::new(self.alloc, load, who, header, version));
+            .push_reserved(Flight::new(load, who, header, version, place));
         self.places -= 1;
     }
 
-    /// Makes room for one region more in what shuts off part of each load in flight, and as many handles of the region as
-    /// loads are in flight. The loads stay as they were, also where there is no memory.
-    pub fn reserve_shut(&mut self, region: &Arc<Region>) -> Result<List<Arc<Region>>, OutOfMemory>
-        ensures handles { IfOk result (AreHandles region.now.value (length self.old.flights)) }
-        ensures rooms { OnOk result (All (λ room. 0 < room) self.new.rooms) }
-        ensures flights { self.new.flights ≡ self.old.flights }
-        ensures places { self.new.places ≡ self.old.places }
-    {
-        let handles = handles_of(self.alloc, region, self.flights.len())?;
-        reserve_each(&mut self.flights, region)?;
-        Ok(handles)
-    }
-
-    /// Adds a region to what shuts off part of each load in flight that it concerns, by handles of it. It takes no memory.
-    pub fn shut(&mut self, region: &Region, handles: List<Arc<Region>>)
-        requires handles { AreHandles region.now (length self.old.flights) handles }
-        requires rooms { All (λ room. 0 < room) self.old.rooms }
-        ensures flights { self.new.flights
-            ≡ map (flying.shut_off region.now) self.old.flights }
-        ensures places { self.new.places ≡ self.old.places }
-    {
-        shut_each(&mut self.flights, region, handles.into_vec());
-    }
-
-    /// Takes a load out, and hands over what shuts off part of it; the others keep their order. It takes no memory.
-    pub fn end(&mut self, load: u64) -> Shut
+    /// Takes a load out, and tells its place among the regions that were flushed; the others keep their order. It takes no
+    /// memory.
+    pub fn end(&mut self, load: u64) -> u64
         requires { IsTrue (among (numbers_of self.old.flights) load) }
         ensures flights { self.new.flights
             ≡ filter (λ flight. not (flight.load == load)) self.old.flights }
-        ensures shut { option_map (λ flight. flight.shut) (flight_at self.old.flights load)
-            ≡ Some result.regions }
+        ensures place { option_map (λ flight. flight.place) (flight_at self.old.flights load)
+            ≡ Some result }
         ensures places { self.old.places ≤ self.new.places }
     {
         let place = place_of(self.flights.as_slice(), load);
         let flight = self.flights.remove(place);
         self.masks.remove(header_mask(&flight.header));
-        flight.shut
+        flight.place
     }
 }
 
@@ -241,37 +215,14 @@ fn is_less(load: u64, least: Option<u64>) -> bool
 }
 
 // The least of the loads in flight that a cell awaits.
-fn least_awaited(flights: &[Flight], cell: &Cell) -> Option<u64>
-    ensures { IsLeastAwaited (map flight_of flights.now) cell.now result }
+fn least_awaited(flights: &[Flight], shut: &Shut, cell: &Cell) -> Option<u64>
+    ensures { IsLeastAwaited shut.now.regions (map flight_of flights.now) cell.now result }
 {
     let mut least = None;
     for flight in flights {
-        if is_less(flight.load, least) && flight.is_awaited(cell) {
+        if is_less(flight.load, least) && flight.is_awaited(shut, cell) {
             least = Some(flight.load);
         }
     }
     least
-}
-
-// Makes room for a region in what shuts off part of each load.
-fn reserve_each(flights: &mut [Flight], region: &Region) -> Result<(), OutOfMemory>
-    ensures rooms { OnOk result (All (λ flight. 0 < flight.shut.spare) flights.new) }
-    ensures flights { map flight_of flights.new ≡ map flight_of flights.old }
-{
-    for flight in flights.iter_mut() {
-        flight.reserve_shut(region)?;
-    }
-    Ok(())
-}
-
-// Adds a region to what shuts off part of each load that it concerns.
-fn shut_each(flights: &mut [Flight], region: &Region, mut handles: Vec<Arc<Region>>)
-    requires handles { AreHandles region.now (length flights.old) handles.items }
-    requires rooms { All (λ flight. 0 < flight.shut.spare) flights.old }
-    ensures { map flight_of flights.new
-        ≡ map (flying.shut_off region.now) (map flight_of flights.old) }
-{
-    for flight in flights.iter_mut() {
-        flight.shut_off(next_handle(&mut handles, region));
-    }
 }

@@ -29,7 +29,7 @@ use Rattle.history_core.specs.Seats.{NoneFlies, is_of_seat, entries_of}
 use Rattle.history_core.specs.Shown.{cache_lines}
 use Rattle.load_costs.specs.Costs.{seat_costs, version_rows}
 use Rattle.installed_tables.specs.Installed.{groups_built, present_rows, present_version}
-use Rattle.line_session.specs.Desks.{AddsAnswer as Answered, AddsCall, AreLoadsFor, DeskOf, GoesOnBy, HasAppended, HasAsked, HasBuilt, HasFlushed, HasNotAsked, HasShown, costs_between, delivered_with, is_start_or_done, load_numbers, none_behind_drops, with_more}
+use Rattle.line_session.specs.Desks.{AddsAnswer as Answered, AddsCall, AreLoadsFor, DeskOf, GoesOnBy, HasAppended, HasAsked, HasBuilt, HasFlushed, HasNotAsked, HasShown, costs_between, delivered_with, is_start_or_done, load_numbers, none_after_drops, with_more}
 use Rattle.line_session.proofs.Rows.{started_are}
 use Rattle.manager_desk.specs.Delivered.{cost_by}
 use Rattle.manager_desk.specs.Ends.{AddsAnswer, AddsEnded}
@@ -126,10 +126,10 @@ module _ (allowing : Allowing) (before : CacheOf) (who : Who) (cells : List Cell
     | inr some ↦ subst (λ (es : List Entry). AreLoadsFor allowing before who cells es) (sym some.4) (are_loads_for allowing before who cells some.0 some.1 some.2 some.3)
   ]
 
-  ended_behind : (after : CacheOf) (adds : AddsEnded allowing before after who cells) → none_behind_drops adds.more ≡ true
+  ended_behind : (after : CacheOf) (adds : AddsEnded allowing before after who cells) → none_after_drops adds.more ≡ true
   ended_behind after adds = elim adds.ended [
-    | inl none ↦ ap none_behind_drops none
-    | inr some ↦ ap none_behind_drops some.4 ∙ none_behind who (loads_with before who cells some.0) (load_numbers before cells) some.2 some.3
+    | inl none ↦ ap none_after_drops none
+    | inr some ↦ ap none_after_drops some.4 ∙ none_behind who (loads_with before who cells some.0) (load_numbers before cells) some.2 some.3
   ]
 
   -- cells that were not answered
@@ -145,7 +145,7 @@ module _ (allowing : Allowing) (before : CacheOf) (who : Who) (cells : List Cell
         goes_on = goes_on before after adds.more adds.setting adds.entries own;
         fronts = refl;
         loads = ended_loads after adds;
-        given_up = ap none_behind_drops (own_entries 1 adds.more own) ∙ ended_behind after adds;
+        given_up = ap none_after_drops (own_entries 1 adds.more own) ∙ ended_behind after adds;
         idle = λ j load at own. quiet j;
         alone = λ _. adds.ended;
       }

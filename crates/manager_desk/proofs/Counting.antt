@@ -22,7 +22,8 @@ use Rattle.load_costs.proofs.CostFacts.{cost_on}
 use Rattle.manager_desk.specs.Delivered.{cost_by, costs_delivered}
 use Rattle.manager_desk.specs.Keeping.{IsCount}
 use Rattle.manager_desk.proofs.Lists.{sum_none, sum_same}
-use Rattle.manager_desk.proofs.Seeing.{all_evictions, flying_parts}
+use Rattle.olap_meaning.proofs.Pushes.{flying_parts}
+use Rattle.manager_desk.proofs.Seeing.{all_evictions}
 use Rattle.olap_meaning.specs.declared.cells.CellSource.{CellSource}
 
 -- a delivered load was started

@@ -19,7 +19,8 @@ use Rattle.line_session.specs.Desks.{with_more}
 use Rattle.manager_desk.specs.Ends.{AreEndsOf, AreOut, EndsJobs, done_of, end_of}
 use Rattle.manager_desk.specs.Keeping.{IsCount}
 use Rattle.manager_desk.proofs.Joining.{same_cache}
-use Rattle.manager_desk.proofs.Seeing.{flying_back, other_loads}
+use Rattle.olap_meaning.proofs.Pushes.{flying_back}
+use Rattle.manager_desk.proofs.Seeing.{other_loads}
 
 end_ends : (job : JobOf) (b : Bool) (j : ℕ) → ends j (end_of job b) ≡ (job.load == j)
 end_ends job true j = refl

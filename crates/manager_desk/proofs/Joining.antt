@@ -24,11 +24,12 @@ use Rattle.segment_header.specs.Widening.{Allowing}
 use Rattle.history_core.specs.Seats.{NoneFlies}
 use Rattle.cache_manager.specs.Jobs.{IsJobOf}
 use Rattle.cache_manager.specs.Laws.{DeliveredLooksAreReady}
-use Rattle.line_session.specs.Desks.{AreEnds, AreHeadersOf, delivered_with, is_of_load, load_numbers, costs_behind, with_more}
+use Rattle.line_session.specs.Desks.{AreEnds, AreHeadersOf, delivered_with, is_of_load, load_numbers, costs_after, with_more}
 use Rattle.manager_desk.specs.Ends.{AddsAnswer, AddsEnded, AreOut, EndsJobs, done_of}
 use Rattle.manager_desk.proofs.Looks.{look_parts}
 use Rattle.manager_desk.proofs.Counting.{count_answer}
-use Rattle.manager_desk.proofs.Seeing.{all_evictions, flying_back, idle_on, later_unevicted, no_loads_awaited, numbers_above, serving_headers}
+use Rattle.olap_meaning.proofs.Pushes.{flying_back}
+use Rattle.manager_desk.proofs.Seeing.{all_evictions, idle_on, later_unevicted, no_loads_awaited, numbers_above, serving_headers}
 use Rattle.manager_desk.specs.Keeping.{IsCount}
 use Rattle.manager_desk.proofs.Own.{dones_of_call, ends_of_call, loads_counted, loads_own, parts_all}
 use Rattle.line_session.proofs.Rows.{started_are}
@@ -130,7 +131,7 @@ idle_answered before after who cells adds idle =
 pub count_answered : (before after : CacheOf) (who : Who) (cells : List CellSource) (read : ℕ) → Legal before.setting before.entries → AddsEvicting before after (Answer who cells) → IsCount before.setting.catalog before.entries read → IsCount before.setting.catalog after.entries read
 count_answered before after who cells read legal adds count = count_answer before.setting before.entries after.entries who cells adds.evicted read legal adds.entries count
 
-pub cost_answered : (before after : CacheOf) (who : Who) (cells : List CellSource) → AddsEvicting before after (Answer who cells) → costs_behind before.setting.catalog 1 before.entries after.entries ≡ 0
+pub cost_answered : (before after : CacheOf) (who : Who) (cells : List CellSource) → AddsEvicting before after (Answer who cells) → costs_after before.setting.catalog 1 before.entries after.entries ≡ 0
 cost_answered before after who cells adds =
     started_are before.setting.catalog 1 before.entries after.entries (Answer who cells ∷ map Evict adds.evicted) adds.entries
     ∙ answer_costs_none before.setting.catalog before.entries who cells adds.evicted
@@ -245,7 +246,7 @@ module _ (allowing : Allowing) (before middle : CacheOf) (who : Who) (cells : Li
   -- what the jobs cost, beside what came after the Starts
   cost_by_starts :
       (after rest : List Entry) → after ≡ middle.entries ++ rest → who.seat ≡ 1
-      → costs_behind before.setting.catalog 1 before.entries after ≡ sum_by job_cost jobs + seat_costs before.setting.catalog 1 middle.entries rest
+      → costs_after before.setting.catalog 1 before.entries after ≡ sum_by job_cost jobs + seat_costs before.setting.catalog 1 middle.entries rest
   cost_by_starts after rest grown seat =
       let starts = map Start (loads_with before who cells headers) in
       let catalog = before.setting.catalog in
@@ -255,13 +256,13 @@ module _ (allowing : Allowing) (before middle : CacheOf) (who : Who) (cells : Li
       ∙ ap (λ (m : ℕ). m + seat_costs catalog 1 (before.entries ++ starts) rest) (ap (λ (s : Setting). seat_costs s.catalog 1 before.entries starts) (sym look.setting) ∙ sym (whole_jobs.1 seat))
       ∙ ap (λ (es : List Entry). sum_by job_cost jobs + seat_costs catalog 1 es rest) (sym look.entries)
 
-  pub cost_ended : (after : List Entry) (ended : EndsJobs middle.entries after jobs) → who.seat ≡ 1 → costs_behind before.setting.catalog 1 before.entries after ≡ sum_by job_cost jobs + seat_costs before.setting.catalog 1 middle.entries ended.ends
+  pub cost_ended : (after : List Entry) (ended : EndsJobs middle.entries after jobs) → who.seat ≡ 1 → costs_after before.setting.catalog 1 before.entries after ≡ sum_by job_cost jobs + seat_costs before.setting.catalog 1 middle.entries ended.ends
   cost_ended after ended seat = cost_by_starts after ended.ends ended.entries seat
 
   -- where they were all delivered and the cells were answered, it is just what the jobs cost
   pub cost_in_all :
       (done after : CacheOf) (cells : List CellSource) → who.seat ≡ 1 → done.entries ≡ middle.entries ++ map done_of jobs → AddsEvicting done after (Answer who cells)
-      → costs_behind before.setting.catalog 1 before.entries after.entries ≡ sum_by job_cost jobs
+      → costs_after before.setting.catalog 1 before.entries after.entries ≡ sum_by job_cost jobs
   cost_in_all done after cells seat delivered adds =
       let catalog = before.setting.catalog in
       let last = Answer who cells ∷ map Evict adds.evicted in

@@ -15,9 +15,9 @@ use Rattle.history_core.specs.Cache.{CacheOf}
 use Rattle.history_core.specs.Groups.{IsHeaderFor, alike, firsts, load_with, loads_with, wanted_of}
 use Rattle.segment_header.specs.Widening.{Allowing}
 use Rattle.history_core.specs.Seats.{actor, entries_of}
-use Rattle.line_session.specs.Desks.{AreEnds, AreHeadersOf, AreLoadsFor, IsLoadOfLook, IsOfLook, MayBeStarted, is_end, is_of_load, load_numbers, none_behind_drops, with_more}
+use Rattle.line_session.specs.Desks.{AreEnds, AreHeadersOf, AreLoadsFor, IsLoadOfLook, IsOfLook, MayBeStarted, is_end, is_of_load, load_numbers, none_after_drops, with_more}
 use Rattle.manager_desk.proofs.Lists.{get_before, get_behind}
-use Rattle.manager_desk.proofs.Seeing.{load_within}
+use Rattle.olap_meaning.proofs.Pushes.{load_within}
 use Rattle.manager_desk.proofs.Own.{IsPartOf, ends_parts, ends_start_none, loads_own, own_entries, parts_all, parts_seat, starts_parts}
 
 start_back : (loads : List Load) (ends : List Entry) (i : ℕ) (load : Load) → All (λ e. started e ≡ None) ends → slice_get (map Start loads ++ ends) i ≡ Some (Start load) → slice_get loads i ≡ Some load
@@ -40,7 +40,7 @@ ends_all who (j ∷ js) (e ∷ es) are = elim are.0 [
   | inr drop ↦ rw drop (ends_all who js es are.1)
 ]
 
-ends_behind : (who : Who) (js : List ℕ) (es : List Entry) → AreEnds who js es → none_behind_drops es ≡ true
+ends_behind : (who : Who) (js : List ℕ) (es : List Entry) → AreEnds who js es → none_after_drops es ≡ true
 ends_behind who [] [] are = refl
 ends_behind who [] (e ∷ es) are = absurd are
 ends_behind who (j ∷ js) [] are = absurd are
@@ -49,7 +49,7 @@ ends_behind who (j ∷ js) (e ∷ es) are = elim are.0 [
   | inr drop ↦ rw drop (ends_all who js es are.1)
 ]
 
-pub none_behind : (who : Who) (loads : List Load) (js : List ℕ) (ends : List Entry) → AreEnds who js ends → none_behind_drops (map Start loads ++ ends) ≡ true
+pub none_behind : (who : Who) (loads : List Load) (js : List ℕ) (ends : List Entry) → AreEnds who js ends → none_after_drops (map Start loads ++ ends) ≡ true
 none_behind who [] js ends are = ends_behind who js ends are
 none_behind who (load ∷ loads) js ends are = none_behind who loads js ends are
 

@@ -17,7 +17,7 @@ use Rattle.olap_meaning.proofs.Evicting.{kept_within, oldest_is_least}
 use Rattle.olap_meaning.proofs.Loads.{load_start, start_load}
 use Rattle.olap_meaning.proofs.Members.{filter_member, none_in}
 use Rattle.olap_meaning.proofs.Positions.{after_passes, entry_within, get_push}
-use Rattle.olap_meaning.proofs.Steps.{prefixes_are_legal}
+use Rattle.olap_meaning.proofs.Pushes.{eviction_of, flying_back, front_legal}
 use Rattle.segment_header.specs.Widening.{Allowing, Serves}
 use Rattle.segment_load.specs.Loads.{JobOf}
 use Rattle.history_core.specs.Answers.{Waits}
@@ -26,56 +26,6 @@ use Rattle.history_core.specs.Groups.{AreHeadersFor, IsHeaderFor, alike, awaited
 use Rattle.history_core.specs.Seats.{NoneFlies}
 use Rattle.cache_manager.specs.Jobs.{apart}
 use Rattle.std.specs.Prelude.{Contains}
-
--- a load that was started
-some_load : (o : Option Load) → is_some o ≡ true → (load : Load) × (o ≡ Some load)
-some_load None h = absurd (cc)
-some_load (Some load) h = (load, refl)
-
-pub load_within : (history : List Entry) (j : ℕ) (load : Load) → load_at history j ≡ Some load → (1 ≤ j) × (j ≤ length history)
-load_within history j load at = entry_within history j (Start load) (load_start history j load at)
-
-load_new :
-    (history : List Entry) (entry : Entry) (j : ℕ) (load : Load) → load_at (history ++ entry ∷ []) j ≡ Some load
-    → (load_at history j ≡ Some load) ⊎ ((j ≡ suc (length history)) × (started entry ≡ Some load))
-load_new history entry zero load at = absurd (cc)
-load_new history entry (suc i) load at =
-    elim (get_push history entry i (Start load) (load_start (history ++ entry ∷ []) (suc i) load at)) [
-      | inl stood ↦ inl (start_load history (suc i) load stood)
-      | inr last ↦ inr (ap suc last.0, ap started (sym last.1))
-    ]
-
-any_more : (test : Entry → Bool) (history : List Entry) (entry : Entry) → list_any test (history ++ entry ∷ []) ≡ (list_any test history || (test entry || false))
-any_more test history entry = list_any-append test history (entry ∷ [])
-
-any_on : (test : Entry → Bool) (history : List Entry) (entry : Entry) → list_any test history ≡ true → list_any test (history ++ entry ∷ []) ≡ true
-any_on test history entry h = any_more test history entry ∙ or_left _ _ h
-
-any_last : (test : Entry → Bool) (history : List Entry) (entry : Entry) → test entry ≡ true → list_any test (history ++ entry ∷ []) ≡ true
-any_last test history entry h = any_more test history entry ∙ or_right _ _ (or_left _ _ h)
-
-pub flying_parts : (history : List Entry) (j : ℕ) → flying history j ≡ true → (load : Load) × (load_at history j ≡ Some load) × (list_any (ends j) history ≡ false)
-flying_parts history j h =
-    let parts = and_parts (is_some (load_at history j)) (not (list_any (ends j) history)) h in
-    let load = some_load (load_at history j) parts.0 in
-    (load.0, load.1, not-true _ parts.1)
-
-flying_from : (history : List Entry) (j : ℕ) (load : Load) → load_at history j ≡ Some load → list_any (ends j) history ≡ false → flying history j ≡ true
-flying_from history j load at none = and_from (is_some (load_at history j)) (not (list_any (ends j) history)) (ap is_some at) (not_from_false _ none)
-
--- what flies then flew before, or was just started
-pub flying_back :
-    (history : List Entry) (entry : Entry) (j : ℕ) → flying (history ++ entry ∷ []) j ≡ true
-    → (ends j entry ≡ false) × ((flying history j ≡ true) ⊎ ((j ≡ suc (length history)) × (is_some (started entry) ≡ true)))
-flying_back history entry j h =
-    let parts = flying_parts (history ++ entry ∷ []) j h in
-    let unended : list_any (ends j) history ≡ false = false_from_ne_true _ (λ e. both_ways _ parts.2 (any_on (ends j) history entry e)) in (
-      false_from_ne_true _ (λ e. both_ways _ parts.2 (any_last (ends j) history entry e)),
-      elim (load_new history entry j parts.0 parts.1) [
-        | inl at ↦ inl (flying_from history j parts.0 at unended)
-        | inr new ↦ inr (new.0, ap is_some new.1)
-      ],
-    )
 
 -- entries that start no load leave nothing flying that did not fly
 pub still_idle : (before after : List Entry) (entry : Entry) → started entry ≡ None → after ≡ before ++ entry ∷ [] → NoneFlies before → NoneFlies after
@@ -117,25 +67,11 @@ none_waits cache cells loads idle waits =
 pub later_unevicted : (setting : Setting) (history : List Entry) (j : ℕ) → Legal setting history → length history < j → list_any (evicts j) history ≡ false
 later_unevicted setting history j legal late = false_from_ne_true _ some
   where
-    front_legal : (b : ℕ) → Legal setting (take b history)
-    front_legal b = prefixes_are_legal setting (take b history) (drop b history) (subst (Legal setting) (sym (take-append-drop b history)) legal)
-
-    one : (e : Entry) → evicts j e ≡ true → e ≡ Evict j
-    one (Append w c v r) d = absurd (cc)
-    one (Agg w t v) d = absurd (cc)
-    one (Flush w r) d = absurd (cc)
-    one (Start l) d = absurd (cc)
-    one (Done w k) d = absurd (cc)
-    one (Drop w k) d = absurd (cc)
-    one (Evict k) d = ap Evict (eqb-true k j d)
-    one (Answer w cs) d = absurd (cc)
-    one (Saw w) d = absurd (cc)
-
     at : (q : ℕ) (e : Entry) → entry_at history q ≡ Some e → evicts j e ≡ true → ⊥
     at zero e here d = absurd (cc)
     at (suc b) e here d =
-        let step : IsLegalEviction setting (take b history) j = legal b (Evict j) (here ∙ ap Some (one e d)) in
-        let within = kept_within setting (take b history) (front_legal b) j ((oldest_is_least setting (take b history) j (front_legal b)).0 step.oldest).is_kept in
+        let step : IsLegalEviction setting (take b history) j = legal b (Evict j) (here ∙ ap Some (eviction_of j e d)) in
+        let within = kept_within setting (take b history) (front_legal setting history legal b) j ((oldest_is_least setting (take b history) j (front_legal setting history legal b)).0 step.oldest).is_kept in
         let whole : length (take b history ++ drop b history) ≡ length history = ap (λ (es : List Entry). length es) (take-append-drop b history) in
         let parts = length-append (take b history) (drop b history) in
         omega (arith, late, within.1, whole, parts)

@@ -7,7 +7,7 @@ ghost use Rattle.segment_header.specs.Widening.{Widened};
 ghost use Rattle.cache_manager.specs.Jobs.{IsJobOf, IsOwnBody, apart};
 ghost use Rattle.history_core.specs.Answers.{AddsEvicting, HasSource, IsAnswer};
 ghost use Rattle.history_core.specs.Seats.{NoneFlies};
-ghost use Rattle.line_session.specs.Desks.{costs_behind};
+ghost use Rattle.line_session.specs.Desks.{costs_after};
 ghost use Rattle.manager_desk.specs.Ends.{AddsAnswer, AddsEnded, AreOut, EndsJobs, done_of, end_of};
 ghost use Rattle.manager_desk.specs.Keeping.{IsCount};
 ghost use Rattle.segment_load.specs.Loads.{job_cost};
@@ -148,10 +148,10 @@ pub(crate) fn ask<L: Ledger>(
     ensures idle { NoneFlies manager.new.entries }
     ensures count { IsCount manager.old.setting.catalog manager.new.entries read.new }
     ensures cost { OnOk result
-        (steps.new ≡ steps.old + costs_behind manager.old.setting.catalog 1 manager.old.entries manager.new.entries) }
+        (steps.new ≡ steps.old + costs_after manager.old.setting.catalog 1 manager.old.entries manager.new.entries) }
     ensures at_least { steps.old ≤ steps.new }
     ensures at_most { steps.new
-        ≤ steps.old + costs_behind manager.old.setting.catalog 1 manager.old.entries manager.new.entries }
+        ≤ steps.old + costs_after manager.old.setting.catalog 1 manager.old.entries manager.new.entries }
 {
     manager.steps_are_legal();
     match manager.look(who, cells, widener)? {

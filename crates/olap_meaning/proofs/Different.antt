@@ -1,5 +1,5 @@
 -- Texts that are all different, and how many different ones some texts have.
-use Rattle.std.proofs.Common.{◌≡◌, ◌∙◌, ◌≤◌, ℕ, zero, suc, Bool, true, false, not, List, [], ◌∷◌, Contains, sym, ap, subst, refl, le_antisymm, arith, filter, length, bytes_eq, inl, inr}
+use Rattle.std.proofs.Common.{◌≡◌, ◌∙◌, ◌≤◌, ℕ, zero, suc, Bool, true, false, not, List, [], ◌∷◌, Contains, sym, subst, refl, le_antisymm, arith, filter, length, bytes_eq, inl, inr}
 use Rattle.std.specs.List.{AllByRecursion, IsDistinct, list_any, remove}
 use Rattle.std.specs.List.Sorted.{IsPermutation}
 use Rattle.std.proofs.lemmas.Bool.{cases_Bool}

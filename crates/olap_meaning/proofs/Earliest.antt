@@ -1,7 +1,7 @@
 -- The earliest position that passes a test.
 use Rattle.std.proofs.Common.{◌≡◌, refl, sym, ◌∙◌, ap, ℕ, zero, suc, ◌<◌, ◌≤◌, Bool, true, false, cond, ◌⊎◌, inl, inr, Option, Some, None, arith}
 use Rattle.std.specs.Option.{option_or}
-use Rattle.std.proofs.lemmas.Bool.{both_ways, cases_eq, false_from_ne_true}
+use Rattle.std.proofs.lemmas.Bool.{both_ways, cases_eq}
 use Rattle.olap_meaning.specs.History.{earliest}
 
 -- a position up to n is that one, or one before it

@@ -1,10 +1,10 @@
 -- What an eviction changes and leaves; the load that is awaited, and the oldest that is kept.
-use Rattle.std.proofs.Common.{◌≡◌, refl, sym, ◌∙◌, ap, subst, ℕ, zero, suc, ◌<◌, ◌≤◌, ◌⊎◌, inl, inr, List, [], ◌∷◌, ◌++◌, append-nil, drop, length, take, Bool, true, false, cond, not, ◌&&◌, ◌||◌, ◌==◌, Option, Some, None, MatchOption, All, Contains, filter_map, flat_map, is_some, option_and_then, option_map, slice_get, arith}
+use Rattle.std.proofs.Common.{◌≡◌, refl, sym, ◌∙◌, ap, subst, ℕ, zero, suc, ◌<◌, ◌≤◌, inl, inr, List, [], ◌∷◌, ◌++◌, append-nil, drop, length, take, Bool, true, false, cond, not, ◌&&◌, ◌||◌, ◌==◌, Option, Some, None, MatchOption, All, Contains, filter_map, flat_map, is_some, option_and_then, option_map, slice_get, arith}
 use Rattle.std.specs.Option.{option_or}
 use Rattle.std.specs.List.{cons_option, list_any}
 use Rattle.std.proofs.lemmas.Bool.{both_ways, and_parts, and_from, cases_order, eq-eqb, eqb-true, false_from_ne_true, not_from_false, or_left, or_right}
 use Rattle.std.proofs.lemmas.List.{take-append-drop}
-use Rattle.std.proofs.lemmas.List.Elements.{All-contains, All-head, All-tail, filter_map-append}
+use Rattle.std.proofs.lemmas.List.Elements.{All-contains, filter_map-append}
 use Rattle.std.proofs.lemmas.List.Folds.{list_any-append}
 use Rattle.olap_meaning.specs.declared.cells.Cell.{Cell}
 use Rattle.olap_meaning.specs.declared.cells.CellSource.{CellSource}
@@ -14,7 +14,7 @@ use Rattle.olap_meaning.specs.declared.tables.Setting.{Setting}
 use Rattle.olap_meaning.specs.Budget.{oldest_kept}
 use Rattle.olap_meaning.specs.Covering.{among}
 use Rattle.olap_meaning.specs.Equivalents.{AwaitedLoadIsLeast, IsAwaited, IsAwaitedLoad, IsOldestKept, OldestIsLeast}
-use Rattle.olap_meaning.specs.History.{Entry, Evict, Load, Start, appended, awaited, awaited_load, delivers, earliest, ends, entry_at, evicts, exact_source, flying, kept, kept_up_to, live, load_at, load_just_covers, load_version, rows_of, started}
+use Rattle.olap_meaning.specs.History.{Entry, Evict, Load, Start, appended, awaited, awaited_load, delivers, earliest, entry_at, evicts, exact_source, flying, kept, kept_up_to, live, load_at, load_just_covers, load_version, rows_of, started}
 use Rattle.olap_meaning.specs.Laws.{EvictedServeNone, EvictionsChangeNoWorth, LoadsAreEvictedOnce, SourcesStay}
 use Rattle.olap_meaning.specs.Legal.{IsSource, Legal}
 use Rattle.olap_meaning.specs.Rolled.{IsRolled, IsRolledSource, offered, value_count}

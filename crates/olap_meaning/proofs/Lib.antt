@@ -2,6 +2,7 @@ pub mod Members
 pub mod Positions
 pub mod Earliest
 pub mod Evicting
+pub mod Pushes
 pub mod Versions
 pub mod Loads
 pub mod Fresh

@@ -1,5 +1,5 @@
 -- The groups of loads, which a budget limits.
-use Rattle.std.specs.Prelude.{ℕ, ◌∷◌, [], ◌==◌, ◌||◌, List, Bool, false, true, Option, Some, None, filter_map, if◌then◌else◌, length, option_and_then, option_map, slice_get, sum_by}
+use Rattle.std.specs.Prelude.{ℕ, ◌∷◌, [], List, Bool, false, true, Option, Some, None, filter_map, if◌then◌else◌, length, option_and_then, option_map, slice_get, sum_by}
 use Rattle.std.specs.Option.{option_map_or}
 use Rattle.olap_meaning.specs.declared.cells.Allowed.{Allowed}
 use Rattle.olap_meaning.specs.declared.cells.Header.{Header}

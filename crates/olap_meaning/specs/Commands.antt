@@ -37,7 +37,7 @@ behind_cell file column name words = option_and_then (λ aggregator. option_map 
     })
     (pairs_of words)) (aggregator_named name)
 
--- the command of the words after `cell`; None where one is wanting
+-- the command of the words after `cell`; None where one is missing
 abbrev pub cell_command : List (List ℕ) → Option CellCommand
 cell_command [] = None
 cell_command (file ∷ []) = None

@@ -18,7 +18,7 @@ pub struct Cell {
     pub at: List<(ColumnId, ValueId)>,
 }
 
-/// Which values of a column a segment may hold. A set rises and is not empty.
+/// Which values of a column a load is over. A set rises and is not empty.
 #[derive(Drop)]
 pub enum Allowed {
     /// Every value.

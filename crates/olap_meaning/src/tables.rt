@@ -68,8 +68,8 @@ pub struct Catalog {
     pub cubes: List<Cube>,
 }
 
-/// What never changes in a cache's life: its catalog, how many fact rows it may hold over all cubes, and how many
-/// groups its segments may hold.
+/// What never changes in a cache's life: its catalog, the most fact rows over all cubes, and the most groups that
+/// the kept loads have after an answer.
 #[derive(Drop)]
 pub struct Setting {
     pub catalog: Catalog,

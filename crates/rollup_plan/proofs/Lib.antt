@@ -12,3 +12,4 @@ pub mod ServeFacts
 pub mod CandidateFacts
 pub mod PlannedFacts
 pub mod CountFacts
+pub mod Bare

@@ -16,7 +16,7 @@ use Rattle.olap_meaning.proofs.Lists.{any_map, contains_at, mapped_from}
 use Rattle.segment_header.specs.Headers.{is_header, is_set}
 use Rattle.cache_flush.specs.Loads.{KeptOf, are_different, is_candidate}
 use Rattle.cache_flush.specs.Shuts.{is_live}
-use Rattle.cache_flush.proofs.Shelves.{map_mapped}
+use Rattle.cache_flush.proofs.ListFacts.{map_mapped}
 use Rattle.rollup_plan.specs.declared.plan.Part.{Part}
 use Rattle.rollup_plan.specs.declared.plan.Plan.{Plan}
 use Rattle.rollup_plan.specs.Plans.{IsPlanned, MakeCell, Share, is_candidate_at, kept_at, offer_of, offers_at, shares_of}

@@ -14,7 +14,15 @@ use Rattle.rollup_plan.specs.Plans.{offer_of}
 use Rattle.rollup_plan.specs.declared.plan.Part.{Part}
 use Rattle.rollup_plan.specs.declared.plan.Plan.{Plan}
 
--- kept loads that are lent
+-- a kept load without what shuts off part of it
+abbrev pub bare_of : KeptOf → KeptOf
+bare_of kept = record kept { shut = [] }
+
+-- so kept loads are
+abbrev pub bare : List KeptOf → List KeptOf
+bare loads = map bare_of loads
+
+-- kept loads that are lent, without what shuts off parts of them
 abbrev pub lent : List (Bor Kept) → List KeptOf
 lent kept = map (λ (one : Bor Kept). kept_of one.now) kept
 

@@ -9,7 +9,7 @@ ghost use Rattle.olap_meaning.specs.Rolled.{adds_up, can_begin, can_roll, header
 ghost use Rattle.olap_meaning.specs.Worth.{measure_of};
 ghost use Rattle.cache_flush.specs.Loads.{kept_of};
 ghost use Rattle.rollup_plan.specs.Picks as picks;
-ghost use Rattle.rollup_plan.specs.Picks.{IsPicked, IsPickedFrom, kin_splits, lent, splits_along};
+ghost use Rattle.rollup_plan.specs.Picks.{IsPicked, IsPickedFrom, bare, kin_splits, lent, splits_along};
 ghost use Rattle.rollup_plan.specs.Plans.{IsPlanned, is_candidate_at, kept_at, offer_of, offers_at};
 
 use crate::kinds::{kin_of, leave_kin, newest};
@@ -133,7 +133,7 @@ fn kept_loads<'a, S: Shelf>(
 ) -> Result<Vec<&'a Kept>, OutOfMemory>
     requires { All (λ number. is_some (kept_at (S.loads shelf.now) number) ≡ true) numbers.now }
     ensures { IfOk result (λ kept. map Some (lent kept.items)
-        ≡ map (kept_at (S.loads shelf.now)) numbers.now) }
+        ≡ map (kept_at (bare (S.loads shelf.now))) numbers.now) }
 {
     let mut kept = Vec::with_capacity(alloc, numbers.len())?;
     for number in numbers {

@@ -7,7 +7,7 @@ ghost use Rattle.olap_meaning.specs.declared.tables.Row.{Row};
 ghost use Rattle.olap_meaning.specs.Covering.{header_covers};
 ghost use Rattle.segment_header.specs.Headers.{is_set};
 ghost use Rattle.segment_body.specs.AllFolds.{are_alike, folded_numbers};
-ghost use Rattle.cache_flush.specs.Loads.{kept_of};
+ghost use Rattle.cache_flush.specs.Loads.{kept_in};
 ghost use Rattle.rollup_plan.specs.Plans.{kept_at};
 ghost use Rattle.rollup_plan.specs.Rolls.{IsRolledUp, LieBehind, folds_at};
 
@@ -21,7 +21,8 @@ use std::alloc::Global;
 /// The kept load of a number that is on a shelf.
 pub(crate) fn kept_load<S: Shelf>(shelf: &S, load: u64) -> &Kept
     requires { is_some (kept_at (S.loads shelf.now) load) ≡ true }
-    ensures { kept_at (S.loads shelf.now) load ≡ Some (kept_of result.now) }
+    ensures { kept_at (S.loads shelf.now) load
+        ≡ Some (kept_in (S.flushed shelf.now) result.now) }
 {
     match shelf.kept(load) {
         Some(kept) => kept,

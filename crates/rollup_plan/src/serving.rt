@@ -7,7 +7,6 @@ ghost use Rattle.rollup_plan.specs.Serving.{ServesAlike};
 use crate::plan::{Part, Plan};
 use cache_flush::Shelf;
 use olap_meaning::Cell;
-use segment_header::covers;
 
 // Whether a load is kept, covers a cell, and no region shuts it off.
 fn is_served<S: Shelf>(shelf: &S, load: u64, cell: &Cell) -> bool
@@ -15,7 +14,7 @@ fn is_served<S: Shelf>(shelf: &S, load: u64, cell: &Cell) -> bool
 {
     match shelf.kept(load) {
         None => false,
-        Some(kept) => covers(kept.body.header(), cell) && kept.shut.is_live(cell),
+        Some(kept) => kept.is_live(shelf.shut_list(), cell),
     }
 }
 

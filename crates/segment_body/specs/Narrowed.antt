@@ -1,5 +1,5 @@
 -- What a header takes of the rows of a body of another header.
-use Rattle.std.specs.Prelude.{ℕ, ℤ, ◌≡◌, List, [], ◌∷◌, ◌==◌, Option, Some, None, filter_map, map, option_and_then, option_map, position, slice_get, if◌then◌else◌}
+use Rattle.std.specs.Prelude.{ℕ, ℤ, ◌≡◌, List, [], ◌==◌, Option, Some, None, filter_map, map, option_and_then, option_map, position, slice_get}
 use Rattle.std.specs.List.Sorted.{IsPermutation}
 use Rattle.olap_meaning.specs.declared.cells.Allowed.{Allowed}
 use Rattle.olap_meaning.specs.declared.cells.Header.{Header}

@@ -17,7 +17,7 @@ use Rattle.olap_meaning.specs.Covering.{among}
 use Rattle.olap_meaning.proofs.Lists.{eq_turned, item_there, or_first, or_second}
 use Rattle.olap_meaning.proofs.Members.{All-from_member, in_first}
 use Rattle.olap_meaning.proofs.Orders.{among_held}
-use Rattle.cache_flush.specs.Loads.{IsOldest, KeptOf, are_different, group_count, kept_of, numbers_of, shut_off}
+use Rattle.cache_flush.specs.Loads.{IsOldest, KeptOf, are_different, group_count, kept_in, numbers_of, shut_off}
 use Rattle.cache_flush.specs.declared.kept.Kept.{Kept}
 use Rattle.cache_flush.proofs.NumberFacts.{left_by}
 use Rattle.cache_flush.proofs.ListFacts.{map_append, remove_mapped}
@@ -100,13 +100,13 @@ first_is ks n i placed inside =
     let passes : nat_eq n (get_or ks i 0) ≡ true = subst (λ (k : ℕ). nat_eq n (get_or ks k 0) ≡ true) placed (passes_at_first (nat_eq n) ks 0 below) in
     slice_get-get_or ks i 0 inside ∙ ap Some (sym (eqb-true n (get_or ks i 0) passes))
 
-raw_numbered : (es : List (ℕ × Kept)) → AreNumbered (seen es) → AllByRecursion (λ (e : ℕ × Kept). e.0 ≡ e.1.load) es
-raw_numbered [] all = tt
-raw_numbered (e ∷ es) all = (all.0, raw_numbered es all.1)
+raw_numbered : (regions : List Region) (es : List (ℕ × Kept)) → AreNumbered (seen regions es) → AllByRecursion (λ (e : ℕ × Kept). e.0 ≡ e.1.load) es
+raw_numbered regions [] all = tt
+raw_numbered regions (e ∷ es) all = (all.0, raw_numbered regions es all.1)
 
-seen_numbered : (es : List (ℕ × Kept)) → AllByRecursion (λ (e : ℕ × Kept). e.0 ≡ e.1.load) es → AreNumbered (seen es)
-seen_numbered [] all = tt
-seen_numbered (e ∷ es) all = (all.0, seen_numbered es all.1)
+seen_numbered : (regions : List Region) (es : List (ℕ × Kept)) → AllByRecursion (λ (e : ℕ × Kept). e.0 ≡ e.1.load) es → AreNumbered (seen regions es)
+seen_numbered regions [] all = tt
+seen_numbered regions (e ∷ es) all = (all.0, seen_numbered regions es all.1)
 
 apart_among : (n : ℕ) (ns : List ℕ) → AllByRecursion (λ m. nat_eq n m ≡ false) ns → among ns n ≡ false
 apart_among n [] all = refl
@@ -117,58 +117,58 @@ unfolding IsDistinct
 different_from [] distinct = refl
 different_from (n ∷ ns) distinct = rw (apart_among n ns distinct.0) (different_from ns distinct.1)
 
-module _ (es : List (ℕ × Kept)) (n : ℕ) (numbered : AreNumbered (seen es)) where
+module _ (regions : List Region) (es : List (ℕ × Kept)) (n : ℕ) (numbered : AreNumbered (seen regions es)) where
   -- the entries that are left
   abbrev pub left_of : List (ℕ × Kept)
   left_of = swap_remove_entry (nat_eq n) es
 
-  pub left_numbered : AreNumbered (seen left_of)
-  left_numbered = seen_numbered left_of (all_swapped (λ (e : ℕ × Kept). e.0 ≡ e.1.load) (nat_eq n) es (raw_numbered es numbered))
+  pub left_numbered : AreNumbered (seen regions left_of)
+  left_numbered = seen_numbered regions left_of (all_swapped (λ (e : ℕ × Kept). e.0 ≡ e.1.load) (nat_eq n) es (raw_numbered regions es numbered))
 
-  pub left_different : IsDistinct nat_eq (keys_of left_of) → are_different (numbers_of (loads_of left_of)) ≡ true
-  left_different distinct = rw (← keys_numbers left_of left_numbered) (different_from (keys_of left_of) distinct)
+  pub left_different : IsDistinct nat_eq (keys_of left_of) → are_different (numbers_of (loads_of regions left_of)) ≡ true
+  left_different distinct = rw (← keys_numbers regions left_of left_numbered) (different_from (keys_of left_of) distinct)
 
-  number_at : (i : ℕ) → position (nat_eq n) (keys_of es) ≡ Some i → option_map (λ kept. kept.load) (slice_get (loads_of es) i) ≡ Some n
+  number_at : (i : ℕ) → position (nat_eq n) (keys_of es) ≡ Some i → option_map (λ kept. kept.load) (slice_get (loads_of regions es) i) ≡ Some n
   number_at i placed =
       let found = Found-position (nat_eq n) es i placed in
       let inside : i < length (keys_of es) = rw (length-map es (λ e. e.0)) found.within in
-      sym (slice_get-map (λ kept. kept.load) (loads_of es) i) ∙ ap (λ ks. slice_get ks i) (sym (keys_numbers es numbered)) ∙ first_is (keys_of es) n i found.or_len inside
+      sym (slice_get-map (λ kept. kept.load) (loads_of regions es) i) ∙ ap (λ ks. slice_get ks i) (sym (keys_numbers regions es numbered)) ∙ first_is (keys_of es) n i found.or_len inside
 
-  module _ (differ : are_different (numbers_of (loads_of es)) ≡ true) where
-    pub left_loads : IsPermutation (others n (loads_of es)) (loads_of left_of)
+  module _ (differ : are_different (numbers_of (loads_of regions es)) ≡ true) where
+    pub left_loads : IsPermutation (others n (loads_of regions es)) (loads_of regions left_of)
     left_loads = by (position (nat_eq n) (keys_of es)) refl
       where
-        by : (o : Option ℕ) → position (nat_eq n) (keys_of es) ≡ o → IsPermutation (others n (loads_of es)) (loads_of left_of)
+        by : (o : Option ℕ) → position (nat_eq n) (keys_of es) ≡ o → IsPermutation (others n (loads_of regions es)) (loads_of regions left_of)
         by None none =
             let missing = Missing-position (nat_eq n) es none in
-            let absent = none_found (loads_of es) n (sym (load_looked es n numbered) ∙ ap (option_map kept_of) missing.value) in
+            let absent = none_found (loads_of regions es) n (sym (load_looked regions es n numbered) ∙ ap (option_map (kept_in regions)) missing.value) in
             let same = swap_remove_entry-missing (nat_eq n) es none in
-            subst (λ ls. IsPermutation ls (loads_of left_of)) (sym absent) (subst (λ fs. IsPermutation (loads_of es) (loads_of fs)) (sym same) (IsPermutation-refl (loads_of es)))
+            subst (λ ls. IsPermutation ls (loads_of regions left_of)) (sym absent) (subst (λ fs. IsPermutation (loads_of regions es) (loads_of regions fs)) (sym same) (IsPermutation-refl (loads_of regions es)))
         by (Some i) placed =
             let inside = (Found-position (nat_eq n) es i placed).within in
             let d = (item_there es i inside).0 in
-            let entry : ℕ × Kept → ℕ × KeptOf = λ e. (e.0, kept_of e.1) in
+            let entry : ℕ × Kept → ℕ × KeptOf = λ e. (e.0, kept_in regions e.1) in
             let load : ℕ × KeptOf → KeptOf = λ e. e.1 in
             let moved = IsPermutation-map load _ _ (IsPermutation-map entry _ _ (swap_left es i d inside)) in
-            let left = ap (map load) (remove_mapped entry es i) ∙ remove_mapped load (seen es) i ∙ left_by (λ kept. kept.load) (loads_of es) i n differ (number_at i placed) in
-            subst (λ ls. IsPermutation ls (loads_of left_of)) left (subst (λ fs. IsPermutation (loads_of (remove es i)) (loads_of fs)) (sym (swap_remove_entry-found (nat_eq n) es i d placed)) moved)
+            let left = ap (map load) (remove_mapped entry es i) ∙ remove_mapped load (seen regions es) i ∙ left_by (λ kept. kept.load) (loads_of regions es) i n differ (number_at i placed) in
+            subst (λ ls. IsPermutation ls (loads_of regions left_of)) left (subst (λ fs. IsPermutation (loads_of regions (remove es i)) (loads_of regions fs)) (sym (swap_remove_entry-found (nat_eq n) es i d placed)) moved)
 
-    pub left_just : (numbers after : List ℕ) → AreNumbersOf (loads_of es) numbers → ((m : ℕ) → among after m ≡ (not (n == m) && among numbers m)) → AreNumbersOf (loads_of left_of) after
+    pub left_just : (numbers after : List ℕ) → AreNumbersOf (loads_of regions es) numbers → ((m : ℕ) → among after m ≡ (not (n == m) && among numbers m)) → AreNumbersOf (loads_of regions left_of) after
     left_just numbers after just members m =
-        members m ∙ ap (λ b. not (n == m) && b) (just m) ∙ sym (left_numbers (loads_of es) n m)
-        ∙ list_any-IsPermutation (λ v. v == m) (numbers_of (others n (loads_of es))) (numbers_of (loads_of left_of)) (IsPermutation-map (λ kept. kept.load) (others n (loads_of es)) (loads_of left_of) left_loads)
+        members m ∙ ap (λ b. not (n == m) && b) (just m) ∙ sym (left_numbers (loads_of regions es) n m)
+        ∙ list_any-IsPermutation (λ v. v == m) (numbers_of (others n (loads_of regions es))) (numbers_of (loads_of regions left_of)) (IsPermutation-map (λ kept. kept.load) (others n (loads_of regions es)) (loads_of regions left_of) left_loads)
 
-    pub groups_enough : (groups : ℕ) (kept : KeptOf) → HoldGroups (loads_of es) groups → find (λ kept. kept.load == n) (loads_of es) ≡ Some kept → group_count kept ≤ groups
+    pub groups_enough : (groups : ℕ) (kept : KeptOf) → HoldGroups (loads_of regions es) groups → find (λ kept. kept.load == n) (loads_of regions es) ≡ Some kept → group_count kept ≤ groups
     groups_enough groups kept (all, small) found =
-        let whole = left_groups (loads_of es) n kept differ found in
+        let whole = left_groups (loads_of regions es) n kept differ found in
         omega (arith, all, whole)
 
-    pub left_held : (groups : ℕ) (kept : KeptOf) → HoldGroups (loads_of es) groups → find (λ kept. kept.load == n) (loads_of es) ≡ Some kept → HoldGroups (loads_of left_of) (groups - group_count kept)
+    pub left_held : (groups : ℕ) (kept : KeptOf) → HoldGroups (loads_of regions es) groups → find (λ kept. kept.load == n) (loads_of regions es) ≡ Some kept → HoldGroups (loads_of regions left_of) (groups - group_count kept)
     left_held groups kept (all, small) found =
-        let whole = left_groups (loads_of es) n kept differ found in
-        let same = sum_by-IsPermutation group_count (others n (loads_of es)) (loads_of left_of) left_loads in (
+        let whole = left_groups (loads_of regions es) n kept differ found in
+        let same = sum_by-IsPermutation group_count (others n (loads_of regions es)) (loads_of regions left_of) left_loads in (
           omega (arith, all, whole, same),
-          All-permutation (λ kept. group_count kept < 2 ^ 64) (others n (loads_of es)) (loads_of left_of) left_loads (All-filter (λ kept. not (kept.load == n)) (λ kept. group_count kept < 2 ^ 64) (loads_of es) small),
+          All-permutation (λ kept. group_count kept < 2 ^ 64) (others n (loads_of regions es)) (loads_of regions left_of) left_loads (All-filter (λ kept. not (kept.load == n)) (λ kept. group_count kept < 2 ^ 64) (loads_of regions es) small),
         )
 
 -- ---- where a load is put in

@@ -2,8 +2,8 @@
 use Rattle.std.proofs.Common.{◌≡◌, ◌<◌, ◌≤◌, ◌+◌, ◌-◌, ◌++◌, ℕ, suc, Bool, true, false, List, [], ◌∷◌, refl, ap, arith, nat_eq, length, map, if◌then◌else◌}
 use Rattle.std.proofs.lemmas.Bool.Decides.{nat_tests}
 use Rattle.olap_meaning.specs.declared.cells.Header.{Header}
-use Rattle.cache_flush.specs.Loads.{KeptOf}
 use Rattle.segment_index.specs.Grouping.{places_at}
+use Rattle.segment_index.specs.Numbered.{NumberedOf}
 use Rattle.segment_index.specs.Index.{IndexOf, count_under, has_places, places_with}
 use Rattle.segment_header.specs.Masks.{header_mask}
 
@@ -16,12 +16,13 @@ abbrev Groups : Type 0
 Groups = List (ℕ × (List ℕ × ℕ))
 
 -- what contracts see of the parts of an index
-abbrev pub index_of : List KeptOf → ℕ → Groups → List ℕ → IndexOf
-index_of loads places groups rooms = record {
-  loads = loads;
+abbrev pub index_of : NumberedOf → ℕ → Groups → IndexOf
+index_of numbered places groups = record {
+  loads = numbered.loads;
+  flushed = numbered.flushed;
+  ready = numbered.ready;
   places = places;
   places_under = map (λ under. (under.0, under.1.1)) groups;
-  rooms = rooms;
 }
 
 pub seen_more :

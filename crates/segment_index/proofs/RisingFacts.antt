@@ -1,39 +1,15 @@
 -- Numbers that rise: where they are found, and what is left where one is put in or taken out.
-use Rattle.std.proofs.Common.{◌≡◌, ◌∙◌, ◌<◌, ◌≤◌, ℕ, zero, suc, Bool, true, false, not, List, [], ◌∷◌, refl, sym, arith, inl, inr, get_or, length, insert, remove, nat_cmp}
-use Rattle.std.specs.Prelude.{◌==◌, ◌&&◌, ◌||◌, nat_lt, Result, MatchResult}
+use Rattle.std.proofs.Common.{◌≡◌, ◌∙◌, ◌<◌, ◌≤◌, ℕ, zero, suc, Bool, true, false, not, List, [], ◌∷◌, refl, sym, arith, inl, inr, get_or, length, insert, remove}
+use Rattle.std.specs.Prelude.{◌==◌, ◌&&◌, ◌||◌, nat_lt}
 use Rattle.std.specs.List.{list_all}
-use Rattle.std.proofs.lemmas.Bool.{and_from, and_parts, cases_Bool, eq-eqb, eqb-true, lt-ltb}
+use Rattle.std.proofs.lemmas.Bool.{and_from, and_parts, cases_Bool, eqb-true, lt-ltb}
 use Rattle.std.proofs.lemmas.List.{get_or_default}
-use Rattle.std.specs.List.Sorted.{IsBinarySearchResult}
-use Rattle.std.proofs.lemmas.List.Sorted.{IsPermutation-insert, IsPermutation-remove, list_any-IsPermutation, searched}
+use Rattle.std.proofs.lemmas.List.Sorted.{IsPermutation-insert, IsPermutation-remove, list_any-IsPermutation}
 use Rattle.olap_meaning.specs.Covering.{among}
 use Rattle.olap_meaning.specs.Legal.{rise}
 use Rattle.olap_meaning.proofs.Lists.{below_differs, eq_turned}
 use Rattle.olap_meaning.proofs.Orders.{above_of, all_above}
-
--- ---- the places of numbers that rise
-
-among_at : (xs : List ℕ) (i : ℕ) → i < length xs → among xs (get_or xs i 0) ≡ true
-among_at [] i inside = absurd (omega arith)
-among_at (x ∷ xs) zero inside = rw (eq-eqb x x refl) refl
-among_at (x ∷ xs) (suc i) inside =
-    let rest = among_at xs i (omega arith) in
-    elim (cases_Bool (x == get_or xs i 0)) [ inl same ↦ rw same refl | inr other ↦ rw other rest ]
-
-ordered : (xs : List ℕ) → rise xs ≡ true → (i j : ℕ) → i ≤ j → j < length xs → get_or xs i 0 ≤ get_or xs j 0
-ordered [] up i j no_later inside = absurd (omega arith)
-ordered (x ∷ xs) up zero zero no_later inside = omega arith
-ordered (x ∷ xs) up zero (suc j) no_later inside =
-    let less = above_of x xs (get_or xs j 0) (and_parts (list_all (nat_lt x) xs) (rise xs) up).0 (among_at xs j (omega arith)) in
-    omega (arith, less)
-ordered (x ∷ xs) up (suc i) zero no_later inside = absurd (omega arith)
-ordered (x ∷ xs) up (suc i) (suc j) no_later inside =
-    ordered xs (and_parts (list_all (nat_lt x) xs) (rise xs) up).1 i j (omega arith) (omega arith)
-
--- what a search among numbers that rise finds
-pub found_at : (xs : List ℕ) (n : ℕ) (r : Result ℕ ℕ) → rise xs ≡ true → IsBinarySearchResult (λ y. nat_cmp y n) xs r
-    → MatchResult r (λ i. (i < length xs) × (get_or xs i 0 ≡ n)) (λ i. (i ≤ length xs) × ((k : ℕ) → k < i → get_or xs k 0 < n) × ((k : ℕ) → i ≤ k → k < length xs → n < get_or xs k 0))
-found_at xs n r up search = searched xs n r search (ordered xs up)
+use Rattle.cache_flush.proofs.RisingFacts.{among_at}
 
 -- ---- a number is put in
 

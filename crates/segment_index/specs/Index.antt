@@ -1,15 +1,18 @@
 -- What contracts see of an index.
-use Rattle.std.specs.Prelude.{ℕ, suc, ◌≤◌, ◌<◌, List, [], ◌∷◌, All, if◌then◌else◌, length, nat_eq}
+use Rattle.std.specs.Prelude.{ℕ, suc, ◌≡◌, ◌≤◌, List, [], ◌∷◌, Option, Some, if◌then◌else◌, length, nat_eq}
 use Rattle.olap_meaning.specs.declared.cells.Header.{Header}
+use Rattle.olap_meaning.specs.declared.regions.Region.{Region}
 use Rattle.cache_flush.specs.Loads.{KeptOf}
 use Rattle.segment_header.specs.Masks.{header_mask}
 
--- kept loads, how many more there is room for, how many more with each mask, and for how many more regions each has room
+-- kept loads, the regions that were flushed, the one for which there is room, how many more loads there is room for, and how
+-- many more with each mask
 pub record IndexOf : Type 0 where
   pub loads : List KeptOf
+  pub flushed : List Region
+  pub ready : Option Region
   pub places : ℕ
   pub places_under : List (ℕ × ℕ)
-  pub rooms : List ℕ
 
 -- how many more loads there is room for with a mask
 abbrev pub places_with : List (ℕ × ℕ) → ℕ → ℕ
@@ -28,6 +31,6 @@ has_places index headers =
     (length headers ≤ index.places)
     × ((mask : ℕ) → count_under mask headers ≤ places_with index.places_under mask)
 
--- an index has room for one region more in what shuts off part of each load
-abbrev pub has_rooms : IndexOf → Type 0
-has_rooms index = All (λ room. 0 < room) index.rooms
+-- there is room for a flush of a region
+abbrev pub is_ready : IndexOf → Region → Type 0
+is_ready index region = index.ready ≡ Some region

@@ -4,7 +4,7 @@ ghost use Rattle.std.specs.Prelude.{◌≡◌, ◌+◌, [], IfOk};
 use crate::groups::Groups;
 use crate::loads::Loads;
 use crate::search::{candidates, latest_serving};
-use cache_flush::{CacheShelf, Kept, Shelf, handles_of};
+use cache_flush::{CacheShelf, Kept, Shelf, Shut};
 use olap_meaning::{Cell, Header, List, OutOfMemory, Region};
 use segment_header::{cell_mask, header_mask};
 use std::alloc::Global;
@@ -28,7 +28,7 @@ impl Model for SegmentIndex {
 
     ghost Value = { IndexOf };
 
-    ghost view = { λ a. record { loads = a.loads.loads; places = a.places; places_under = map (λ under. (under.0, under.1.1)) a.groups; rooms = a.loads.rooms } };
+    ghost view = { λ a. record { loads = a.loads.loads; flushed = a.loads.flushed; ready = a.loads.ready; places = a.places; places_under = map (λ under. (under.0, under.1.1)) a.groups } };
 
     ghost invariant = { λ a. AreGrouped a.groups a.loads.loads × (a.places ≤ a.loads.places) };
 }
@@ -37,7 +37,7 @@ impl SegmentIndex {
     /// An index of no load. It takes no memory.
     pub fn new(alloc: Global) -> SegmentIndex
         ensures loads { result.loads ≡ [] }
-        ensures rooms { result.rooms ≡ [] }
+        ensures flushed { result.flushed ≡ [] }
     {
         SegmentIndex {
             alloc,
@@ -49,10 +49,16 @@ impl SegmentIndex {
 }
 
 impl Shelf for SegmentIndex {
+    ghost flushed = { λ index. index.flushed };
+
     ghost loads = { λ index. index.loads };
 
     fn kept(&self, load: u64) -> Option<&Kept> {
         self.loads.get(load)
+    }
+
+    fn shut_list(&self) -> &Shut {
+        self.loads.shut_list()
     }
 
     fn numbers_differ(&self) {
@@ -65,7 +71,7 @@ impl CacheShelf for SegmentIndex {
 
     ghost has_places = { words.has_places };
 
-    ghost has_rooms = { words.has_rooms };
+    ghost is_ready = { words.is_ready };
 
     fn places_are_apart(&self) {
         let _ = &self.loads;
@@ -129,14 +135,12 @@ impl CacheShelf for SegmentIndex {
         Some(kept)
     }
 
-    fn reserve_shut(&mut self, region: &Arc<Region>) -> Result<List<Arc<Region>>, OutOfMemory> {
-        let handles = handles_of(self.alloc, region, self.loads.len())?;
-        self.loads.reserve_shut(region)?;
-        Ok(handles)
+    fn reserve_shut(&mut self, region: &Arc<Region>) -> Result<(), OutOfMemory> {
+        self.loads.reserve_shut(region)
     }
 
-    fn shut(&mut self, region: &Region, handles: List<Arc<Region>>) {
-        self.loads.shut(region, handles.into_vec());
+    fn shut(&mut self, region: &Region) {
+        self.loads.shut(region);
     }
 }
 

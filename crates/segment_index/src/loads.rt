@@ -1,29 +1,27 @@
-//! The kept loads by their numbers, and what is counted of them.
-ghost use Rattle.std.specs.Prelude.{◌≡◌, ◌==◌, ◌<◌, ◌≤◌, ◌+◌, ◌++◌, ◌∷◌, [], ℕ, All, IfOk, IsTrue, OnOk, false, filter, length, map, not, option_copied, option_map, sum_by};
+//! Kept loads, by their numbers.
+ghost use Rattle.std.specs.Prelude.{◌≡◌, ◌==◌, ◌<◌, ◌≤◌, ◌+◌, ◌++◌, ◌∷◌, ℕ, [], All, IfOk, IsTrue, OnOk, Some, false, filter, length, map, not, option_copied, option_map, sum_by};
 ghost use Rattle.std.specs.List.{find};
 ghost use Rattle.std.specs.List.Sorted.{IsPermutation};
 ghost use Rattle.olap_meaning.specs.Covering.{among};
 ghost use Rattle.olap_meaning.specs.Legal.{rise};
-ghost use Rattle.indexmap.specs.IndexMap.{spare};
-ghost use Rattle.cache_flush.specs.Handles.{AreHandles};
-ghost use Rattle.cache_flush.specs.Loads.{IsOldest, are_different, group_count, kept_of, numbers_of, shut_off};
-ghost use Rattle.segment_index.specs.Numbered.{rooms_of, seen};
+ghost use Rattle.cache_flush.specs.Loads.{IsOldest, are_different, group_count, kept_in, numbers_of, shut_off};
 
 use crate::numbers::Numbers;
-use cache_flush::{Kept, next_handle};
+use cache_flush::{Kept, Shut};
 use indexmap::IndexMap;
 use olap_meaning::{OutOfMemory, Region};
 use std::alloc::Global;
 use std::marker::Model;
 use std::sync::Arc;
 
-/// Kept loads, found by the hash of their numbers. One that is put in comes last; where one is taken out, the last takes its
-/// place. Beside them stand their numbers, rising, and how many groups they hold in all.
+/// Kept loads, found by the hash of their numbers, under the regions that were flushed. One that is put in comes last; where
+/// one is taken out, the last takes its place. Beside them stand their numbers, rising, and how many groups they hold in all.
 #[derive(Drop)]
 pub(crate) struct Loads {
     by_number: IndexMap<u64, Kept>,
     numbers: Numbers,
     groups: u128,
+    shut: Shut,
 }
 
 impl Model for Loads {
@@ -31,28 +29,30 @@ impl Model for Loads {
     ghost use Rattle.indexmap.specs.IndexMap.{spare};
     ghost use Rattle.cache_flush.specs.Loads.{are_different, numbers_of};
     ghost use Rattle.segment_index.specs.Keeping.{AreNumbersOf, HoldGroups};
-    ghost use Rattle.segment_index.specs.Numbered.{AreNumbered, NumberedOf, rooms_of, seen};
+    ghost use Rattle.segment_index.specs.Numbered.{AreNumbered, AreWithin, NumberedOf, seen};
 
     ghost Value = { NumberedOf };
 
-    ghost view = { λ a. record { loads = map (λ entry. entry.1) (seen a.by_number.entries); rooms = rooms_of a.by_number.entries; places = min (spare a.by_number) a.numbers.places } };
+    ghost view = { λ a. record { loads = map (λ entry. entry.1) (seen a.shut.regions a.by_number.entries); flushed = a.shut.regions; ready = a.shut.ready; places = min (spare a.by_number) a.numbers.places } };
 
-    ghost invariant = { λ a. AreNumbered (seen a.by_number.entries)
-        × IsTrue (are_different (numbers_of (map (λ entry. entry.1) (seen a.by_number.entries))))
-        × AreNumbersOf (map (λ entry. entry.1) (seen a.by_number.entries)) a.numbers.items
-        × HoldGroups (map (λ entry. entry.1) (seen a.by_number.entries)) a.groups };
+    ghost invariant = { λ a. AreNumbered (seen a.shut.regions a.by_number.entries)
+        × IsTrue (are_different (numbers_of (map (λ entry. entry.1) (seen a.shut.regions a.by_number.entries))))
+        × AreNumbersOf (map (λ entry. entry.1) (seen a.shut.regions a.by_number.entries)) a.numbers.items
+        × HoldGroups (map (λ entry. entry.1) (seen a.shut.regions a.by_number.entries)) a.groups
+        × AreWithin a.shut.regions a.by_number.entries };
 }
 
 impl Loads {
     /// No load. It takes no memory.
     pub(crate) fn new(alloc: Global) -> Loads
         ensures loads { result.loads ≡ [] }
-        ensures rooms { result.rooms ≡ [] }
+        ensures flushed { result.flushed ≡ [] }
     {
         Loads {
             by_number: IndexMap::new(alloc),
             numbers: Numbers::new(alloc),
             groups: 0,
+            shut: Shut::new(alloc),
         }
     }
 
@@ -72,10 +72,17 @@ impl Loads {
 
     /// The load of a number. It takes no memory.
     pub(crate) fn get(&self, load: u64) -> Option<&Kept>
-        ensures { option_map kept_of (option_copied result)
+        ensures { option_map (kept_in self.now.flushed) (option_copied result)
             ≡ find (λ kept. kept.load == load) self.now.loads }
     {
         self.by_number.get(&load)
+    }
+
+    /// The regions that were flushed.
+    pub(crate) fn shut_list(&self) -> &Shut
+        ensures { result.now.regions ≡ self.now.flushed }
+    {
+        &self.shut
     }
 
     /// The numbers of the loads, rising.
@@ -107,6 +114,8 @@ impl Loads {
         ensures ok { OnOk result (places ≤ self.new.places) }
         ensures loads { self.new.loads ≡ self.old.loads }
         ensures places { self.old.places ≤ self.new.places }
+        ensures flushed { self.new.flushed ≡ self.old.flushed }
+        ensures ready { self.new.ready ≡ self.old.ready }
     {
         self.by_number.reserve(places)?;
         self.numbers.reserve(places)
@@ -116,8 +125,11 @@ impl Loads {
     pub(crate) fn insert(&mut self, kept: Kept)
         requires place { 0 < self.old.places }
         requires another { among (numbers_of self.old.loads) kept.load ≡ false }
-        ensures loads { self.new.loads ≡ self.old.loads ++ kept_of kept ∷ [] }
+        requires since { kept.place ≤ length self.old.flushed }
+        ensures loads { self.new.loads ≡ self.old.loads ++ kept_in self.old.flushed kept ∷ [] }
         ensures places { self.old.places ≤ self.new.places + 1 }
+        ensures flushed { self.new.flushed ≡ self.old.flushed }
+        ensures ready { self.new.ready ≡ self.old.ready }
     {
         // As many loads as can be counted hold few enough groups.
         let _held = self.by_number.len();
@@ -129,12 +141,14 @@ impl Loads {
 
     /// Takes a load out and hands it over, None exactly where no load has this number. It takes no memory.
     pub(crate) fn remove(&mut self, load: u64) -> Option<Kept>
-        ensures taken { option_map kept_of result
+        ensures taken { option_map (kept_in self.old.flushed) result
             ≡ find (λ kept. kept.load == load) self.old.loads }
         ensures left { IsPermutation
             (filter (λ kept. not (kept.load == load)) self.old.loads)
             self.new.loads }
         ensures places { self.old.places ≤ self.new.places }
+        ensures flushed { self.new.flushed ≡ self.old.flushed }
+        ensures ready { self.new.ready ≡ self.old.ready }
     {
         let kept = self.by_number.swap_remove(&load)?;
         self.numbers.remove(load);
@@ -142,49 +156,23 @@ impl Loads {
         Some(kept)
     }
 
-    /// Makes room for a region in what shuts off part of each load.
-    pub(crate) fn reserve_shut(&mut self, region: &Region) -> Result<(), OutOfMemory>
-        ensures rooms { OnOk result (All (λ room. 0 < room) self.new.rooms) }
+    /// Makes room for a flush of a region.
+    pub(crate) fn reserve_shut(&mut self, region: &Arc<Region>) -> Result<(), OutOfMemory>
+        ensures ready { OnOk result (self.new.ready ≡ Some region.now.value) }
         ensures loads { self.new.loads ≡ self.old.loads }
+        ensures flushed { self.new.flushed ≡ self.old.flushed }
         ensures places { self.old.places ≤ self.new.places }
     {
-        reserve_each(&mut self.by_number, region)
+        self.shut.reserve(region)
     }
 
-    /// Adds a region to what shuts off part of each load that it concerns. It takes no memory: the room is there.
-    pub(crate) fn shut(&mut self, region: &Region, handles: Vec<Arc<Region>>)
-        requires handles { AreHandles region.now (length self.old.loads) handles.items }
-        requires rooms { All (λ room. 0 < room) self.old.rooms }
+    /// Adds a flush of a region, which shuts off part of each load that it concerns. It takes no memory: the room is there.
+    pub(crate) fn shut(&mut self, region: &Region)
+        requires ready { self.old.ready ≡ Some region.now }
         ensures loads { self.new.loads ≡ map (shut_off region.now) self.old.loads }
+        ensures flushed { self.new.flushed ≡ self.old.flushed ++ region.now ∷ [] }
         ensures places { self.old.places ≤ self.new.places }
     {
-        shut_each(&mut self.by_number, region, handles);
-    }
-}
-
-// Makes room for a region in what shuts off part of each load.
-fn reserve_each(by_number: &mut IndexMap<u64, Kept>, region: &Region) -> Result<(), OutOfMemory>
-    ensures rooms { OnOk result (All (λ room. 0 < room) (rooms_of by_number.new.entries)) }
-    ensures entries { seen by_number.new.entries ≡ seen by_number.old.entries }
-    ensures places { spare by_number.old ≤ spare by_number.new }
-{
-    for place in 0..by_number.len() {
-        let kept = &mut by_number[place];
-        kept.reserve_shut(region)?;
-    }
-    Ok(())
-}
-
-// Adds a region to what shuts off part of each load that it concerns.
-fn shut_each(by_number: &mut IndexMap<u64, Kept>, region: &Region, mut handles: Vec<Arc<Region>>)
-    requires handles { AreHandles region.now (length (seen by_number.old.entries)) handles.items }
-    requires rooms { All (λ room. 0 < room) (rooms_of by_number.old.entries) }
-    ensures entries { seen by_number.new.entries
-        ≡ map (λ entry. (entry.0, shut_off region.now entry.1)) (seen by_number.old.entries) }
-    ensures places { spare by_number.old ≤ spare by_number.new }
-{
-    for next in 0..by_number.len() {
-        let kept = &mut by_number[next];
-        kept.shut_off(next_handle(&mut handles, region));
+        self.shut.add(region);
     }
 }

@@ -1,16 +1,18 @@
 //! The search among the loads of some numbers.
-ghost use Rattle.std.specs.Prelude.{◌≡◌, ◌++◌, IfOk, None, filter, option_copied, option_map, reverse};
-ghost use Rattle.cache_flush.specs.Loads.{kept_of};
+ghost use Rattle.std.specs.Prelude.{◌≡◌, ◌++◌, IfOk, List, None, filter, option_copied, option_map, reverse};
+ghost use Rattle.olap_meaning.specs.declared.regions.Region.{Region};
+ghost use Rattle.cache_flush.specs.Loads.{kept_in};
 ghost use Rattle.segment_index.specs.Search as words;
 
 use crate::loads::Loads;
-use cache_flush::Kept;
+use cache_flush::{Kept, Shut};
 use olap_meaning::{Cell, OutOfMemory};
 use std::alloc::Global;
 
 // Whether a load of this number or of a greater one was found.
 fn reaches(best: Option<&Kept>, number: u64) -> bool
-    ensures { result ≡ words.reaches (option_map kept_of (option_copied best.entry)) number }
+    ensures { (regions : List Region)
+        → result ≡ words.reaches (option_map (kept_in regions) (option_copied best.entry)) number }
 {
     match best {
         Some(found) => found.load >= number,
@@ -19,12 +21,12 @@ fn reaches(best: Option<&Kept>, number: u64) -> bool
 }
 
 // A load, where it serves a cell.
-fn serving<'a>(cell: &Cell, next: Option<&'a Kept>) -> Option<&'a Kept>
-    ensures { option_map kept_of (option_copied result)
-        ≡ words.serving cell.now (option_map kept_of (option_copied next.entry)) }
+fn serving<'a>(shut: &Shut, cell: &Cell, next: Option<&'a Kept>) -> Option<&'a Kept>
+    ensures { option_map (kept_in shut.now.regions) (option_copied result)
+        ≡ words.serving cell.now (option_map (kept_in shut.now.regions) (option_copied next.entry)) }
 {
     match next {
-        Some(kept) if kept.serves(cell) => Some(kept),
+        Some(kept) if kept.serves(shut, cell) => Some(kept),
         _ => None,
     }
 }
@@ -36,14 +38,15 @@ fn later_serving<'a>(
     best: Option<&'a Kept>,
     number: u64,
 ) -> Option<&'a Kept>
-    ensures { option_map kept_of (option_copied result)
-        ≡ words.later_serving cell.now (option_map kept_of (option_copied best.entry))
+    ensures { option_map (kept_in loads.entry.now.flushed) (option_copied result)
+        ≡ words.later_serving cell.now
+        (option_map (kept_in loads.entry.now.flushed) (option_copied best.entry))
         (words.load_of loads.entry.now.loads number) }
 {
     if reaches(best, number) {
         return best;
     }
-    match serving(cell, loads.get(number)) {
+    match serving(loads.shut_list(), cell, loads.get(number)) {
         Some(kept) => Some(kept),
         None => best,
     }
@@ -57,9 +60,9 @@ fn latest_of<'a>(
     first: Option<&'a Kept>,
     numbers: &[u64],
 ) -> Option<&'a Kept>
-    ensures { option_map kept_of (option_copied result)
+    ensures { option_map (kept_in loads.now.flushed) (option_copied result)
         ≡ words.latest_serving loads.now.loads cell.now
-        (option_map kept_of (option_copied first.entry)) (reverse numbers.now) }
+        (option_map (kept_in loads.now.flushed) (option_copied first.entry)) (reverse numbers.now) }
 {
     let mut best = first;
     for place in (0..numbers.len()).rev() {
@@ -75,7 +78,7 @@ pub(crate) fn latest_serving<'a>(
     back: &[u64],
     cell: &Cell,
 ) -> Option<&'a Kept>
-    ensures { option_map kept_of (option_copied result)
+    ensures { option_map (kept_in loads.now.flushed) (option_copied result)
         ≡ words.latest_serving loads.now.loads cell.now None (reverse (front.now ++ back.now)) }
 {
     let latest = latest_of(loads, cell, None, back);
@@ -83,12 +86,13 @@ pub(crate) fn latest_serving<'a>(
 }
 
 // Whether there is a load, and it is a candidate for a cell.
-fn is_candidate(kept: Option<&Kept>, cell: &Cell) -> bool
+fn is_candidate(shut: &Shut, kept: Option<&Kept>, cell: &Cell) -> bool
     ensures { result
-        ≡ words.is_candidate cell.now (option_map kept_of (option_copied kept.entry)) }
+        ≡ words.is_candidate cell.now
+        (option_map (kept_in shut.now.regions) (option_copied kept.entry)) }
 {
     match kept {
-        Some(found) => found.is_candidate(cell),
+        Some(found) => found.is_candidate(shut, cell),
         None => false,
     }
 }
@@ -105,7 +109,7 @@ pub(crate) fn candidates(
 {
     let mut found = Vec::new(alloc);
     for number in numbers {
-        let taken = is_candidate(loads.get(*number), cell);
+        let taken = is_candidate(loads.shut_list(), loads.get(*number), cell);
         if taken {
             found.push(*number)?;
         }

@@ -10,6 +10,6 @@ value-requires-clause-rising c = known_rises c.args.history.now.setting.catalog 
 
 pub returns : goal.returns
 returns c = record {
-  value = kept_worth c.args.history.now.setting.catalog c.args.history.now.entries (kept_of c.args.kept.now) c.args.cell.now c.requires.exact.is c.requires.exact.serves ∙ ap Some (sym c.value.ensures.value);
-  version = kept_version c.args.history.now.setting.catalog c.args.history.now.entries (kept_of c.args.kept.now) c.args.cell.now c.requires.exact.is;
+  value = kept_worth c.args.history.now.setting.catalog c.args.history.now.entries (record (kept_of c.args.kept.now) { shut = c.requires.exact.0 }) c.args.cell.now c.requires.exact.1.is c.requires.exact.1.serves ∙ ap Some (sym c.value.ensures.value);
+  version = kept_version c.args.history.now.setting.catalog c.args.history.now.entries (record (kept_of c.args.kept.now) { shut = c.requires.exact.0 }) c.args.cell.now c.requires.exact.1.is;
 }

@@ -20,6 +20,7 @@ loop-history-preserved c =
       room = omega (arith, c.evict_oldest.ensures.spare, c.evict_oldest.ensures.fewer, c.loop-history.invariant.room);
       after = rw pushed (evicts_after c.loop-history.history.entries (Evict load) refl);
       spare = omega (arith, c.evict_oldest.ensures.spare, c.evict_oldest.ensures.fewer, c.loop-history.invariant.spare);
+      flushed = c.evict_oldest.ensures.flushed ∙ c.loop-history.invariant.flushed;
       places = λ headers had. c.evict_oldest.ensures.places headers (c.loop-history.invariant.places headers had);
     }
 

@@ -14,6 +14,7 @@ invariant-loop-history l = record {
   kept : AreKept l.history.setting.catalog l.history.entries l.shelf.loads;
   room : length l.shelf.loads ≤ l.history.spare;
   after : IsTrue (may_evict l.history.entries);
+  flushed : l.shelf.flushed ≡ l.initial.shelf.flushed;
   spare : l.history.spare + length l.initial.shelf.loads ≡ l.initial.history.spare + length l.shelf.loads;
   places : (headers : List Header) → has_places l.initial.shelf headers → has_places l.shelf headers;
 }

@@ -1,8 +1,7 @@
 -- What was found is so, and the rollups go on.
-use Rattle.std.proofs.Common.{◌∙◌, sym, ap, subst, List, slice_get, All, Some, is_some}
+use Rattle.std.proofs.Common.{◌∙◌, sym, ap, subst, All, Some, is_some}
 use Rattle.std.proofs.lemmas.List.Elements.{All-push}
 use Rattle.cache_manager.specs.Rollups.{IsRollup}
-use Rattle.cache_manager.specs.declared.rollups.Rollup.{Rollup}
 use Rattle.cache_manager.proofs.Finding.{known_measure}
 use Rattle.cache_manager.proofs.Firsts.{begun_first, begun_firsts, candidates_served, joined_firsts, serving_told}
 use Rattle.cache_manager.proofs.Rolling.{begun_at, begun_is, begun_on, joined_are, joined_at, joined_on}

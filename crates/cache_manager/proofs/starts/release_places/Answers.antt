@@ -20,6 +20,7 @@ release-requires c =
 pub loop-planned-preserved : goal.loop-planned-preserved
 loop-planned-preserved c = record {
   loads = c.release.ensures.loads ∙ c.loop-planned.invariant.loads;
+  flushed = c.release.ensures.flushed ∙ c.loop-planned.invariant.flushed;
   kept = λ headers had.
       c.release.ensures.places headers (map (λ planned. planned.flight.header) (drop (c.loop-planned.planned-index + 1) c.args.plans.now))
       (subst (λ (plans : List Planned). has_places c.loop-planned.shelf (headers ++ map (λ planned. planned.flight.header) plans)) (drop_step c.args.plans.now c.loop-planned.planned-index c.planned-item.result c.loop-planned-test.true c.planned-item.is)

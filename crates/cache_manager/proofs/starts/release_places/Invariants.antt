@@ -8,5 +8,6 @@ use Rattle.cache_manager.proofs.starts.release_places.Given as goal
 abbrev pub invariant-loop-planned : goal.invariant-loop-planned
 invariant-loop-planned l = record {
   loads : l.shelf.loads ≡ l.initial.shelf.loads;
+  flushed : l.shelf.flushed ≡ l.initial.shelf.flushed;
   kept : (headers : List Header) → has_places l.initial.shelf (headers ++ map (λ planned. planned.flight.header) l.plans) → has_places l.shelf (headers ++ map (λ planned. planned.flight.header) (drop l.planned-index l.plans));
 }

@@ -8,6 +8,7 @@ use Rattle.cache_manager.proofs.starts.reserve_places.Given as goal
 abbrev pub invariant-loop-made : goal.invariant-loop-made
 invariant-loop-made l = record {
   loads : l.shelf.loads ≡ l.initial.shelf.loads;
+  flushed : l.shelf.flushed ≡ l.initial.shelf.flushed;
   kept : (headers : List Header) → has_places l.initial.shelf headers → has_places l.shelf headers;
   places : (headers : List Header) → has_places l.initial.shelf headers → has_places l.shelf (headers ++ map (λ planned. planned.flight.header) (take l.made l.plans));
 }

@@ -20,7 +20,7 @@ start-requires-clause-another c =
     let given = c.into_iter-planned-iterator.ensures.into_iter_gives in
     let yields = YieldsList-from_vec {s = c.into_iter-planned-iterator.result} c.args.plans.items given.0 (given.1 ∙ c.args.plans.ok.0) in
     let turn = YieldsList-turn yields c.loop-planned.yielded c.loop-planned.planned-iterator c.loop-planned.yielded_by c.next.result c.next.new.self c.in-Some.planned c.in-Some.is c.next.ensures.steps in
-    rw (c.loop-planned.invariant.flights, numbers_started c.args.flights.now.flights c.loop-planned.yielded)
+    rw (c.loop-planned.invariant.flights, numbers_started c.args.place c.args.flights.now.flights c.loop-planned.yielded)
     (next_new (numbers_of c.args.flights.now.flights) (λ planned. planned.flight.load) c.args.plans.items c.loop-planned.yielded c.in-Some.planned c.requires.flights_new (YieldsList-so_far yields c.loop-planned.yielded c.loop-planned.planned-iterator c.loop-planned.yielded_by) turn.0 turn.1)
 
 pub start-requires-clause-header : goal.start-requires-clause-header

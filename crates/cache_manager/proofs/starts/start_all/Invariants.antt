@@ -11,7 +11,7 @@ invariant-loop-planned l = record {
   setting : l.history.setting ≡ l.initial.history.setting;
   entries : l.history.entries ≡ l.initial.history.entries ++ map (λ planned. entry_of planned.start) l.yielded;
   spare : l.history.spare + length l.yielded ≡ l.initial.history.spare;
-  flights : l.flights.flights ≡ l.initial.flights.flights ++ map (λ planned. flight_for planned.flight) l.yielded;
+  flights : l.flights.flights ≡ l.initial.flights.flights ++ map (λ planned. flight_for l.place planned.flight) l.yielded;
   places : l.flights.places + length l.yielded ≡ l.initial.flights.places;
   jobs : l.jobs.items ≡ l.initial.jobs.items ++ map (λ planned. planned.job) l.yielded;
   jobs_room : vec_capacity l.jobs ≡ vec_capacity l.initial.jobs;

@@ -5,4 +5,4 @@ use Rattle.load_sharing.proofs.flights.least_awaited.Given as goal
 
 -- the least of those that were walked over
 abbrev pub invariant-loop-flight : goal.invariant-loop-flight
-invariant-loop-flight l = IsLeastAwaited (map flight_of (take l.flight-index l.flights)) l.cell l.least
+invariant-loop-flight l = IsLeastAwaited l.shut.regions (map flight_of (take l.flight-index l.flights)) l.cell l.least

@@ -11,7 +11,7 @@ use Rattle.segment_header.specs.contracts.widener.WidenerAllowsValues.TheImpl.{a
 use Rattle.segment_header.specs.Widening.{Widened}
 use Rattle.cache_manager.specs.Jobs.{apart}
 use Rattle.manager_desk.proofs.Seeing.{apart_numbers, none_waits}
-use Rattle.line_session.specs.Desks.{costs_behind}
+use Rattle.line_session.specs.Desks.{costs_after}
 use Rattle.manager_desk.specs.Ends.{AddsEnded}
 use Rattle.manager_desk.specs.Keeping.{IsCount}
 use Rattle.manager_desk.proofs.Counting.{count_starts}
@@ -112,7 +112,7 @@ returns-in_err-answer-in-Load-clause-at_most g c =
       are = rw c.in-Load.is at c.in_ok-answer.ensures.jobs;
       legal = c.steps_are_legal-in-Load.ensures;
     } in
-    let same = ap (λ (m : CacheOf). costs_behind c.args.manager.now.setting.catalog 1 c.args.manager.now.entries m.entries) c.in_err-answer-in-Load.ensures.unchanged in
+    let same = ap (λ (m : CacheOf). costs_after c.args.manager.now.setting.catalog 1 c.args.manager.now.entries m.entries) c.in_err-answer-in-Load.ensures.unchanged in
     let read = cost_ended (Widened ((answers-value g.dyn-1).it c.args.widener.now)) c.args.manager.now c.look.new.self c.args.who c.args.cells.now (map (λ job. job.header) c.in-Load.jobs) c.in-Load.jobs look c.end_loads.new.manager.entries c.end_loads.ensures.ended c.requires.seat in
     omega (arith, same, read, c.end_loads.ensures.at_most)
 

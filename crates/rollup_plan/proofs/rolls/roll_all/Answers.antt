@@ -1,7 +1,7 @@
 -- That `roll_all` ensures what it says.
 use Rattle.std.proofs.Common.{◌∙◌, ◌<◌, length, sym}
 use Rattle.segment_body.proofs.TableFacts.{not_empty}
-use Rattle.cache_flush.specs.Loads.{kept_of}
+use Rattle.cache_flush.specs.Loads.{kept_in}
 use Rattle.rollup_plan.proofs.RollFacts.{alike, all_covering, all_rolled_up, all_room, first_alike, first_behind, known, sets}
 use Rattle.rollup_plan.proofs.rolls.roll_all.Goals as goal
 
@@ -30,7 +30,7 @@ new-requires-2-clause-adds_up g c e =
     let some : 0 < length c.args.cells.now = not_empty (length c.args.cells.now) c.if-is_empty.ensures in
     let first = first_behind behind.0 c.args.cells.now (g.S.Shelf.loads c.args.shelf.now) c.args.plan.now behind.1 behind.2 some in
     let kept = rw (← c.index-parts-0.is) at c.kept_load.ensures in
-    let kind = first_alike behind.0 _ (g.S.Shelf.loads c.args.shelf.now) c.args.plan.now behind.1 first c.index-parts-0.result (kept_of c.kept_load.result.now) (rw c.as_slice-parts.ensures at c.index-parts-0.is) kept in
+    let kind = first_alike behind.0 _ (g.S.Shelf.loads c.args.shelf.now) c.args.plan.now behind.1 first c.index-parts-0.result (kept_in (g.S.Shelf.flushed c.args.shelf.now) c.kept_load.result.now) (rw c.as_slice-parts.ensures at c.index-parts-0.is) kept in
     first.adds_up (sym kind ∙ sym c.aggregator-aggregator.ensures ∙ e)
 
 pub fold_each-requires-clause-known : goal.fold_each-requires-clause-known
@@ -53,7 +53,7 @@ fold_each-requires-clause-alike g c =
     let some : 0 < length c.args.cells.now = not_empty (length c.args.cells.now) c.if-is_empty.ensures in
     let first = first_behind behind.0 c.args.cells.now (g.S.Shelf.loads c.args.shelf.now) c.args.plan.now behind.1 behind.2 some in
     let kept = rw (← c.index-parts-0.is) at c.kept_load.ensures in
-    let kind = first_alike behind.0 _ (g.S.Shelf.loads c.args.shelf.now) c.args.plan.now behind.1 first c.index-parts-0.result (kept_of c.kept_load.result.now) (rw c.as_slice-parts.ensures at c.index-parts-0.is) kept in
+    let kind = first_alike behind.0 _ (g.S.Shelf.loads c.args.shelf.now) c.args.plan.now behind.1 first c.index-parts-0.result (kept_in (g.S.Shelf.flushed c.args.shelf.now) c.kept_load.result.now) (rw c.as_slice-parts.ensures at c.index-parts-0.is) kept in
     rw (c.in_ok-tallies.ensures, c.as_slice-parts.ensures, c.aggregator-aggregator.ensures, kind) (alike behind.0 _ (g.S.Shelf.loads c.args.shelf.now) c.args.plan.now behind.1 first)
 
 pub fold_each-requires-clause-covering : goal.fold_each-requires-clause-covering
@@ -72,5 +72,5 @@ returns g c =
     let folded = rw (c.fold_each.ensures, c.in_ok-tallies.ensures, c.as_slice-parts.ensures) at c.tallies-2.ensures in
     record {
       rolled =
-          all_rolled_up c.args.cells.now (g.S.Shelf.loads c.args.shelf.now) c.args.plan.now c.index-parts-0.result (kept_of c.kept_load.result.now) c.aggregator-aggregator.result c.tallies-2.result (rw c.as_slice-parts.ensures at c.index-parts-0.is) kept c.aggregator-aggregator.ensures folded;
+          all_rolled_up c.args.cells.now (g.S.Shelf.loads c.args.shelf.now) c.args.plan.now c.index-parts-0.result (kept_in (g.S.Shelf.flushed c.args.shelf.now) c.kept_load.result.now) c.aggregator-aggregator.result c.tallies-2.result (rw c.as_slice-parts.ensures at c.index-parts-0.is) kept c.aggregator-aggregator.ensures folded;
     }

@@ -1,16 +1,25 @@
--- The columns that are left are named by each region so far, and by the one that is added.
-use Rattle.std.proofs.Common.{rules, ◌≡◌, true}
-use Rattle.std.specs.Prelude.{IsTrue}
-use Rattle.std.proofs.lemmas.List.Elements.{All-push, All-weaker}
-use Rattle.cache_flush.specs.Named.{are_named}
-use Rattle.cache_flush.proofs.Naming.{narrowed_named, narrowed_still}
+-- The records tell of one flush more.
+use Rattle.std.proofs.Common.{◌≡◌, ◌∙◌, ◌+◌, ◌++◌, ◌∷◌, [], ℕ, Option, Some, ap, sym, subst, arith, length, set}
+use Rattle.std.proofs.lemmas.List.{length_push}
+use Rattle.olap_meaning.specs.declared.regions.Region.{Region}
+use Rattle.cache_flush.specs.Records.{AreRecordsOf, RecordOf, region_at, region_ready}
+use Rattle.cache_flush.proofs.Recording.{at_region, read_at, records_more, within_more}
 use Rattle.cache_flush.proofs.shut.Shut.add.Goals as goal
 
 pub invariant_of-self : goal.invariant_of-self
 invariant_of-self c =
-    let here : c.deref-then-concerns.result.now ≡ c.args.region.value = search rules in
-    let passes : are_named c.narrow.new.self c.args.region.value ≡ true = rw (c.narrow.ensures, ← here) (narrowed_named c.deref-then-concerns.result.now c.self.inside.named) in
-    rw c.push_reserved.ensures.items
-    (All-push (λ region. IsTrue (are_named c.narrow.new.self region.value)) c.self.inside.regions.items c.args.region
-    (All-weaker (λ region. IsTrue (are_named c.self.inside.named region.value)) (λ region. IsTrue (are_named c.narrow.new.self region.value))
-    (λ region all. rw c.narrow.ensures (narrowed_still c.deref-then-concerns.result.now region.value c.self.inside.named all)) c.self.inside.regions.items c.self.invariant) passes)
+    let (many, are, within, ready) = c.self.invariant in
+    let records = c.self.inside.records.items in
+    let place = c.in-Some.place in
+    let here : region_at records place ≡ Some c.args.region.now = ap (λ (o : Option ℕ). region_ready o records) (sym c.in-Some.is) ∙ rw (← c.self.view_is) at c.requires.room in
+    let (item, at, own) = at_region records place c.args.region.now here in
+    let (inside, same) = read_at records place item c.index_mut.result.now at c.index_mut.ensures.value in
+    let region : c.index_mut.result.now.region ≡ c.args.region.now = ap (λ (r : RecordOf). r.region) (sym same) ∙ own in
+    let flushes : c.add.new.self.flushes ≡ c.index_mut.result.now.flushes ++ (length c.self.inside.flushed.items + 1) ∷ [] = rw many at c.add.ensures.flushes in
+    rw c.and-self-inside.ensures (
+      (let l = length_push c.self.inside.flushed.items c.args.region.now in omega (arith, many, l)),
+      subst (λ (r : Region). AreRecordsOf (c.self.inside.flushed.items ++ r ∷ []) (set records place c.add.new.self)) region
+          (records_more c.self.inside.flushed.items records place c.index_mut.result.now c.add.new.self inside (sym c.index_mut.ensures.value) c.add.ensures.region flushes are),
+      within_more records place c.self.inside.count c.index_mut.result.now c.add.new.self inside (sym c.index_mut.ensures.value) c.add.ensures.flushes within,
+      tt,
+    )

@@ -20,7 +20,7 @@ push-requires-clause-legal c =
 pub evict-requires-clause-kept : goal.evict-requires-clause-kept
 evict-requires-clause-kept c =
     let next =
-    answered c.self.inside.history.setting c.self.inside.history.entries c.self.inside.facts c.self.inside.shelf.loads (has_places c.self.inside.shelf) c.self.inside.flights.flights c.self.inside.installed c.steps_are_legal.ensures c.self.inside.history.spare c.push.new.self.spare c.args.who c.args.sources.value c.self.invariant
+    answered c.self.inside.history.setting c.self.inside.history.entries c.self.inside.facts c.self.inside.shelf.flushed c.self.inside.shelf.loads (has_places c.self.inside.shelf) c.self.inside.flights.flights c.self.inside.installed c.steps_are_legal.ensures c.self.inside.history.spare c.push.new.self.spare c.args.who c.args.sources.value c.self.invariant
     (omega (arith, c.push.ensures.spare, c.in_ok-reserve.ensures.ok, c.in_ok-room_for.ensures)) in
     rw (c.push.ensures.setting, c.push.ensures.entries, c.reserve.ensures.setting, c.reserve.ensures.entries) (record { are = next.kept_are; every = next.kept_all })
 
@@ -40,9 +40,9 @@ invariant_of-self-2 c =
     let grown : c.evict.new.history.entries ≡ (c.self.inside.history.entries ++ Answer c.args.who c.args.sources.value ∷ []) ++ map Evict loads = more ∙ ap (λ (es : List Entry). es ++ map Evict loads) pushed in
     let room : c.in_ok-room_for.field-0 ≡ length c.self.inside.flights.flights + length c.self.inside.flights.flights + length c.self.inside.shelf.loads + 1 = c.in_ok-room_for.ensures in
     let left : length c.self.inside.flights.flights + length c.self.inside.flights.flights + length c.evict.new.shelf.loads ≤ c.evict.new.history.spare = omega (arith, c.push.ensures.spare, c.in_ok-reserve.ensures.ok, room, c.evict.ensures.spare) in
-    rw (settings, grown)
-    (evicted_manager c.self.inside.history.setting (c.self.inside.history.entries ++ Answer c.args.who c.args.sources.value ∷ []) c.push.new.self.spare c.evict.new.history.spare c.self.inside.facts c.self.inside.shelf.loads c.evict.new.shelf.loads (has_places c.self.inside.shelf) (has_places c.evict.new.shelf) c.self.inside.flights.flights c.self.inside.installed loads
-    (answered c.self.inside.history.setting c.self.inside.history.entries c.self.inside.facts c.self.inside.shelf.loads (has_places c.self.inside.shelf) c.self.inside.flights.flights c.self.inside.installed c.steps_are_legal.ensures c.self.inside.history.spare c.push.new.self.spare c.args.who c.args.sources.value c.self.invariant
+    rw (settings, grown, c.evict.ensures.flushed)
+    (evicted_manager c.self.inside.history.setting (c.self.inside.history.entries ++ Answer c.args.who c.args.sources.value ∷ []) c.push.new.self.spare c.evict.new.history.spare c.self.inside.facts c.self.inside.shelf.flushed c.self.inside.shelf.loads c.evict.new.shelf.loads (has_places c.self.inside.shelf) (has_places c.evict.new.shelf) c.self.inside.flights.flights c.self.inside.installed loads
+    (answered c.self.inside.history.setting c.self.inside.history.entries c.self.inside.facts c.self.inside.shelf.flushed c.self.inside.shelf.loads (has_places c.self.inside.shelf) c.self.inside.flights.flights c.self.inside.installed c.steps_are_legal.ensures c.self.inside.history.spare c.push.new.self.spare c.args.who c.args.sources.value c.self.invariant
     (omega (arith, c.push.ensures.spare, c.in_ok-reserve.ensures.ok, c.in_ok-room_for.ensures)))
     (rw (settings, grown) at c.steps_are_legal-2.ensures) (rw (settings, grown) at c.evict.ensures.kept) left (c.evict.ensures.places (headers_of c.self.inside.flights.flights) c.self.invariant.places_fit))
 

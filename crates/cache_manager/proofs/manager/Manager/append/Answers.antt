@@ -31,7 +31,7 @@ invariant_of-self-2 c =
     let is = c.self.view_is in
     let are = c.self.invariant.facts_are in
     rw (c.push.ensures.setting, c.push.ensures.entries, c.reserve.ensures.setting, c.reserve.ensures.entries, c.in_ok-batch.ensures, c.in-Ok.ensures.appended, same)
-    (appended c.self.inside.history.setting c.self.inside.history.entries c.self.inside.facts _ _ _ _ c.steps_are_legal.ensures c.self.inside.history.spare _ c.args.who c.args.cube c.in-Ok.version c.args.batch c.self.invariant
+    (appended c.self.inside.history.setting c.self.inside.history.entries c.self.inside.facts _ _ _ _ _ c.steps_are_legal.ensures c.self.inside.history.spare _ c.args.who c.args.cube c.in-Ok.version c.args.batch c.self.invariant
     (omega (arith, c.push.ensures.spare, c.in_ok-reserve.ensures.ok, c.in_ok-room_for.ensures))
     (known_cube c.args.self.now c.self.inside.history c.self.inside.facts c.args.who c.args.cube c.args.batch is are c.requires.known c.requires.fit)
     (fits_cube c.args.self.now c.self.inside.history c.self.inside.facts c.args.who c.args.cube c.args.batch is are c.requires.known c.requires.fit))

@@ -16,7 +16,7 @@ shut_off-requires-clause-legal c =
 
 pub invariant_of-self-2 : goal.invariant_of-self-2
 invariant_of-self-2 c =
-    rw (c.shut_off.ensures.setting, c.shut_off.ensures.entries, c.shut_off.ensures.loads, c.shut_off.ensures.flights, c.make_room.ensures.setting, c.make_room.ensures.entries, c.make_room.ensures.loads, c.make_room.ensures.flights)
-    (flushed c.self.inside.history.setting c.self.inside.history.entries c.self.inside.facts c.self.inside.shelf.loads (has_places c.self.inside.shelf) c.self.inside.flights.flights _ c.steps_are_legal.ensures c.self.inside.history.spare _ (has_places c.shut_off.new.shelf) c.args.who c.in_ok-region.region.value c.self.invariant
-    (omega (arith, c.shut_off.ensures.spare, c.in_ok-room.ensures.entry_room))
+    rw (c.shut_off.ensures.setting, c.shut_off.ensures.entries, c.shut_off.ensures.loads, c.shut_off.ensures.flushed, c.make_room.ensures.setting, c.make_room.ensures.entries, c.make_room.ensures.loads, c.make_room.ensures.flushed)
+    (flushed c.self.inside.history.setting c.self.inside.history.entries c.self.inside.facts c.self.inside.shelf.flushed c.self.inside.shelf.loads (has_places c.self.inside.shelf) c.self.inside.flights.flights _ c.steps_are_legal.ensures c.self.inside.history.spare _ (has_places c.shut_off.new.shelf) c.args.who c.in_ok-region.region.value c.self.invariant
+    (omega (arith, c.shut_off.ensures.spare, c.in_ok-make_room.ensures.entry_room))
     (λ headers had. c.shut_off.ensures.places headers (c.make_room.ensures.places headers had)))

@@ -18,5 +18,5 @@ pub invariant_of-self-2 : goal.invariant_of-self-2
 invariant_of-self-2 c =
     let own : IsOwnTable (cache_of c.self.inside.history) c.args.table = subst (λ (k : CacheOf). IsOwnTable k c.args.table) (sym c.self.view_is) c.requires.own in
     rw (c.push.ensures.setting, c.push.ensures.entries, c.reserve.ensures.setting, c.reserve.ensures.entries, c.table-2.ensures, c.version.ensures, c.in_ok-install.ensures.installed)
-    (installs c.self.inside.history.setting c.self.inside.history.entries c.self.inside.facts _ (has_places c.self.inside.shelf) _ c.self.inside.installed c.steps_are_legal.ensures c.self.inside.history.spare _ c.args.who c.args.table own.cube c.self.invariant
+    (installs c.self.inside.history.setting c.self.inside.history.entries c.self.inside.facts _ _ (has_places c.self.inside.shelf) _ c.self.inside.installed c.steps_are_legal.ensures c.self.inside.history.spare _ c.args.who c.args.table own.cube c.self.invariant
     (omega (arith, c.push.ensures.spare, c.in_ok-reserve.ensures.ok, c.in_ok-room_for.ensures)) own.known own.reached own.built)

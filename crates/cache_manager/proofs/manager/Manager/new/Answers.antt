@@ -1,5 +1,5 @@
 -- Where nothing has happened nothing is kept.
-use Rattle.std.proofs.Common.{rules, ◌∙◌, ap, length}
+use Rattle.std.proofs.Common.{rules, ◌∙◌, ap, length, refl}
 use Rattle.olap_meaning.specs.declared.tables.Catalog.{Catalog}
 use Rattle.history_core.specs.History.{setting_of}
 use Rattle.cache_manager.proofs.Facts.{none_appended}
@@ -7,8 +7,9 @@ use Rattle.cache_manager.proofs.Installing.{no_tables}
 use Rattle.cache_manager.proofs.manager.Manager.new.Goals as goal
 
 pub invariant_of-result : goal.invariant_of-result
-invariant_of-result c = rw (c.new-2.ensures, c.new-3.ensures.loads, c.new-4.ensures, c.new-5.ensures, c.in_ok-facts.ensures) (record {
+invariant_of-result c = rw (c.new-2.ensures, c.new-3.ensures.loads, c.new-3.ensures.flushed, c.new-4.ensures, c.new-5.ensures, c.in_ok-facts.ensures) (record {
   facts_are = none_appended (setting_of c.args.catalog.value c.args.row_limit c.args.budget) c.cube_count.result c.requires (c.cube_count.ensures.count ∙ ap (λ (k : Catalog). length k.cubes) c.deref.ensures);
+  regions_are = refl;
   kept_are = search rules;
   kept_all = search rules;
   flights_are = search rules;

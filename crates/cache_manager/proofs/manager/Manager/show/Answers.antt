@@ -14,5 +14,5 @@ push-requires-clause-legal c =
 pub invariant_of-self-2 : goal.invariant_of-self-2
 invariant_of-self-2 c =
     rw (c.push.ensures.setting, c.push.ensures.entries, c.reserve.ensures.setting, c.reserve.ensures.entries)
-    (shown c.self.inside.history.setting c.self.inside.history.entries c.self.inside.facts _ (has_places c.self.inside.shelf) _ _ c.steps_are_legal.ensures c.self.inside.history.spare _ c.args.who c.self.invariant
+    (shown c.self.inside.history.setting c.self.inside.history.entries c.self.inside.facts _ _ (has_places c.self.inside.shelf) _ _ c.steps_are_legal.ensures c.self.inside.history.spare _ c.args.who c.self.invariant
     (omega (arith, c.push.ensures.spare, c.in_ok-reserve.ensures.ok, c.in_ok-room_for.ensures)))

@@ -47,13 +47,13 @@ start_all-requires-clause-flights_new g c =
 pub invariant_of-self-2 : goal.invariant_of-self-2
 invariant_of-self-2 g c =
     let many : length c.in_ok-plans.plans.items ≡ vec_len c.in_ok-plans.plans = sym c.in_ok-plans.plans.ok.0 in
-    rw (c.start_all.ensures.setting, c.start_all.ensures.entries, c.start_all.ensures.flights, c.reserve-2.ensures.setting, c.reserve-2.ensures.entries, c.reserve.ensures.flights, c.reserve_places.ensures.loads)
+    rw (c.start_all.ensures.setting, c.start_all.ensures.entries, c.start_all.ensures.flights, c.reserve-2.ensures.setting, c.reserve-2.ensures.entries, c.reserve.ensures.flights, c.reserve_places.ensures.loads, c.len-place.ensures, c.shut_list.ensures, c.reserve_places.ensures.flushed)
     (manager_started (Widened ((answers-value g.dyn-1).it c.args.widener.now)) (cache_of c.self.inside.history) c.args.who (lent c.args.wanted.now) c.in_ok-plans.plans.items c.steps_are_legal.ensures
     (subst (λ (k : CacheOf). list_all (is_cell k.setting.catalog) (lent c.args.wanted.now) ≡ true) (sym c.self.view_is) c.requires.known)
     (subst (λ (k : CacheOf). list_all (λ cell. not (has_source k.setting.catalog k.entries cell)) (lent c.args.wanted.now) ≡ true) (sym c.self.view_is) c.requires.unserved)
     (subst (λ (k : CacheOf). list_all (λ cell. not (is_some (awaited_load k.entries cell))) (lent c.args.wanted.now) ≡ true) (sym c.self.view_is) c.requires.unawaited)
     (subst (λ (k : CacheOf). ArePrepared (Widened ((answers-value g.dyn-1).it c.args.widener.now)) k c.args.who (lent c.args.wanted.now) (length k.entries + 1) (firsts [] (lent c.args.wanted.now)) c.in_ok-plans.plans.items) (sym c.self.view_is) c.in_ok-plans.ensures)
-    c.self.inside.facts c.self.inside.shelf.loads c.self.inside.history.spare _ (has_places c.self.inside.shelf) (has_places c.reserve_places.new.shelf) c.self.inside.flights.flights _ c.self.invariant
+    c.self.inside.facts c.self.inside.shelf.flushed c.self.inside.shelf.loads c.self.inside.history.spare _ (has_places c.self.inside.shelf) (has_places c.reserve_places.new.shelf) c.self.inside.flights.flights _ c.self.invariant
     (omega (arith, many, c.start_all.ensures.spare, c.in_ok-reserve-2.ensures.ok, rw c.reserve.ensures.flights at c.in_ok-room_to_start.ensures, c.len-2.ensures))
     (subst (λ (plans : List Planned). has_places c.reserve_places.new.shelf (headers_of c.self.inside.flights.flights ++ map (λ p. p.flight.header) plans)) c.as_slice.ensures.value
     (c.in_default.ensures.ok (headers_of c.self.inside.flights.flights) c.self.invariant.places_fit)))

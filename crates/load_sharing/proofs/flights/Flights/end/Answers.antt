@@ -3,8 +3,8 @@ use Rattle.std.proofs.Common.{length, refl, arith}
 use Rattle.std.proofs.lemmas.Option.{slice_get_read}
 use Rattle.load_sharing.specs.Flights.{flight_of}
 use Rattle.cache_flush.proofs.NumberFacts.{is_place}
-use Rattle.cache_flush.proofs.Shelves.{map_mapped}
-use Rattle.load_sharing.proofs.FlightFacts.{left_differ, left_flights, taken_shut}
+use Rattle.cache_flush.proofs.ListFacts.{map_mapped}
+use Rattle.load_sharing.proofs.FlightFacts.{left_differ, left_flights, taken_place}
 use Rattle.load_sharing.proofs.MaskFacts.{counted_less}
 use Rattle.load_sharing.proofs.flights.Flights.end.Goals as goal
 
@@ -40,9 +40,9 @@ returns-clause-flights c =
     let there = rw c.as_slice.ensures.value at c.place_of-place.ensures in
     rw (c.remove-flight.ensures.items, ← c.self.view_is) (left_flights c.self.inside.flights.items c.place_of-place.result c.args.load c.self.invariant.0 there)
 
-pub returns-clause-shut : goal.returns-clause-shut
-returns-clause-shut c =
+pub returns-clause-place : goal.returns-clause-place
+returns-clause-place c =
     let there = rw c.as_slice.ensures.value at c.place_of-place.ensures in
     let below = is_place (λ flight. flight.load) c.self.inside.flights.items c.place_of-place.result c.args.load there in
     let taken = slice_get_read c.self.inside.flights.items (length c.self.inside.flights.items) c.place_of-place.result c.remove-flight.result refl below c.remove-flight.ensures.value in
-    rw (← c.self.view_is) (taken_shut c.self.inside.flights.items c.place_of-place.result c.args.load c.remove-flight.result c.self.invariant.0 there taken)
+    rw (← c.self.view_is) (taken_place c.self.inside.flights.items c.place_of-place.result c.args.load c.remove-flight.result c.self.invariant.0 there taken)

@@ -6,8 +6,8 @@ use Rattle.segment_index.proofs.index.SegmentIndexCacheShelf.reserve.Goals as go
 
 pub returns-in_err-reserve-2-clause-places : goal.returns-in_err-reserve-2-clause-places
 returns-in_err-reserve-2-clause-places c =
-    let old = index_of c.self.inside.loads.loads c.self.inside.places c.self.inside.groups c.self.inside.loads.rooms in
-    let new = index_of c.reserve.new.self.loads c.self.inside.places c.reserve-2.new.self c.reserve.new.self.rooms in
+    let old = index_of c.self.inside.loads c.self.inside.places c.self.inside.groups in
+    let new = index_of c.reserve.new.self c.self.inside.places c.reserve-2.new.self in
     rw (← c.self.view_is) (λ headers. places_stay old new headers (omega arith) (seen_same c.self.inside.groups c.reserve-2.new.self c.in_err-reserve-2.ensures.err))
 
 pub invariant_of-self-2 : goal.invariant_of-self-2
@@ -16,14 +16,14 @@ invariant_of-self-2 c =
 
 pub returns-clause-place : goal.returns-clause-place
 returns-clause-place c =
-    let old = index_of c.self.inside.loads.loads c.self.inside.places c.self.inside.groups c.self.inside.loads.rooms in
-    let new = index_of c.reserve.new.self.loads c.in_ok-places.places c.reserve-2.new.self c.reserve.new.self.rooms in
+    let old = index_of c.self.inside.loads c.self.inside.places c.self.inside.groups in
+    let new = index_of c.reserve.new.self c.in_ok-places.places c.reserve-2.new.self in
     let each = seen_more c.self.inside.groups c.reserve-2.new.self c.header_mask.result c.in_ok-reserve-2.ensures.ok in
     rw (← c.self.view_is) (place_made old new c.args.header.now c.header_mask.result c.header_mask.ensures c.in_ok-places.ensures each)
 
 pub returns-clause-places : goal.returns-clause-places
 returns-clause-places c =
-    let old = index_of c.self.inside.loads.loads c.self.inside.places c.self.inside.groups c.self.inside.loads.rooms in
-    let new = index_of c.reserve.new.self.loads c.in_ok-places.places c.reserve-2.new.self c.reserve.new.self.rooms in
+    let old = index_of c.self.inside.loads c.self.inside.places c.self.inside.groups in
+    let new = index_of c.reserve.new.self c.in_ok-places.places c.reserve-2.new.self in
     let each = seen_more c.self.inside.groups c.reserve-2.new.self c.header_mask.result c.in_ok-reserve-2.ensures.ok in
     rw (← c.self.view_is) (places_kept old new c.args.header.now c.header_mask.result c.header_mask.ensures c.in_ok-places.ensures each)

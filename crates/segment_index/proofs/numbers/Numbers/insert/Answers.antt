@@ -1,7 +1,8 @@
 -- That `insert` puts the number in its place.
 use Rattle.std.proofs.Common.{◌∙◌, Err, Ok, sym}
 use Rattle.segment_index.proofs.LoadFacts.{on_ok}
-use Rattle.segment_index.proofs.RisingFacts.{among_inserted, among_still, found_at, inserted_rise}
+use Rattle.cache_flush.proofs.RisingFacts.{found_at}
+use Rattle.segment_index.proofs.RisingFacts.{among_inserted, among_still, inserted_rise}
 use Rattle.segment_index.proofs.numbers.Numbers.insert.Goals as goal
 
 pub invariant_of-self : goal.invariant_of-self

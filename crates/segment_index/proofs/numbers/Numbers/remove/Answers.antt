@@ -1,7 +1,8 @@
 -- That `remove` takes the number out.
 use Rattle.std.proofs.Common.{Err, Ok}
 use Rattle.segment_index.proofs.LoadFacts.{on_some}
-use Rattle.segment_index.proofs.RisingFacts.{among_left, among_others, found_at, left_rise}
+use Rattle.cache_flush.proofs.RisingFacts.{found_at}
+use Rattle.segment_index.proofs.RisingFacts.{among_left, among_others, left_rise}
 use Rattle.segment_index.proofs.numbers.Numbers.remove.Goals as goal
 
 pub invariant_of-self : goal.invariant_of-self
