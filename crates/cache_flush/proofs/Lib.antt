@@ -4,3 +4,5 @@ pub mod NumberFacts
 pub mod Concerning
 pub mod Recording
 pub mod RisingFacts
+pub mod GoneFacts
+pub mod AnchorFacts

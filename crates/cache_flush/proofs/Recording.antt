@@ -142,6 +142,17 @@ any_counted p (x ∷ xs) =
     by true n = grind (arith, nat_tests)
     by false n = grind (arith, nat_tests)
 
+-- a record that was not flushed after a place counts nothing
+pub none_after : (test : Region → Bool) (since : ℕ) (item : RecordOf) → list_any (is_after since) item.flushes ≡ false → count_of test since item ≡ 0
+none_after test since item none =
+    let few : count_by (is_after since) item.flushes ≤ 0 = ltb-false 0 (count_by (is_after since) item.flushes) (sym (any_counted (is_after since) item.flushes) ∙ none) in
+    let nothing : count_by (is_after since) item.flushes ≡ 0 = omega (arith, few) in
+    rw nothing (by (test item.region))
+  where
+    by : (b : Bool) → cond {A = ℕ} b 0 0 ≡ 0
+    by true = refl
+    by false = refl
+
 any_of : (test : Region → Bool) (since : ℕ) (item : RecordOf) → (list_any (is_after since) item.flushes && test item.region) ≡ nat_lt 0 (count_of test since item)
 any_of test since item = ap (λ (b : Bool). b && test item.region) (any_counted (is_after since) item.flushes) ∙ by (test item.region) (count_by (is_after since) item.flushes)
   where
@@ -193,3 +204,8 @@ pub set_at : (records : List RecordOf) (place : ℕ) (item changed : RecordOf) �
 set_at [] place item changed at = absurd (cc)
 set_at (r ∷ rs) zero item changed at = refl
 set_at (r ∷ rs) (suc place) item changed at = set_at rs place item changed at
+
+-- a record more stands at the place after the others
+pub region_pushed : (records : List RecordOf) (item : RecordOf) → region_at (records ++ item ∷ []) (length records) ≡ Some item.region
+region_pushed [] item = refl
+region_pushed (r ∷ rs) item = region_pushed rs item

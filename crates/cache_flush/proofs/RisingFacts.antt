@@ -1,14 +1,14 @@
 -- Numbers that rise: what stands at their places, what a search among them finds, and how many are above a number.
-use Rattle.std.proofs.Common.{◌≡◌, ◌∙◌, sym, ap, refl, ◌<◌, ◌≤◌, ◌+◌, ◌++◌, ℕ, zero, suc, Bool, true, false, cond, List, [], ◌∷◌, ◌||◌, arith, inl, inr, get_or, slice_get, Some, ◌-◌, length, nat_cmp, All}
+use Rattle.std.proofs.Common.{◌≡◌, sym, subst, refl, ◌<◌, ◌≤◌, ◌+◌, ◌++◌, ℕ, zero, suc, Bool, true, false, cond, List, [], ◌∷◌, ◌||◌, arith, inl, inr, get_or, ◌-◌, length, nat_cmp, All}
 use Rattle.std.specs.Prelude.{◌==◌, count_by, nat_lt, Result, MatchResult}
 use Rattle.std.specs.List.{list_all, list_any}
 use Rattle.std.specs.List.Sorted.{IsBinarySearchResult}
 use Rattle.std.proofs.lemmas.Bool.{and_from, and_parts, cases_Bool, eq-eqb, lt-ltb}
 use Rattle.std.proofs.lemmas.Bool.Decides.{nat_tests}
+use Rattle.std.proofs.lemmas.List.{length_push}
 use Rattle.std.proofs.lemmas.List.Elements.{All-head, All-tail}
 use Rattle.std.proofs.lemmas.List.Sorted.{searched}
 use Rattle.std.proofs.lemmas.List.Sums.{sum_by-cons}
-use Rattle.std.proofs.lemmas.Option.{get_or_from_slice_get, slice_get_within}
 use Rattle.olap_meaning.specs.Covering.{among}
 use Rattle.olap_meaning.specs.Legal.{rise}
 use Rattle.olap_meaning.proofs.Orders.{above_of}
@@ -105,11 +105,22 @@ any_above (x ∷ y ∷ xs) (suc i) s up last =
       | inr under ↦ rw under rest
     ]
 
-pub any_last : (xs : List ℕ) (s l : ℕ) → rise xs ≡ true → slice_get xs (length xs - 1) ≡ Some l → nat_lt s l ≡ list_any (λ x. nat_lt s x) xs
-any_last xs s l up at =
-    let inside = slice_get_within xs (length xs - 1) l at in
-    let here : get_or xs (length xs - 1) 0 ≡ l = get_or_from_slice_get xs (length xs - 1) l 0 at in
-    sym (any_above xs (length xs - 1) s up (omega (arith, inside)) ∙ ap (nat_lt s) here)
+-- the last, 0 where there is none
+pub any_last : (xs : List ℕ) (s : ℕ) → rise xs ≡ true → nat_lt s (get_or xs (length xs - 1) 0) ≡ list_any (λ x. nat_lt s x) xs
+any_last [] s up = grind (arith, nat_tests)
+any_last (x ∷ xs) s up =
+    let e : length (x ∷ xs) - 1 ≡ length xs = omega arith in
+    subst (λ (i : ℕ). nat_lt s (get_or (x ∷ xs) i 0) ≡ list_any (λ y. nat_lt s y) (x ∷ xs)) (sym e) (sym (any_above (x ∷ xs) (length xs) s up refl))
+
+last_at : (xs : List ℕ) (n : ℕ) → get_or (xs ++ n ∷ []) (length xs) 0 ≡ n
+last_at [] n = refl
+last_at (x ∷ xs) n = last_at xs n
+
+-- the last of some with one more
+pub last_push : (xs : List ℕ) (n : ℕ) → get_or (xs ++ n ∷ []) (length (xs ++ n ∷ []) - 1) 0 ≡ n
+last_push xs n =
+    let e : length (xs ++ n ∷ []) - 1 ≡ length xs = (let l = length_push xs n in omega (arith, l)) in
+    subst (λ (i : ℕ). get_or (xs ++ n ∷ []) i 0 ≡ n) (sym e) (last_at xs n)
 
 -- how many are above one that is found
 pub counted_found : (xs : List ℕ) (i s : ℕ) → rise xs ≡ true → i < length xs → get_or xs i 0 ≡ s → count_by (λ x. nat_lt s x) xs + suc i ≡ length xs

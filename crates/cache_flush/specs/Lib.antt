@@ -1,3 +1,5 @@
 pub mod Shuts
 pub mod Records
+pub mod Anchors
+pub mod Gone
 pub mod Loads

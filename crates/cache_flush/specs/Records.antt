@@ -1,5 +1,5 @@
 -- The regions that were flushed, each once.
-use Rattle.std.specs.Prelude.{ℕ, ◌≡◌, ◌<◌, ◌≤◌, ◌+◌, ◌^◌, ⊤, List, Bool, Option, Some, None, All, count_by, drop, if◌then◌else◌, nat_lt, option_map, slice_get, sum_by}
+use Rattle.std.specs.Prelude.{ℕ, ◌≡◌, ◌<◌, ◌≤◌, ◌+◌, ◌++◌, ◌∷◌, ◌^◌, [], ⊤, List, Bool, false, Option, Some, None, All, count_by, drop, if◌then◌else◌, nat_lt, option_map, slice_get, slice_set, sum_by}
 use Rattle.std.specs.Option.{option_and_then}
 use Rattle.olap_meaning.specs.declared.regions.Region.{Region}
 
@@ -33,6 +33,15 @@ AreRecordsOf regions records =
 abbrev pub AreWithin : ℕ → List RecordOf → Type 0
 AreWithin count records = All (λ item. All (λ flush. flush ≤ count) item.flushes) records
 
+-- a record passes a test, where there is one
+abbrev pub passes : (RecordOf → Bool) → Option RecordOf → Bool
+passes test None = false
+passes test (Some item) = test item
+
+-- the record at a position passes a test
+abbrev pub passes_at : (RecordOf → Bool) → List RecordOf → ℕ → Bool
+passes_at test records position = passes test (slice_get records position)
+
 -- the region of the record at a place
 abbrev pub region_at : List RecordOf → ℕ → Option Region
 region_at records place = option_map (λ item. item.region) (slice_get records place)
@@ -55,3 +64,15 @@ IsReady count (Some place) records = (count + 1 < 2 ^ 64) × HasRoom records pla
 pub record IsKept (before after : List RecordOf) : Type 0 where
   pub counted : (test : Region → Bool) (since : ℕ) → count_in test since after ≡ count_in test since before
   pub within : (count : ℕ) → AreWithin count before → AreWithin count after
+
+-- the record at a place has one flush more, and all else stays
+abbrev pub HasMore : ℕ → ℕ → List RecordOf → List RecordOf → Type 0
+HasMore place flush before after =
+    (item : RecordOf) × (added : RecordOf) × (slice_get before place ≡ Some item)
+    × (after ≡ slice_set before place added) × (added.region ≡ item.region)
+    × (added.flushes ≡ item.flushes ++ flush ∷ [])
+
+-- the records, and the places of those that were flushed last
+pub record LedgerOf : Type 0 where
+  pub records : List RecordOf
+  pub recent : List ℕ

@@ -1,13 +1,13 @@
 //! A load that was delivered.
-ghost use Rattle.std.specs.Prelude.{◌≡◌, ◌&&◌, not};
+ghost use Rattle.std.specs.Prelude.{◌≡◌, ◌&&◌, Contains, IsTrue, drop, not};
 ghost use Rattle.std.specs.List.{list_any};
 ghost use Rattle.olap_meaning.specs.Covering as covering;
 ghost use Rattle.cache_flush.specs.Loads as loads;
-ghost use Rattle.cache_flush.specs.Loads.{kept_in};
+ghost use Rattle.cache_flush.specs.Loads.{IsGone, kept_in};
 ghost use Rattle.cache_flush.specs.Shuts.{is_live};
 
 use crate::shut::Shut;
-use olap_meaning::{Cell, Header, Version};
+use olap_meaning::{Cell, Header, Region, Version};
 use segment_body::Body;
 use segment_header::{covers, names_column, same_columns};
 
@@ -55,6 +55,15 @@ impl Kept {
             ≡ covering.touching self.now.body.header (kept_in shut.now.regions self.now).shut }
     {
         shut.count(self.place, self.body.header())
+    }
+
+    /// Whether the regions that were flushed since the load's Start shut it off as a whole, as far as a short test tells, where this
+    /// one is among them. It takes no memory.
+    pub fn is_gone(&self, shut: &Shut, region: &Region) -> bool
+        requires since { Contains (drop self.now.place shut.now.regions) region.now }
+        ensures { IsTrue result → IsGone (kept_in shut.now.regions self.now) }
+    {
+        shut.shuts_off(self.place, self.body.header(), region)
     }
 
     /// Whether the load covers a cell with just the cell's columns, live or not. It takes no memory.

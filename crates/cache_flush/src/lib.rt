@@ -5,7 +5,12 @@
 //! their own, so that what a flush changes takes no memory.
 #![tactic(auto)]
 
+mod anchors;
+mod finder;
+mod gone;
 mod kept;
+mod ledger;
+mod places;
 mod record;
 mod same;
 mod shared;

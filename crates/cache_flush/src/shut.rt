@@ -1,11 +1,12 @@
 //! The regions that were flushed.
-ghost use Rattle.std.specs.Prelude.{◌≡◌, ◌<◌, ◌^◌, ◌&&◌, ◌++◌, ◌∷◌, [], IfOk, IfSome, None, OnOk, Some, drop, length};
-ghost use Rattle.std.specs.List.{list_any};
-ghost use Rattle.olap_meaning.specs.Covering.{region_covers, region_touches, touching};
-ghost use Rattle.cache_flush.specs.Records.{HasRoom, IsKept, count_in, is_after, region_at};
+ghost use Rattle.std.specs.Prelude.{◌≡◌, ◌++◌, ◌∷◌, [], Contains, IsTrue, None, OnOk, Some, drop, length};
+ghost use Rattle.olap_meaning.specs.Covering.{touching};
+ghost use Rattle.segment_header.specs.Headers.{is_header};
+ghost use Rattle.cache_flush.specs.Gone.{NoneIsLive};
 ghost use Rattle.cache_flush.specs.Shuts.{is_live};
 
-use crate::record::Record;
+use crate::gone::{span_along, spans};
+use crate::ledger::Ledger;
 use olap_meaning::{Cell, Header, OutOfMemory, Region};
 use std::alloc::Global;
 use std::marker::Model;
@@ -16,8 +17,7 @@ use traces::Trace;
 /// place: how many regions had been flushed at its Start. The regions after its place shut off part of it.
 #[derive(Drop)]
 pub struct Shut {
-    alloc: Global,
-    records: Vec<Record>,
+    ledger: Ledger,
     count: u64,
     ready: Option<usize>,
     flushed: Trace<Region>,
@@ -30,12 +30,12 @@ impl Model for Shut {
 
     ghost Value = { ShutOf };
 
-    ghost view = { λ a. record { regions = a.flushed.items; ready = region_ready a.ready a.records.items } };
+    ghost view = { λ a. record { regions = a.flushed.items; ready = region_ready a.ready a.ledger.records } };
 
     ghost invariant = { λ a. (a.count ≡ length a.flushed.items)
-        × AreRecordsOf a.flushed.items a.records.items
-        × AreWithin a.count a.records.items
-        × IsReady a.count a.ready a.records.items };
+        × AreRecordsOf a.flushed.items a.ledger.records
+        × AreWithin a.count a.ledger.records
+        × IsReady a.count a.ready a.ledger.records };
 }
 
 impl Shut {
@@ -44,8 +44,7 @@ impl Shut {
         ensures { result ≡ record { regions = []; ready = None } }
     {
         Shut {
-            alloc,
-            records: Vec::new(alloc),
+            ledger: Ledger::new(alloc),
             count: 0,
             ready: None,
             flushed: Trace::new(),
@@ -66,7 +65,7 @@ impl Shut {
     {
         self.ready = None;
         let _next = self.count.checked_add(1).ok_or(OutOfMemory)?;
-        let place = make_ready(self.alloc, &mut self.records, region)?;
+        let place = self.ledger.reserve(region)?;
         self.ready = Some(place);
         Ok(())
     }
@@ -78,7 +77,7 @@ impl Shut {
     {
         if let Some(place) = self.ready {
             self.count += 1;
-            self.records[place].add(self.count);
+            self.ledger.add(place, self.count);
             self.ready = None;
             self.flushed = self.flushed.and(region);
         }
@@ -88,7 +87,7 @@ impl Shut {
     pub fn is_live(&self, place: u64, cell: &Cell) -> bool
         ensures { result ≡ is_live (drop place self.now.regions) cell.now }
     {
-        place >= self.count || !cover(self.records.as_slice(), place, cell)
+        place >= self.count || !self.ledger.cover(place, cell)
     }
 
     /// How many of the regions after a place touch a header. It takes no memory.
@@ -98,78 +97,17 @@ impl Shut {
         if place >= self.count {
             return 0;
         }
-        count_touching(self.records.as_slice(), place, header)
+        self.ledger.count(place, header)
     }
-}
 
-// The place of the record of a region.
-fn place_of(records: &[Record], region: &Region) -> Option<usize>
-    ensures { IfSome result (λ place. region_at records.now place ≡ Some region.now) }
-{
-    for place in (0..records.len()).rev() {
-        if records[place].is_of(region) {
-            return Some(place);
-        }
+    /// Whether the regions after a place shut off a header as a whole, as far as a short test tells, where a region is one of
+    /// them: it spans the header, or it and the regions that were flushed last do so value by value along one column of few
+    /// values. It takes no memory.
+    pub(crate) fn shuts_off(&self, place: u64, header: &Header, region: &Region) -> bool
+        requires formed { IsTrue (is_header header.now) }
+        requires since { Contains (drop place self.now.regions) region.now }
+        ensures { IsTrue result → NoneIsLive (drop place self.now.regions) header.now }
+    {
+        spans(region, header, &None) || span_along(&self.ledger, place, header, region)
     }
-    None
-}
-
-// The place of the record of a region, which is made where there is none.
-fn place_for(
-    alloc: Global,
-    records: &mut Vec<Record>,
-    region: &Arc<Region>,
-) -> Result<usize, OutOfMemory>
-    ensures records { IsKept records.old.items records.new.items }
-    ensures place { IfOk result
-        (λ place. region_at records.new.items place ≡ Some region.now.value) }
-{
-    if let Some(place) = place_of(records.as_slice(), region) {
-        return Ok(place);
-    }
-    let place = records.len();
-    records.push(Record::new(alloc, Arc::try_clone(region)?))?;
-    Ok(place)
-}
-
-// Makes room for a flush of a region, and tells the place of its record.
-fn make_ready(
-    alloc: Global,
-    records: &mut Vec<Record>,
-    region: &Arc<Region>,
-) -> Result<usize, OutOfMemory>
-    ensures records { IsKept records.old.items records.new.items }
-    ensures place { IfOk result
-        (λ place. region_at records.new.items place ≡ Some region.now.value) }
-    ensures room { IfOk result (λ place. HasRoom records.new.items place) }
-{
-    let place = place_for(alloc, records, region)?;
-    records[place].reserve()?;
-    Ok(place)
-}
-
-// A region that was flushed after a place covers a cell.
-fn cover(records: &[Record], place: u64, cell: &Cell) -> bool
-    ensures { result
-        ≡ list_any
-        (λ item. list_any (is_after place) item.flushes && region_covers item.region cell.now)
-        records.now }
-{
-    records
-        .iter()
-        .any(|record| record.is_after(place) && record.covers(cell))
-}
-
-// How often a region that touches a header was flushed after a place.
-fn count_touching(records: &[Record], place: u64, header: &Header) -> u64
-    requires { count_in (λ region. region_touches region header.now) place records.now < 2 ^ 64 }
-    ensures { result ≡ count_in (λ region. region_touches region header.now) place records.now }
-{
-    let mut count = 0;
-    for record in records {
-        if record.touches(header) {
-            count += record.count_after(place) as u64;
-        }
-    }
-    count
 }

@@ -57,8 +57,8 @@ fn has_allowed(values: &[ValueId], allowed: &Allowed) -> bool
     values.iter().any(|value| is_allowed(allowed, *value))
 }
 
-// A value is allowed, whether or not the allowed values rise.
-fn is_allowed(allowed: &Allowed, value: ValueId) -> bool
+/// A value is allowed, whether or not the allowed values rise.
+pub(crate) fn is_allowed(allowed: &Allowed, value: ValueId) -> bool
     ensures { result ≡ covering.allows allowed.now value }
 {
     match allowed {
@@ -68,7 +68,7 @@ fn is_allowed(allowed: &Allowed, value: ValueId) -> bool
 }
 
 // A value is among some.
-fn have(values: &[ValueId], value: ValueId) -> bool
+pub(crate) fn have(values: &[ValueId], value: ValueId) -> bool
     ensures { result ≡ covering.among values.now value }
 {
     values.iter().any(|one| *one == value)

@@ -34,7 +34,7 @@ others n loads = filter (λ kept. not (kept.load == n)) loads
 
 -- ---- what is left, as a list
 
-none_found : (loads : List KeptOf) (n : ℕ) → find (λ kept. kept.load == n) loads ≡ None → others n loads ≡ loads
+pub none_found : (loads : List KeptOf) (n : ℕ) → find (λ kept. kept.load == n) loads ≡ None → others n loads ≡ loads
 none_found [] n none = refl
 none_found (k ∷ loads) n none =
     elim (cases_Bool (k.load == n)) [

@@ -1,57 +1,42 @@
--- The places for loads of some headers, by their masks.
-use Rattle.std.proofs.Common.{◌≡◌, ◌<◌, ◌≤◌, ◌+◌, ◌-◌, ◌++◌, ℕ, suc, Bool, true, false, List, [], ◌∷◌, refl, ap, arith, nat_eq, length, map, if◌then◌else◌}
-use Rattle.std.proofs.lemmas.Bool.Decides.{nat_tests}
+-- The places for loads of some headers, in all and in each list.
+use Rattle.std.proofs.Common.{◌≡◌, ◌<◌, ◌≤◌, ◌+◌, ◌-◌, ◌++◌, ℕ, suc, List, [], ◌∷◌, refl, ap, arith, nat_eq, length, map, if◌then◌else◌}
+use Rattle.std.proofs.lemmas.List.Sums.{sum_by-cons}
 use Rattle.olap_meaning.specs.declared.cells.Header.{Header}
-use Rattle.segment_index.specs.Grouping.{places_at}
+use Rattle.segment_index.specs.Grouping.{IsReserved, places_at}
 use Rattle.segment_index.specs.Numbered.{NumberedOf}
-use Rattle.segment_index.specs.Index.{IndexOf, count_under, has_places, places_with}
-use Rattle.segment_header.specs.Masks.{header_mask}
-
--- the places with a mask, as the groups count them
-pub places_seen : (groups : List (ℕ × (List ℕ × ℕ))) (mask : ℕ) → places_with (map (λ under. (under.0, under.1.1)) groups) mask ≡ places_at groups mask
-places_seen [] mask = refl
-places_seen (g ∷ groups) mask = ap (λ (n : ℕ). if nat_eq mask g.0 then g.1.1 else n) (places_seen groups mask)
+use Rattle.segment_index.specs.Index.{IndexOf, has_places, in_key, in_mask, needed, places_with}
 
 abbrev Groups : Type 0
 Groups = List (ℕ × (List ℕ × ℕ))
 
+abbrev shown : Groups → List (ℕ × ℕ)
+shown groups = map (λ under. (under.0, under.1.1)) groups
+
 -- what contracts see of the parts of an index
-abbrev pub index_of : NumberedOf → ℕ → Groups → IndexOf
-index_of numbered places groups = record {
+abbrev pub index_of : NumberedOf → ℕ → Groups → Groups → IndexOf
+index_of numbered places masks cells = record {
   loads = numbered.loads;
   flushed = numbered.flushed;
   ready = numbered.ready;
   places = places;
-  places_under = map (λ under. (under.0, under.1.1)) groups;
+  places_by_mask = shown masks;
+  places_by_key = shown cells;
 }
 
-pub seen_more :
-    (groups after : Groups) (m : ℕ) → ((q : ℕ) → places_at after q ≡ (if nat_eq m q then places_at groups q + 1 else places_at groups q))
-    → (q : ℕ) → places_with (map (λ under. (under.0, under.1.1)) after) q ≡ (if nat_eq m q then places_with (map (λ under. (under.0, under.1.1)) groups) q + 1 else places_with (map (λ under. (under.0, under.1.1)) groups) q)
-seen_more groups after m each q = rw (places_seen after q, places_seen groups q) (each q)
+-- the places at one key, as the groups count them
+pub places_seen : (groups : Groups) (q : ℕ) → places_with (shown groups) q ≡ places_at groups q
+places_seen [] q = refl
+places_seen (g ∷ groups) q = ap (λ (n : ℕ). if nat_eq q g.0 then g.1.1 else n) (places_seen groups q)
 
-pub seen_less :
-    (groups after : Groups) (m : ℕ) → ((q : ℕ) → places_at after q ≡ (if nat_eq m q then places_at groups q - 1 else places_at groups q))
-    → (q : ℕ) → places_with (map (λ under. (under.0, under.1.1)) after) q ≡ (if nat_eq m q then places_with (map (λ under. (under.0, under.1.1)) groups) q - 1 else places_with (map (λ under. (under.0, under.1.1)) groups) q)
-seen_less groups after m each q = rw (places_seen after q, places_seen groups q) (each q)
-
-pub seen_same : (groups after : Groups) → ((q : ℕ) → places_at after q ≡ places_at groups q) → (q : ℕ) → places_with (map (λ under. (under.0, under.1.1)) groups) q ≤ places_with (map (λ under. (under.0, under.1.1)) after) q
-seen_same groups after same q = rw (places_seen after q, places_seen groups q, same q) (omega arith)
-
--- one more, where it is one
-abbrev more : Bool → ℕ → ℕ
-more b n = if b then suc n else n
-
-more_more : (a b : Bool) (n : ℕ) → more a (more b n) ≡ more b (more a n)
-more_more true true n = refl
-more_more true false n = refl
-more_more false true n = refl
-more_more false false n = refl
-
--- one header more among others
-count_split : (mask : ℕ) (before : List Header) (header : Header) (after : List Header) → count_under mask (before ++ header ∷ after) ≡ more (nat_eq (header_mask header) mask) (count_under mask (before ++ after))
-count_split mask [] header after = refl
-count_split mask (h ∷ before) header after = rw (count_split mask before header after) (more_more (nat_eq (header_mask h) mask) (nat_eq (header_mask header) mask) (count_under mask (before ++ after)))
+module _ (count : Header → ℕ → ℕ) (q : ℕ) where
+  -- one header more among others
+  pub needed_split : (before : List Header) (header : Header) (after : List Header) → needed count (before ++ header ∷ after) q ≡ count header q + needed count (before ++ after) q
+  needed_split [] header after = sum_by-cons (λ header. count header q) header after
+  needed_split (h ∷ before) header after =
+      let rest = needed_split before header after in
+      let one = sum_by-cons (λ header. count header q) h (before ++ header ∷ after) in
+      let two = sum_by-cons (λ header. count header q) h (before ++ after) in
+      omega (arith, rest, one, two)
 
 length_split : (before : List Header) (header : Header) (after : List Header) → length (before ++ header ∷ after) ≡ suc (length (before ++ after))
 length_split [] header after = refl
@@ -61,70 +46,94 @@ nothing_more : (headers : List Header) → headers ++ [] ≡ headers
 nothing_more [] = refl
 nothing_more (h ∷ headers) = ap (λ (hs : List Header). h ∷ hs) (nothing_more headers)
 
-at_least : (b : Bool) (n m : ℕ) → more b n ≤ m → n ≤ m
-at_least true n m h = omega arith
-at_least false n m h = h
+-- ---- one list
+
+module _ (count : Header → ℕ → ℕ) (old new : Groups) (header : Header) where
+  abbrev Enough : Groups → List Header → Type 0
+  Enough groups headers = (q : ℕ) → needed count headers q ≤ places_with (shown groups) q
+
+  -- a place that is there
+  pub its_place : (before after : List Header) → Enough old (before ++ header ∷ after) → (q : ℕ) → count header q ≤ places_at old q
+  its_place before after had q =
+      let split = needed_split count q before header after in
+      let seen = places_seen old q in
+      let all = had q in
+      omega (arith, split, seen, all)
+
+  pub place_taken : ((q : ℕ) → places_at new q + count header q ≡ places_at old q) → (before after : List Header) → Enough old (before ++ header ∷ after) → Enough new (before ++ after)
+  place_taken taken before after had q =
+      let split = needed_split count q before header after in
+      let seen = places_seen old q in
+      let now = places_seen new q in
+      let less = taken q in
+      let all = had q in
+      omega (arith, split, seen, now, less, all)
+
+  pub place_added : ((q : ℕ) → places_at new q ≡ places_at old q + count header q) → (headers : List Header) → Enough old headers → Enough new (headers ++ header ∷ [])
+  place_added added headers had q =
+      let split = needed_split count q headers header [] in
+      let same : needed count (headers ++ []) q ≡ needed count headers q = ap (λ (hs : List Header). needed count hs q) (nothing_more headers) in
+      let seen = places_seen old q in
+      let now = places_seen new q in
+      let more = added q in
+      let all = had q in
+      omega (arith, split, same, seen, now, more, all)
+
+module _ (count : Header → ℕ → ℕ) (old new : Groups) where
+  pub places_remain : ((q : ℕ) → places_at old q ≤ places_at new q) → (headers : List Header) → ((q : ℕ) → needed count headers q ≤ places_with (shown old) q) → (q : ℕ) → needed count headers q ≤ places_with (shown new) q
+  places_remain more headers had q =
+      let seen = places_seen old q in
+      let now = places_seen new q in
+      let less = more q in
+      let all = had q in
+      omega (arith, seen, now, less, all)
+
+-- ---- the index
+
+-- a place more
+pub place_made :
+    (numbered after : NumberedOf) (places : ℕ) (masks masks_after cells cells_after : Groups) (header : Header) → IsReserved (in_mask header) masks masks_after → IsReserved (in_key header) cells cells_after
+    → (headers : List Header) → has_places (index_of numbered places masks cells) headers → has_places (index_of after (places + 1) masks_after cells_after) (headers ++ header ∷ [])
+place_made numbered after places masks masks_after cells cells_after header more_masks more_cells headers (all, by_mask, by_key) =
+    let longer = length_split headers header [] in
+    let same : length (headers ++ []) ≡ length headers = ap length (nothing_more headers) in (
+      omega (arith, all, longer, same),
+      place_added in_mask masks masks_after header more_masks.places headers by_mask,
+      place_added in_key cells cells_after header more_cells.places headers by_key,
+    )
+
+-- no place fewer
+pub places_stay :
+    (numbered after : NumberedOf) (places more : ℕ) (masks masks_after cells cells_after : Groups) → places ≤ more → ((q : ℕ) → places_at masks q ≤ places_at masks_after q) → ((q : ℕ) → places_at cells q ≤ places_at cells_after q)
+    → (headers : List Header) → has_places (index_of numbered places masks cells) headers → has_places (index_of after more masks_after cells_after) headers
+places_stay numbered after places more masks masks_after cells cells_after le by_mask_le by_key_le headers (all, by_mask, by_key) =
+    (omega (arith, all, le), places_remain in_mask masks masks_after by_mask_le headers by_mask, places_remain in_key cells cells_after by_key_le headers by_key)
+
+-- a place is used
+pub place_used :
+    (numbered after : NumberedOf) (places : ℕ) (masks masks_after cells cells_after : Groups) (header : Header)
+    → ((q : ℕ) → places_at masks_after q + in_mask header q ≡ places_at masks q) → ((q : ℕ) → places_at cells_after q + in_key header q ≡ places_at cells q)
+    → (front rest : List Header) → has_places (index_of numbered places masks cells) (front ++ header ∷ rest) → has_places (index_of after (places - 1) masks_after cells_after) (front ++ rest)
+place_used numbered after places masks masks_after cells cells_after header less_masks less_cells front rest (all, by_mask, by_key) =
+    let longer = length_split front header rest in (
+      omega (arith, all, longer),
+      place_taken in_mask masks masks_after header less_masks front rest by_mask,
+      place_taken in_key cells cells_after header less_cells front rest by_key,
+    )
+
+-- where no place is needed, all are there
+pub places_none : (index : IndexOf) → has_places index []
+places_none index = (omega arith, λ mask. omega arith, λ key. omega arith)
+
+-- some place is there
+pub some_place : (index : IndexOf) (header : Header) (front rest : List Header) → has_places index (front ++ header ∷ rest) → 0 < index.places
+some_place index header front rest (all, by_mask, by_key) = let longer = length_split front header rest in omega (arith, all, longer)
 
 -- a place that is not needed hinders no other
-pub places_apart : (index : IndexOf) (before : List Header) (header : Header) (after : List Header) → has_places index (before ++ header ∷ after) → has_places index (before ++ after)
-places_apart index before header after (all, each) =
-    (let e = length_split before header after in omega (arith, e, all), λ mask. at_least (nat_eq (header_mask header) mask) _ _ (rw (count_split mask before header after) at (each mask)))
-
--- places where there are no fewer
-pub places_stay : (old new : IndexOf) (headers : List Header) → old.places ≤ new.places → ((mask : ℕ) → places_with old.places_under mask ≤ places_with new.places_under mask) → has_places old headers → has_places new headers
-places_stay old new headers all each (had, under) =
-    (omega (arith, all, had), λ mask. let a = each mask in let b = under mask in omega (arith, a, b))
-
-one_more : (b : Bool) (n old new : ℕ) → new ≡ (if b then old + 1 else old) → n ≤ old → more b n ≤ new
-one_more true n old new is h = omega (arith, is, h)
-one_more false n old new is h = omega (arith, is, h)
-
-no_fewer : (b : Bool) (old new : ℕ) → new ≡ (if b then old + 1 else old) → old ≤ new
-no_fewer true old new is = omega (arith, is)
-no_fewer false old new is = omega (arith, is)
-
--- a place that was made
-module _ (old new : IndexOf) (header : Header) (m : ℕ) (its : m ≡ header_mask header) (all : new.places ≡ old.places + 1)
-    (each : (mask : ℕ) → places_with new.places_under mask ≡ (if nat_eq m mask then places_with old.places_under mask + 1 else places_with old.places_under mask)) (headers : List Header) where
-  pub place_made : has_places old headers → has_places new (headers ++ header ∷ [])
-  place_made (had, under) = (
-    let e = length_split headers header [] in let n = ap length (nothing_more headers) in omega (arith, e, n, all, had),
-    λ mask. rw (count_split mask headers header [], nothing_more headers)
-        (one_more (nat_eq (header_mask header) mask) (count_under mask headers) (places_with old.places_under mask) (places_with new.places_under mask) (rw its at (each mask)) (under mask)),
-  )
-
-  pub places_kept : has_places old headers → has_places new headers
-  places_kept (had, under) = (
-    omega (arith, all, had),
-    λ mask.
-        let a = no_fewer (nat_eq m mask) (places_with old.places_under mask) (places_with new.places_under mask) (each mask) in
-        let b = under mask in
-        omega (arith, a, b),
-  )
-
-one_less : (b : Bool) (n old new : ℕ) → new ≡ (if b then old - 1 else old) → more b n ≤ old → n ≤ new
-one_less true n old new is h = omega (arith, is, h)
-one_less false n old new is h = omega (arith, is, h)
-
-same_true : (n : ℕ) → nat_eq n n ≡ true
-same_true n = grind (arith, nat_tests)
-
--- a place that is used
-module _ (old : IndexOf) (header : Header) (before after : List Header) (had : has_places old (before ++ header ∷ after)) where
-  pub some_place : 0 < old.places
-  some_place = let e = length_split before header after in let all = had.0 in omega (arith, e, all)
-
-  pub some_under : (m : ℕ) → m ≡ header_mask header → 0 < places_with old.places_under m
-  some_under m its =
-      let here : count_under (header_mask header) (before ++ header ∷ after) ≡ more (nat_eq (header_mask header) (header_mask header)) (count_under (header_mask header) (before ++ after)) = count_split (header_mask header) before header after in
-      let one : count_under (header_mask header) (before ++ header ∷ after) ≡ suc (count_under (header_mask header) (before ++ after)) = rw (same_true (header_mask header)) at here in
-      let under = had.1 (header_mask header) in
-      rw its (omega (arith, one, under))
-
-pub place_used : (old new : IndexOf) (header : Header) (m : ℕ) (its : m ≡ header_mask header) (all : new.places + 1 ≡ old.places)
-    → ((mask : ℕ) → places_with new.places_under mask ≡ (if nat_eq m mask then places_with old.places_under mask - 1 else places_with old.places_under mask))
-    → (before after : List Header) → has_places old (before ++ header ∷ after) → has_places new (before ++ after)
-place_used old new header m its all each before after (had, under) = (
-  let e = length_split before header after in omega (arith, e, all, had),
-  λ mask. one_less (nat_eq (header_mask header) mask) (count_under mask (before ++ after)) (places_with old.places_under mask) (places_with new.places_under mask) (rw its at (each mask)) (rw (count_split mask before header after) at (under mask)),
-)
+pub places_apart : (index : IndexOf) (front : List Header) (header : Header) (rest : List Header) → has_places index (front ++ header ∷ rest) → has_places index (front ++ rest)
+places_apart index front header rest (all, by_mask, by_key) =
+    let longer = length_split front header rest in (
+      omega (arith, all, longer),
+      λ mask. let split = needed_split in_mask mask front header rest in let had = by_mask mask in omega (arith, split, had),
+      λ key. let split = needed_split in_key key front header rest in let had = by_key key in omega (arith, split, had),
+    )

@@ -1,6 +1,6 @@
--- What a search among the loads of one mask finds.
+-- What a search among the loads of some numbers finds.
 use Rattle.std.proofs.Common.{◌≡◌, ◌∙◌, ◌<◌, ◌≤◌, ℕ, ◌+◌, add-one, length, reverse, take, true, false, not, zero, suc, get_or, List, [], ◌∷◌, Option, Some, None, refl, sym, arith, inl, inr, true≢false, Contains}
-use Rattle.std.specs.Prelude.{◌==◌, nat_le, nat_lt}
+use Rattle.std.specs.Prelude.{◌==◌, ◌++◌, nat_le, nat_lt}
 use Rattle.std.proofs.Math.Seq.{take-suc}
 use Rattle.std.proofs.lemmas.Bool.{and_parts, cases_Bool, eq-eqb, eqb-true, ltb-false}
 use Rattle.std.proofs.lemmas.Bool.Decides.{nat_tests}
@@ -9,15 +9,9 @@ use Rattle.std.proofs.lemmas.List.Sorted.{IsPermutation-reverse, list_any-IsPerm
 use Rattle.std.proofs.lemmas.List.Elements.{Contains-get_or}
 use Rattle.olap_meaning.proofs.Members.{in_first, in_rest, none_in}
 use Rattle.olap_meaning.specs.declared.cells.Cell.{Cell}
-use Rattle.olap_meaning.specs.Covering.{among, just_covers}
-use Rattle.cache_flush.specs.Shuts.{is_live}
+use Rattle.olap_meaning.specs.Covering.{among}
 use Rattle.cache_flush.specs.Loads.{IsGreatest, KeptOf, are_different, numbers_of, serves}
-use Rattle.segment_index.specs.Grouping.{loads_at}
-use Rattle.segment_index.specs.Keeping.{AreGrouped}
-use Rattle.segment_header.specs.Masks.{cell_mask, header_mask}
 use Rattle.segment_index.specs.Search.{later, later_serving, latest_serving, load_of, reaches, serving}
-use Rattle.segment_index.proofs.MaskedFacts.{stands_under}
-use Rattle.segment_header.proofs.MaskFacts.{cell_same}
 
 below : (a b : ℕ) → nat_lt a b ≡ true → a ≤ b
 below a b h = grind (arith, nat_tests)
@@ -150,18 +144,21 @@ greatest_of loads cell None s all = λ k d lt.
     ]
 greatest_of loads cell (Some best) s all = (s.0, s.1, λ k d lt. all (get_or loads k d) (Contains-get_or loads k d lt))
 
--- the search among the loads under the cell's mask finds the greatest that serves the cell
-pub greatest_found : (loads : List KeptOf) (groups : List (ℕ × (List ℕ × ℕ))) (cell : Cell) → AreGrouped groups loads → are_different (numbers_of loads) ≡ true
-    → IsGreatest loads cell (latest_serving loads cell None (reverse (loads_at groups (cell_mask cell))))
-greatest_found loads groups cell grouped differ =
-    greatest_of loads cell (latest_serving loads cell None (reverse (loads_at groups (cell_mask cell)))) (all-serves loads cell (reverse (loads_at groups (cell_mask cell))) None tt)
-    (λ other there served.
-    let right = stands_under groups loads other grouped there in
-    let covers = (and_parts (just_covers other.body.header cell) (is_live other.shut cell) served).0 in
-    let same : header_mask other.body.header ≡ cell_mask cell = cell_same other.body.header cell covers in
-    let under : among (loads_at groups (cell_mask cell)) other.load ≡ true = rw same at right in
-    let turned : among (reverse (loads_at groups (cell_mask cell))) other.load ≡ true = sym (list_any-IsPermutation (λ v. v == other.load) (loads_at groups (cell_mask cell)) (reverse (loads_at groups (cell_mask cell))) (IsPermutation-reverse (loads_at groups (cell_mask cell)))) ∙ under in
-    all-reached loads cell (reverse (loads_at groups (cell_mask cell))) None other turned (load_found loads other differ there) served)
+-- a search that goes on after another
+pub latest_more : (loads : List KeptOf) (cell : Cell) (best : Option KeptOf) (ns ms : List ℕ) → latest_serving loads cell best (ns ++ ms) ≡ latest_serving loads cell (latest_serving loads cell best ns) ms
+latest_more loads cell best [] ms = refl
+latest_more loads cell best (n ∷ ns) ms = latest_more loads cell (later_serving cell best (load_of loads n)) ns ms
+
+-- the search among numbers finds the greatest that serves the cell, where each load that does is among them
+pub greatest_found : (loads : List KeptOf) (cell : Cell) (numbers : List ℕ) → are_different (numbers_of loads) ≡ true → ((kept : KeptOf) → Contains loads kept → serves kept cell ≡ true → among numbers kept.load ≡ true)
+    → IsGreatest loads cell (latest_serving loads cell None numbers)
+greatest_found loads cell numbers differ each =
+    greatest_of loads cell (latest_serving loads cell None numbers) (all-serves loads cell numbers None tt)
+    (λ other there served. all-reached loads cell numbers None other (each other there served) (load_found loads other differ there) served)
+
+-- a number among others, turned round
+pub among_reversed : (numbers : List ℕ) (n : ℕ) → among (reverse numbers) n ≡ among numbers n
+among_reversed numbers n = sym (list_any-IsPermutation (λ v. v == n) numbers (reverse numbers) (IsPermutation-reverse numbers))
 
 -- ---- the search from the last number on
 

@@ -1,21 +1,30 @@
 -- What an index keeps true of its parts.
-use Rattle.std.specs.Prelude.{ℕ, ◌≡◌, ◌==◌, ◌<◌, ◌^◌, ◌&&◌, List, Bool, All, IsTrue, nat_eq, sum_by}
+use Rattle.std.specs.Prelude.{ℕ, ◌≡◌, ◌==◌, ◌<◌, ◌^◌, ◌&&◌, ◌⊎◌, List, All, IsTrue, nat_lt, sum_by}
 use Rattle.std.specs.List.{list_any}
+use Rattle.olap_meaning.specs.declared.cells.Header.{Header}
 use Rattle.olap_meaning.specs.Covering.{among}
-use Rattle.cache_flush.specs.Loads.{KeptOf, are_different, group_count, numbers_of}
+use Rattle.segment_header.specs.Headers.{is_header}
+use Rattle.cache_flush.specs.Loads.{IsGone, KeptOf, group_count, numbers_of}
 use Rattle.segment_index.specs.Grouping.{loads_at}
-use Rattle.segment_header.specs.Masks.{header_mask}
+use Rattle.segment_index.specs.Index.{in_key, in_mask}
 
--- a load whose columns have a mask is kept, with a number
-abbrev pub is_kept_under : List KeptOf → ℕ → ℕ → Bool
-is_kept_under loads mask number =
-    list_any (λ kept. nat_eq (header_mask kept.body.header) mask && (kept.load == number)) loads
+-- a load stands under each key that is counted for its header
+abbrev pub StandsUnder : (Header → ℕ → ℕ) → List (ℕ × (List ℕ × ℕ)) → KeptOf → Type 0
+StandsUnder count groups kept =
+    (q : ℕ) → IsTrue (nat_lt 0 (count kept.body.header q)) → IsTrue (among (loads_at groups q) kept.load)
 
--- under each mask stand just the numbers of the loads whose columns have it, and none stands there twice
-abbrev pub AreGrouped : List (ℕ × (List ℕ × ℕ)) → List KeptOf → Type 0
-AreGrouped groups loads =
-    (mask : ℕ) → IsTrue (are_different (loads_at groups mask))
-    × ((number : ℕ) → among (loads_at groups mask) number ≡ is_kept_under loads mask number)
+-- each kept load stands under its keys, or serves no cell any more, and nothing else stands there
+pub record AreListed (count : Header → ℕ → ℕ) (groups : List (ℕ × (List ℕ × ℕ))) (loads : List KeptOf) : Type 0 where
+  pub whole : All (λ kept. IsGone kept ⊎ StandsUnder count groups kept) loads
+  pub just :
+      (q number : ℕ) → IsTrue (among (loads_at groups q) number)
+      → IsTrue (list_any (λ kept. nat_lt 0 (count kept.body.header q) && (kept.load == number)) loads)
+
+-- kept loads are listed by the masks of their columns and by the keys of their cells, and their headers are well formed
+abbrev pub AreKept : List (ℕ × (List ℕ × ℕ)) → List (ℕ × (List ℕ × ℕ)) → List KeptOf → Type 0
+AreKept masks cells loads =
+    AreListed in_mask masks loads × AreListed in_key cells loads
+    × All (λ kept. IsTrue (is_header kept.body.header)) loads
 
 -- some numbers are just those of kept loads
 abbrev pub AreNumbersOf : List KeptOf → List ℕ → Type 0

@@ -1,5 +1,6 @@
 pub mod Grouping
 pub mod Index
+pub mod Keys
 pub mod Keeping
 pub mod Numbered
 pub mod Rising

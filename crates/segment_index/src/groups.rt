@@ -1,68 +1,58 @@
-//! The numbers of loads under each mask, with the places that were made there and are not used yet.
-ghost use Rattle.std.specs.Prelude.{◌≡◌, ◌==◌, ◌<◌, ◌≤◌, ◌+◌, ◌-◌, ◌++◌, ◌∷◌, [], ℕ, map, nat_eq, if◌then◌else◌, position, None, OnOk, OnErr, IfOk, false};
-ghost use Rattle.std.specs.VecDeque.{deque_capacity, deque_len};
+//! The numbers of loads under each key, with the places that were made there and are not used yet.
+ghost use Rattle.std.specs.Prelude.{◌≡◌, ◌<◌, ◌≤◌, ◌+◌, ◌++◌, [], ℕ, map, nat_eq, nat_lt, if◌then◌else◌, None, OnOk, OnErr, IfOk, false};
 ghost use Rattle.std.specs.Map.{lookup};
 ghost use Rattle.indexmap.specs.IndexMap.{swap_remove_entry};
-ghost use Rattle.segment_index.specs.Grouping.{has_spent, loads_at, loads_above, loads_where_above, places_at, without};
+ghost use Rattle.segment_index.specs.Grouping.{IsAdded, IsReleased, IsRemoved, IsReserved, IsStill, has_spent, loads_at, loads_above, loads_where_above, one, places_at};
 
+use crate::numbers::Numbers;
 use indexmap::IndexMap;
 use olap_meaning::OutOfMemory;
 use std::alloc::Global;
-use std::collections::VecDeque;
 use std::marker::Model;
 
-// The numbers of the loads under one mask, and how many more there is a place for.
+// The numbers of the loads under one key, and how many more there is a place for.
 #[derive(Drop)]
 struct Group {
-    loads: VecDeque<u64>,
+    loads: Numbers,
     places: usize,
 }
 
-/// The numbers of loads under each mask, in the order in which they were put there, with the places that were made and are
-/// not used yet.
+/// The numbers of loads under each key, rising, with the places that were made and are not used yet.
 #[derive(Drop)]
 pub(crate) struct Groups {
-    by_mask: IndexMap<u64, Group>,
+    by_key: IndexMap<u64, Group>,
 }
 
 impl Model for Groups {
-    ghost use Rattle.std.specs.Prelude.{List, ℕ, map, ◌≤◌, ◌+◌};
+    ghost use Rattle.std.specs.Prelude.{List, ℕ, map, ◌≤◌};
     ghost use Rattle.std.specs.List.{AllByRecursion};
-    ghost use Rattle.std.specs.VecDeque.{deque_capacity, deque_len};
 
     ghost Value = { List (ℕ × (List ℕ × ℕ)) };
 
-    ghost view = { λ a. map (λ e. (e.0, (e.1.loads.items, e.1.places))) a.by_mask.entries };
+    ghost view = { λ a. map (λ e. (e.0, (e.1.loads.items, e.1.places))) a.by_key.entries };
 
-    ghost invariant = { λ a. AllByRecursion (λ e. deque_len e.1.loads + e.1.places ≤ deque_capacity e.1.loads) a.by_mask.entries };
+    ghost invariant = { λ a. AllByRecursion (λ e. e.1.places ≤ e.1.loads.places) a.by_key.entries };
 }
 
-// Adds an item where there is room for it.
-fn add(items: &mut VecDeque<u64>, item: u64)
-    requires { deque_len items.old < deque_capacity items.old }
-    ensures items { items.new.items ≡ items.old.items ++ item ∷ [] }
-    ensures len { deque_len items.new ≡ deque_len items.old + 1 }
-    ensures capacity { deque_capacity items.new ≡ deque_capacity items.old }
+/// One more.
+pub(crate) fn one_more(count: usize) -> Result<usize, OutOfMemory>
+    ensures { IfOk result (λ more. more ≡ count + 1) }
 {
-    items.push_back_reserved(item);
+    count.checked_add(1).ok_or(OutOfMemory)
 }
 
-// The place of the first item that is a given one. The walk begins at the front.
-fn place_of(items: &VecDeque<u64>, item: u64) -> Option<usize>
-    ensures { result ≡ position (λ other. other == item) items.now.items }
+// Makes one place more in a group.
+fn reserve_one(group: &mut Group) -> Result<(), OutOfMemory>
+    requires { group.old.places ≤ group.old.loads.places }
+    ensures loads { group.new.loads.items ≡ group.old.loads.items }
+    ensures ok { OnOk result (group.new.places ≡ group.old.places + 1) }
+    ensures err { OnErr result (group.new.places ≡ group.old.places) }
+    ensures room { group.new.places ≤ group.new.loads.places }
 {
-    items.iter().position(|other| *other == item)
-}
-
-// Takes the first item out that is a given one, if there is one.
-fn take_out(items: &mut VecDeque<u64>, item: u64)
-    ensures items { items.new.items ≡ without item items.old.items }
-    ensures len { deque_len items.new ≤ deque_len items.old }
-    ensures capacity { deque_capacity items.new ≡ deque_capacity items.old }
-{
-    if let Some(place) = place_of(items, item) {
-        let _ = items.remove(place);
-    }
+    let places = one_more(group.places)?;
+    group.loads.reserve(places)?;
+    group.places = places;
+    Ok(())
 }
 
 impl Groups {
@@ -72,140 +62,159 @@ impl Groups {
         ensures places { (q : ℕ) → places_at result q ≡ 0 }
     {
         Groups {
-            by_mask: IndexMap::new(alloc),
+            by_key: IndexMap::new(alloc),
         }
     }
 
-    /// The loads under a mask, in two parts. It takes no memory.
-    pub(crate) fn at(&self, mask: u64) -> (&[u64], &[u64])
-        ensures { result.0.now ++ result.1.now ≡ loads_at self.now mask }
+    /// The loads under a key, in two parts. It takes no memory.
+    pub(crate) fn at(&self, key: u64) -> (&[u64], &[u64])
+        ensures { result.0.now ++ result.1.now ≡ loads_at self.now key }
     {
-        match self.by_mask.get(&mask) {
-            Some(group) => group.loads.as_slices(),
+        match self.by_key.get(&key) {
+            Some(group) => group.loads.parts(),
             None => (&[], &[]),
         }
     }
 
-    /// Makes one place more under a mask.
-    pub(crate) fn reserve(&mut self, alloc: Global, mask: u64) -> Result<(), OutOfMemory>
-        ensures loads { (q : ℕ) → loads_at self.new q ≡ loads_at self.old q }
-        ensures ok { OnOk result ((q : ℕ) → places_at self.new q
-            ≡ (if nat_eq mask q then places_at self.old q + 1 else places_at self.old q)) }
-        ensures err { OnErr result ((q : ℕ) → places_at self.new q ≡ places_at self.old q) }
+    /// Whether there is a place under a key. It takes no memory.
+    pub(crate) fn has_place(&self, key: u64) -> bool
+        ensures { result ≡ nat_lt 0 (places_at self.now key) }
     {
-        if let Some(group) = self.by_mask.get_mut(&mask) {
-            group.loads.reserve(group.places + 1)?;
-            group.places += 1;
-            return Ok(());
+        match self.by_key.get(&key) {
+            Some(group) => group.places > 0,
+            None => false,
         }
-        let mut loads = VecDeque::new(alloc);
-        loads.reserve(1)?;
-        self.by_mask.insert(mask, Group { loads, places: 1 })?;
+    }
+
+    /// How many keys there are under which loads or places stand.
+    pub(crate) fn len(&self) -> usize {
+        self.by_key.len()
+    }
+
+    /// The key at a position, and the loads under it, in two parts. It takes no memory.
+    pub(crate) fn get(&self, position: usize) -> Option<(u64, &[u64], &[u64])> {
+        let (key, group) = self.by_key.get_index(position)?;
+        let (front, back) = group.loads.parts();
+        Some((*key, front, back))
+    }
+
+    /// Makes one place more under a key.
+    pub(crate) fn reserve(&mut self, alloc: Global, key: u64) -> Result<(), OutOfMemory>
+        ensures ok { OnOk result (IsReserved (one key) self.old self.new) }
+        ensures err { OnErr result (IsStill self.old self.new) }
+    {
+        if let Some(group) = self.by_key.get_mut(&key) {
+            return reserve_one(group);
+        }
+        let group = one_place(alloc)?;
+        self.by_key.insert(key, group)?;
         Ok(())
     }
 
-    /// Puts a load under a mask where there is a place. It takes no memory.
-    pub(crate) fn add(&mut self, mask: u64, load: u64)
-        requires { 0 < places_at self.old mask }
-        ensures loads { (q : ℕ) → loads_at self.new q
-            ≡ (if nat_eq mask q then loads_at self.old q ++ load ∷ [] else loads_at self.old q) }
-        ensures places { (q : ℕ) → places_at self.new q
-            ≡ (if nat_eq mask q then places_at self.old q - 1 else places_at self.old q) }
+    /// Puts a load under a key where there is a place. It takes no memory.
+    pub(crate) fn add(&mut self, key: u64, load: u64)
+        requires { 0 < places_at self.old key }
+        ensures { IsAdded (one key) load self.old self.new }
     {
-        let Some(group) = self.by_mask.get_mut(&mask) else {
+        let Some(group) = self.by_key.get_mut(&key) else {
             return;
         };
-        add(&mut group.loads, load);
+        group.loads.insert(load);
         group.places -= 1;
     }
 
-    /// Takes a load out from under a mask, if it stands there. The mask goes where nothing is left under it. It takes no memory.
-    pub(crate) fn remove(&mut self, mask: u64, load: u64)
-        ensures loads { (q : ℕ) → loads_at self.new q
-            ≡ (if nat_eq mask q then without load (loads_at self.old q) else loads_at self.old q) }
-        ensures places { (q : ℕ) → places_at self.new q ≡ places_at self.old q }
-        ensures unspent { has_spent self.new mask ≡ false }
+    /// Takes a load out from under a key, if it stands there. The key goes where nothing is left under it. It takes no memory.
+    pub(crate) fn remove(&mut self, key: u64, load: u64)
+        ensures removed { IsRemoved (one key) load self.old self.new }
+        ensures unspent { has_spent self.new key ≡ false }
     {
-        self.take_load(mask, load);
-        self.tidy(mask);
+        self.take_load(key, load);
+        self.tidy(key);
     }
 
-    /// Gives back a place under a mask. The mask goes where nothing is left under it. It takes no memory.
-    pub(crate) fn release(&mut self, mask: u64)
-        requires { 0 < places_at self.old mask }
-        ensures loads { (q : ℕ) → loads_at self.new q ≡ loads_at self.old q }
-        ensures places { (q : ℕ) → places_at self.new q
-            ≡ (if nat_eq mask q then places_at self.old q - 1 else places_at self.old q) }
-        ensures unspent { has_spent self.new mask ≡ false }
+    /// Gives back a place under a key. The key goes where nothing is left under it. It takes no memory.
+    pub(crate) fn release(&mut self, key: u64)
+        requires { 0 < places_at self.old key }
+        ensures released { IsReleased (one key) self.old self.new }
+        ensures unspent { has_spent self.new key ≡ false }
     {
-        self.take_place(mask);
-        self.tidy(mask);
+        self.take_place(key);
+        self.tidy(key);
     }
 
-    // Takes a load out from under a mask, if it stands there.
-    fn take_load(&mut self, mask: u64, load: u64)
-        ensures loads { (q : ℕ) → loads_at self.new q
-            ≡ (if nat_eq mask q then without load (loads_at self.old q) else loads_at self.old q) }
-        ensures places { (q : ℕ) → places_at self.new q ≡ places_at self.old q }
+    // Takes a load out from under a key, if it stands there.
+    fn take_load(&mut self, key: u64, load: u64)
+        ensures { IsRemoved (one key) load self.old self.new }
     {
-        let Some(group) = self.by_mask.get_mut(&mask) else {
+        let Some(group) = self.by_key.get_mut(&key) else {
             return;
         };
-        take_out(&mut group.loads, load);
+        group.loads.remove(load);
     }
 
-    // Lowers the places under a mask.
-    fn take_place(&mut self, mask: u64)
-        requires { 0 < places_at self.old mask }
-        ensures loads { (q : ℕ) → loads_at self.new q ≡ loads_at self.old q }
-        ensures places { (q : ℕ) → places_at self.new q
-            ≡ (if nat_eq mask q then places_at self.old q - 1 else places_at self.old q) }
+    // Lowers the places under a key.
+    fn take_place(&mut self, key: u64)
+        requires { 0 < places_at self.old key }
+        ensures { IsReleased (one key) self.old self.new }
     {
-        let Some(group) = self.by_mask.get_mut(&mask) else {
+        let Some(group) = self.by_key.get_mut(&key) else {
             return;
         };
         group.places -= 1;
     }
 
-    // Whether neither a load nor a place is left under a mask that is still there.
-    fn is_spent(&self, mask: u64) -> bool
-        ensures { result ≡ has_spent self.now mask }
+    // Whether neither a load nor a place is left under a key that is still there.
+    fn is_spent(&self, key: u64) -> bool
+        ensures { result ≡ has_spent self.now key }
     {
-        match self.by_mask.get(&mask) {
+        match self.by_key.get(&key) {
             Some(group) => group.loads.is_empty() && group.places == 0,
             None => false,
         }
     }
 
-    // Lets a mask go under which neither a load nor a place is left.
-    fn tidy(&mut self, mask: u64)
-        ensures loads { (q : ℕ) → loads_at self.new q ≡ loads_at self.old q }
-        ensures places { (q : ℕ) → places_at self.new q ≡ places_at self.old q }
-        ensures unspent { has_spent self.new mask ≡ false }
+    // Lets a key go under which neither a load nor a place is left.
+    fn tidy(&mut self, key: u64)
+        ensures still { IsStill self.old self.new }
+        ensures unspent { has_spent self.new key ≡ false }
     {
-        if self.is_spent(mask) {
-            forget(&mut self.by_mask, mask);
+        if self.is_spent(key) {
+            forget(&mut self.by_key, key);
         }
     }
 
-    /// The loads under each mask that has all bits of this one.
+    /// The loads under each key, as a mask, that has all bits of this one.
     pub(crate) fn above(&self, alloc: Global, mask: u64) -> Result<Vec<u64>, OutOfMemory>
         ensures { IfOk result (λ found. found.items ≡ loads_above self.now mask) }
     {
         let mut found = Vec::new(alloc);
-        add_above(&self.by_mask, mask, &mut found)?;
+        add_above(&self.by_key, mask, &mut found)?;
         Ok(found)
     }
 }
 
-// Takes what is under a mask out of a map.
-fn forget(by_mask: &mut IndexMap<u64, Group>, mask: u64)
-    ensures entries { by_mask.new.entries
-        ≡ swap_remove_entry (nat_eq mask) by_mask.old.entries }
-    ensures others { (q : ℕ) → lookup (nat_eq q) by_mask.new.entries
-        ≡ (if nat_eq mask q then None else lookup (nat_eq q) by_mask.old.entries) }
+// A group without loads, with a place for one.
+fn one_place(alloc: Global) -> Result<Group, OutOfMemory>
+    ensures loads { IfOk result (λ group. group.loads.items ≡ []) }
+    ensures places { IfOk result (λ group. group.places ≡ 1) }
+    ensures room { IfOk result (λ group. group.places ≤ group.loads.places) }
 {
-    by_mask.swap_remove(&mask);
+    let mut group = Group {
+        loads: Numbers::new(alloc),
+        places: 0,
+    };
+    reserve_one(&mut group)?;
+    Ok(group)
+}
+
+// Takes what is under a key out of a map.
+fn forget(by_key: &mut IndexMap<u64, Group>, key: u64)
+    ensures entries { by_key.new.entries
+        ≡ swap_remove_entry (nat_eq key) by_key.old.entries }
+    ensures others { (q : ℕ) → lookup (nat_eq q) by_key.new.entries
+        ≡ (if nat_eq key q then None else lookup (nat_eq q) by_key.old.entries) }
+{
+    by_key.swap_remove(&key);
 }
 
 // Adds the loads under a mask, where it has all bits of another.
@@ -220,7 +229,7 @@ fn add_where_above(
         ++ loads_where_above mask (under, (group.now.loads.items, group.now.places))) }
 {
     if under & mask == mask {
-        let (front, back) = group.loads.as_slices();
+        let (front, back) = group.loads.parts();
         found.extend_from_slice(front)?;
         found.extend_from_slice(back)?;
     }

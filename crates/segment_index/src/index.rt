@@ -1,36 +1,43 @@
 //! The index.
-ghost use Rattle.std.specs.Prelude.{◌≡◌, ◌+◌, [], IfOk};
+ghost use Rattle.std.specs.Prelude.{◌≡◌, [], IfOk, IsTrue, Contains};
+ghost use Rattle.olap_meaning.specs.Covering.{among};
+ghost use Rattle.cache_flush.specs.Loads.{KeptOf, is_candidate};
 
-use crate::groups::Groups;
+use crate::groups::one_more;
+use crate::keys::{cell_columns_key, cell_key};
+use crate::listing::Lists;
 use crate::loads::Loads;
 use crate::search::{candidates, latest_serving};
+use crate::spent::unlist;
 use cache_flush::{CacheShelf, Kept, Shelf, Shut};
 use olap_meaning::{Cell, Header, List, OutOfMemory, Region};
-use segment_header::{cell_mask, header_mask};
+use segment_header::{cell_mask, columns_rise};
 use std::alloc::Global;
 use std::marker::Model;
 use std::sync::Arc;
 
-/// The kept loads, found by the columns of a cell. What was reserved and is not used yet is counted, for all loads and for
-/// those of each mask: room that the containers have beyond it is not promised to anybody.
+/// The kept loads, found by the columns and values of a cell. What was reserved and is not used yet is counted, for all loads and for
+/// those of each list: room that the containers have beyond it is not promised to anybody.
 #[derive(Drop)]
 pub struct SegmentIndex {
     alloc: Global,
     loads: Loads,
-    groups: Groups,
+    lists: Lists,
     places: usize,
+    // the loads that the region for which there is room may shut off as a whole
+    touched: Vec<u64>,
 }
 
 impl Model for SegmentIndex {
     ghost use Rattle.std.specs.Prelude.{◌≤◌, map};
     ghost use Rattle.segment_index.specs.Index.{IndexOf};
-    ghost use Rattle.segment_index.specs.Keeping.{AreGrouped};
+    ghost use Rattle.segment_index.specs.Keeping.{AreKept};
 
     ghost Value = { IndexOf };
 
-    ghost view = { λ a. record { loads = a.loads.loads; flushed = a.loads.flushed; ready = a.loads.ready; places = a.places; places_under = map (λ under. (under.0, under.1.1)) a.groups } };
+    ghost view = { λ a. record { loads = a.loads.loads; flushed = a.loads.flushed; ready = a.loads.ready; places = a.places; places_by_mask = map (λ under. (under.0, under.1.1)) a.lists.masks; places_by_key = map (λ under. (under.0, under.1.1)) a.lists.cells } };
 
-    ghost invariant = { λ a. AreGrouped a.groups a.loads.loads × (a.places ≤ a.loads.places) };
+    ghost invariant = { λ a. AreKept a.lists.masks a.lists.cells a.loads.loads × (a.places ≤ a.loads.places) };
 }
 
 impl SegmentIndex {
@@ -42,8 +49,22 @@ impl SegmentIndex {
         SegmentIndex {
             alloc,
             loads: Loads::new(alloc),
-            groups: Groups::new(alloc),
+            lists: Lists::new(alloc),
             places: 0,
+            touched: Vec::new(alloc),
+        }
+    }
+
+    // Numbers of loads, with those of all candidates for a cell among them. Only a cell whose columns rise is looked for in the
+    // lists, since a load may leave them that still serves another.
+    fn searched(&self, cell: &Cell) -> Result<Vec<u64>, OutOfMemory>
+        ensures { IfOk result (λ numbers. (kept : KeptOf) → Contains self.now.loads kept
+            → IsTrue (is_candidate kept cell.now) → IsTrue (among numbers.items kept.load)) }
+    {
+        if columns_rise(cell.at.as_slice()) {
+            self.lists.masks.above(self.alloc, cell_mask(cell))
+        } else {
+            self.loads.numbers(self.alloc)
         }
     }
 }
@@ -96,14 +117,20 @@ impl CacheShelf for SegmentIndex {
 
     fn find(&self, cell: &Cell) -> Option<&Kept> {
         self.loads.numbers_differ();
-        let (front, back) = self.groups.at(cell_mask(cell));
-        latest_serving(&self.loads, front, back, cell)
+        if !columns_rise(cell.at.as_slice()) {
+            let (front, back) = self.loads.parts();
+            return latest_serving(&self.loads, cell, None, front, back);
+        }
+        let (front, back) = self.lists.cells.at(cell_key(cell));
+        let latest = latest_serving(&self.loads, cell, None, front, back);
+        let (front, back) = self.lists.cells.at(cell_columns_key(cell));
+        latest_serving(&self.loads, cell, latest, front, back)
     }
 
     fn candidates(&self, cell: &Cell) -> Result<List<u64>, OutOfMemory> {
         self.loads.numbers_differ();
-        let above = self.groups.above(self.alloc, cell_mask(cell))?;
-        let mut found = candidates(self.alloc, &self.loads, above.as_slice(), cell)?;
+        let searched = self.searched(cell)?;
+        let mut found = candidates(self.alloc, &self.loads, searched.as_slice(), cell)?;
         found.sort_unstable();
         found.dedup();
         Ok(List::from_vec(found))
@@ -112,41 +139,45 @@ impl CacheShelf for SegmentIndex {
     fn reserve(&mut self, header: &Header) -> Result<(), OutOfMemory> {
         let places = one_more(self.places)?;
         self.loads.reserve(places)?;
-        self.groups.reserve(self.alloc, header_mask(header))?;
+        self.lists.reserve(self.alloc, header)?;
         self.places = places;
         Ok(())
     }
 
     fn insert(&mut self, kept: Kept) {
-        self.groups.add(header_mask(kept.body.header()), kept.load);
+        self.lists.add(kept.body.header(), kept.load);
         self.places -= 1;
         self.loads.insert(kept);
     }
 
     fn release(&mut self, header: &Header) {
-        self.groups.release(header_mask(header));
+        self.lists.release(header);
         self.places -= 1;
     }
 
     fn remove(&mut self, load: u64) -> Option<Kept> {
         self.loads.numbers_differ();
         let kept = self.loads.remove(load)?;
-        self.groups.remove(header_mask(kept.body.header()), load);
+        self.lists.remove(kept.body.header(), load);
         Some(kept)
     }
 
     fn reserve_shut(&mut self, region: &Arc<Region>) -> Result<(), OutOfMemory> {
+        self.touched = self
+            .lists
+            .hints
+            .touched(self.alloc, &self.lists.masks, region)?;
         self.loads.reserve_shut(region)
     }
 
     fn shut(&mut self, region: &Region) {
         self.loads.shut(region);
+        unlist(
+            &self.loads,
+            &mut self.lists,
+            self.touched.as_slice(),
+            region,
+        );
+        self.touched = Vec::new(self.alloc);
     }
-}
-
-// One more.
-fn one_more(count: usize) -> Result<usize, OutOfMemory>
-    ensures { IfOk result (λ more. more ≡ count + 1) }
-{
-    count.checked_add(1).ok_or(OutOfMemory)
 }

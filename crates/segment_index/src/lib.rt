@@ -1,15 +1,21 @@
-//! An index over kept loads: a shelf that finds the loads of a cell by the cell's columns.
+//! An index over kept loads: a shelf that finds the loads of a cell by the cell's columns and values.
 //!
-//! Loads stand under a mask, a u64 that has the bit c mod 64 for each column c. Loads with the same columns stand under the
-//! same mask; loads with other columns may, so the columns are compared still. The numbers of the loads are kept rising beside
-//! them, so that the oldest is at hand.
+//! A load that covers few cells with just its columns stands under the key of each of them; a wide load stands under the key of its
+//! columns. So a look asks only loads that have its cell, and wide ones. Beside that, loads stand under a mask, a u64 that has the
+//! bit c mod 64 for each column c: among the masks with all bits of a cell's are the loads with more columns. Keys and masks may be
+//! equal by chance, so the columns and values are compared still. A load that flushes shut off as a whole leaves these lists. The
+//! numbers of the loads are kept rising beside them, so that the oldest is at hand.
 #![tactic(auto)]
 
 mod groups;
+mod hints;
 mod index;
+mod keys;
+mod listing;
 mod loads;
 mod numbers;
 mod search;
 mod shared;
+mod spent;
 
 pub use index::SegmentIndex;

@@ -1,10 +1,11 @@
 //! Kept loads, by their numbers.
-ghost use Rattle.std.specs.Prelude.{◌≡◌, ◌==◌, ◌<◌, ◌≤◌, ◌+◌, ◌++◌, ◌∷◌, ℕ, [], All, IfOk, IsTrue, OnOk, Some, false, filter, length, map, not, option_copied, option_map, sum_by};
+ghost use Rattle.std.specs.Prelude.{◌≡◌, ◌==◌, ◌<◌, ◌≤◌, ◌+◌, ◌++◌, ◌∷◌, ℕ, [], All, IfOk, IfSome, IsTrue, List, OnOk, Some, false, filter, length, map, not, option_copied, option_map, sum_by};
 ghost use Rattle.std.specs.List.{find};
 ghost use Rattle.std.specs.List.Sorted.{IsPermutation};
+ghost use Rattle.olap_meaning.specs.declared.regions.Region.{Region};
 ghost use Rattle.olap_meaning.specs.Covering.{among};
 ghost use Rattle.olap_meaning.specs.Legal.{rise};
-ghost use Rattle.cache_flush.specs.Loads.{IsOldest, are_different, group_count, kept_in, numbers_of, shut_off};
+ghost use Rattle.cache_flush.specs.Loads.{IsGone, IsOldest, are_different, group_count, kept_in, numbers_of, shut_off};
 
 use crate::numbers::Numbers;
 use cache_flush::{Kept, Shut};
@@ -83,6 +84,31 @@ impl Loads {
         ensures { result.now.regions ≡ self.now.flushed }
     {
         &self.shut
+    }
+
+    /// A load of a number that a region which was flushed last shuts off as a whole, as far as a short test tells. It takes no
+    /// memory.
+    pub(crate) fn gone(&self, load: u64, region: &Region) -> Option<&Kept>
+        requires last { (before : List Region)
+            × (self.now.flushed ≡ before ++ region.now ∷ []) }
+        ensures there { IfSome (option_copied result)
+            (λ kept. find (λ other. other.load == load) self.now.loads
+            ≡ Some (kept_in self.now.flushed kept)) }
+        ensures gone { IfSome (option_copied result)
+            (λ kept. IsGone (kept_in self.now.flushed kept)) }
+    {
+        match self.by_number.get(&load) {
+            Some(kept) if is_gone(&self.shut, kept, region) => Some(kept),
+            _ => None,
+        }
+    }
+
+    /// The numbers of the loads in two parts, rising. It takes no memory.
+    pub(crate) fn parts(&self) -> (&[u64], &[u64])
+        ensures { (load : ℕ) → among (result.0.now ++ result.1.now) load
+            ≡ among (numbers_of self.now.loads) load }
+    {
+        self.numbers.parts()
     }
 
     /// The numbers of the loads, rising.
@@ -175,4 +201,12 @@ impl Loads {
     {
         self.shut.add(region);
     }
+}
+
+// Whether a region that was flushed last shuts off a load as a whole.
+fn is_gone(shut: &Shut, kept: &Kept, region: &Region) -> bool
+    requires last { (before : List Region) × (shut.now.regions ≡ before ++ region.now ∷ []) }
+    ensures { IsTrue result → IsGone (kept_in shut.now.regions kept.now) }
+{
+    kept.place < shut.len() && kept.is_gone(shut, region)
 }

@@ -1,5 +1,5 @@
 //! Numbers that rise.
-ghost use Rattle.std.specs.Prelude.{◌≡◌, ◌==◌, ◌<◌, ◌≤◌, ◌+◌, ◌&&◌, ◌||◌, ℕ, [], IfOk, IsTrue, OnOk, not};
+ghost use Rattle.std.specs.Prelude.{◌≡◌, ◌==◌, ◌<◌, ◌≤◌, ◌+◌, ◌&&◌, ◌||◌, ◌++◌, ℕ, [], IfOk, IsTrue, OnOk, length, not};
 ghost use Rattle.olap_meaning.specs.Covering.{among};
 ghost use Rattle.olap_meaning.specs.Legal.{rise};
 ghost use Rattle.segment_index.specs.Rising.{IsLeast};
@@ -50,6 +50,20 @@ impl Numbers {
         ensures { IsLeast self.now.items result }
     {
         self.rising.front().copied()
+    }
+
+    /// Whether there is none.
+    pub(crate) fn is_empty(&self) -> bool
+        ensures { result ≡ (length self.now.items == 0) }
+    {
+        self.rising.is_empty()
+    }
+
+    /// They themselves, in two parts. It takes no memory.
+    pub(crate) fn parts(&self) -> (&[u64], &[u64])
+        ensures { result.0.now ++ result.1.now ≡ self.now.items }
+    {
+        self.rising.as_slices()
     }
 
     /// A copy of them.

@@ -1,5 +1,5 @@
 //! The search among the loads of some numbers.
-ghost use Rattle.std.specs.Prelude.{◌≡◌, ◌++◌, IfOk, List, None, filter, option_copied, option_map, reverse};
+ghost use Rattle.std.specs.Prelude.{◌≡◌, ◌++◌, IfOk, List, filter, option_copied, option_map, reverse};
 ghost use Rattle.olap_meaning.specs.declared.regions.Region.{Region};
 ghost use Rattle.cache_flush.specs.Loads.{kept_in};
 ghost use Rattle.segment_index.specs.Search as words;
@@ -71,17 +71,20 @@ fn latest_of<'a>(
     best
 }
 
-/// Of the loads with some numbers, which come in two parts, the latest that serves a cell. It takes no memory.
+/// The latest that serves a cell, of a load and the loads with some numbers, which come in two parts. It takes no memory.
 pub(crate) fn latest_serving<'a>(
     loads: &'a Loads,
+    cell: &Cell,
+    first: Option<&'a Kept>,
     front: &[u64],
     back: &[u64],
-    cell: &Cell,
 ) -> Option<&'a Kept>
     ensures { option_map (kept_in loads.now.flushed) (option_copied result)
-        ≡ words.latest_serving loads.now.loads cell.now None (reverse (front.now ++ back.now)) }
+        ≡ words.latest_serving loads.now.loads cell.now
+        (option_map (kept_in loads.now.flushed) (option_copied first.entry))
+        (reverse (front.now ++ back.now)) }
 {
-    let latest = latest_of(loads, cell, None, back);
+    let latest = latest_of(loads, cell, first, back);
     latest_of(loads, cell, latest, front)
 }
 

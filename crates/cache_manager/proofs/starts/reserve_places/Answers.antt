@@ -2,6 +2,7 @@
 use Rattle.std.proofs.Common.{◌∙◌, ◌++◌, ◌∷◌, [], arith, map, subst, sym, take}
 use Rattle.segment_index.specs.Index.{has_places}
 use Rattle.cache_manager.specs.declared.starts.Planned.{Planned}
+use Rattle.segment_index.proofs.PlaceFacts.{places_none}
 use Rattle.cache_manager.proofs.Starting.{headers_more}
 use Rattle.cache_manager.proofs.starts.reserve_places.Goals as goal
 
@@ -19,6 +20,6 @@ pub release_places-requires : goal.release_places-requires
 release_places-requires c = record {
   places = (
     [],
-    c.reserve.ensures.places (map (λ planned. planned.flight.header) (take c.loop-made.made c.args.plans.now)) (c.loop-made.invariant.places [] (omega arith, λ mask. omega arith)),
+    c.reserve.ensures.places (map (λ planned. planned.flight.header) (take c.loop-made.made c.args.plans.now)) (c.loop-made.invariant.places [] (places_none c.args.shelf.now)),
   );
 }

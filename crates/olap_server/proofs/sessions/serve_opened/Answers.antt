@@ -23,3 +23,6 @@ returns-clause-served g c =
 
 pub returns-clause-at_least : goal.returns-clause-at_least
 returns-clause-at_least g c = let read = c.serve_desk-status.ensures.served.1 in omega (arith, read)
+
+pub returns-clause-legal : goal.returns-clause-legal
+returns-clause-legal g c = rw (c.into_history.ensures.setting, c.into_history.ensures.entries) c.steps_are_legal.ensures

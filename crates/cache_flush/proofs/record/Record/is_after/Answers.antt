@@ -1,7 +1,7 @@
 -- The last flush tells whether there is a later one.
-use Rattle.std.proofs.Common.{sym}
+use Rattle.std.proofs.Common.{◌∙◌, ap, nat_lt}
 use Rattle.cache_flush.proofs.RisingFacts.{any_last}
 use Rattle.cache_flush.proofs.record.Record.is_after.Goals as goal
 
-pub returns-in-Some : goal.returns-in-Some
-returns-in-Some c = rw (← c.self.view_is) (any_last c.self.inside.flushes.items c.args.since c.in-Some.last.now c.self.invariant (rw c.deref.ensures.value at (sym c.in-Some.ensures.value)))
+pub returns : goal.returns
+returns c = rw (← c.self.view_is) (ap (nat_lt c.args.since) c.self.invariant.1 ∙ any_last c.self.inside.flushes.items c.args.since c.self.invariant.0)

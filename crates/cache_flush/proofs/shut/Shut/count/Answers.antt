@@ -1,20 +1,18 @@
 -- The records tell how many regions after a place touch a header; so many can be counted.
-use Rattle.std.proofs.Common.{◌∙◌, ◌<◌, ◌^◌, sym, arith, drop}
+use Rattle.std.proofs.Common.{◌∙◌, sym, arith, drop}
 use Rattle.std.proofs.lemmas.List.{length-drop}
 use Rattle.std.proofs.lemmas.List.Sums.{count_by-le-length}
 use Rattle.olap_meaning.specs.Covering.{region_touches}
-use Rattle.cache_flush.specs.Records.{count_in}
 use Rattle.cache_flush.proofs.shut.Shut.count.Goals as goal
 
-pub count_touching-requires : goal.count_touching-requires
-count_touching-requires c =
+pub count-requires : goal.count-requires
+count-requires c =
     let (many, are, within, ready) = c.self.invariant in
     let told = are (λ region. region_touches region c.args.header.now) c.args.place in
     let few = count_by-le-length (λ region. region_touches region c.args.header.now) (drop c.args.place c.self.inside.flushed.items) in
     let long = length-drop c.args.place c.self.inside.flushed.items in
-    let need : count_in (λ region. region_touches region c.args.header.now) c.args.place c.self.inside.records.items < 2 ^ 64 = omega (arith, many, told, few, long) in
-    rw c.as_slice.ensures.value need
+    omega (arith, many, told, few, long)
 
 pub returns : goal.returns
 returns c =
-    rw (← c.self.view_is) (rw c.as_slice.ensures.value at c.count_touching.ensures ∙ sym (c.self.invariant.1 (λ region. region_touches region c.args.header.now) c.args.place))
+    rw (← c.self.view_is) (c.count.ensures ∙ sym (c.self.invariant.1 (λ region. region_touches region c.args.header.now) c.args.place))

@@ -6,4 +6,4 @@ use Rattle.cache_flush.proofs.shut.Shut.is_live.Goals as goal
 
 pub returns-else-place-self : goal.returns-else-place-self
 returns-else-place-self c =
-    rw (← c.self.view_is) (ap not (rw c.as_slice.ensures.value at c.cover.ensures ∙ any_told c.self.inside.flushed.items c.self.inside.records.items (λ region. region_covers region c.args.cell.now) c.args.place c.self.invariant.1))
+    rw (← c.self.view_is) (ap not (c.cover.ensures ∙ any_told c.self.inside.flushed.items c.self.inside.ledger.records (λ region. region_covers region c.args.cell.now) c.args.place c.self.invariant.1))

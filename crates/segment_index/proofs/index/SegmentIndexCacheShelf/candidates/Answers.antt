@@ -14,7 +14,8 @@ returns-clause-rising c =
 pub returns-clause-members : goal.returns-clause-members
 returns-clause-members c n =
     let left = dedup_is nat_eq c.sort_unstable.new.self.items c.dedup.new.self.items c.dedup.ensures.filtered in
-    let found = rw (c.as_slice.ensures.value, c.in_ok-above.ensures, c.cell_mask.ensures) at c.in_ok-found.ensures in
+    let found = rw c.as_slice.ensures.value at c.in_ok-found.ensures in
+    let each = rw (← c.self.view_is) at c.in_ok-searched.ensures in
     rw (← c.self.view_is, c.from_vec.ensures)
-    (candidates_found c.self.inside.loads.loads c.self.inside.groups c.args.cell.now c.self.invariant.0 c.numbers_differ.ensures
+    (candidates_found c.self.inside.loads.loads c.args.cell.now c.in_ok-searched.searched.items c.numbers_differ.ensures each
     c.in_ok-found.found.items c.sort_unstable.new.self.items c.dedup.new.self.items found c.sort_unstable.ensures.permutation left n)

@@ -1,25 +1,31 @@
 -- That `release` gives back one place.
-use Rattle.std.proofs.Common.{◌-◌, arith}
-use Rattle.segment_index.proofs.MaskedFacts.{grouped_still}
-use Rattle.segment_index.proofs.PlaceFacts.{index_of, place_used, places_seen, seen_less, some_place, some_under}
+use Rattle.std.proofs.Common.{arith}
+use Rattle.segment_index.specs.Index.{in_key, in_mask}
+use Rattle.segment_index.proofs.ListedFacts.{listed_still}
+use Rattle.segment_index.proofs.PlaceFacts.{its_place, place_used}
 use Rattle.segment_index.proofs.index.SegmentIndexCacheShelf.release.Goals as goal
 
-pub release-requires : goal.release-requires
-release-requires c =
+pub release-requires-clause-masks : goal.release-requires-clause-masks
+release-requires-clause-masks c =
     let (before, after, had) = c.requires.place in
-    let old = index_of c.self.inside.loads c.self.inside.places c.self.inside.groups in
-    rw (places_seen c.self.inside.groups c.header_mask.result) at (some_under old c.args.header.now before after (rw (← c.self.view_is) at had) c.header_mask.result c.header_mask.ensures)
+    its_place in_mask c.self.inside.lists.masks c.self.inside.lists.masks c.args.header.now before after (rw (← c.self.view_is) at had).1
+
+pub release-requires-clause-cells : goal.release-requires-clause-cells
+release-requires-clause-cells c =
+    let (before, after, had) = c.requires.place in
+    its_place in_key c.self.inside.lists.cells c.self.inside.lists.cells c.args.header.now before after (rw (← c.self.view_is) at had).2
 
 pub invariant_of-self : goal.invariant_of-self
 invariant_of-self c =
-    let (grouped, room) = c.self.invariant in
-    (grouped_still c.self.inside.groups c.release.new.self c.self.inside.loads.loads c.release.ensures.loads grouped, omega (arith, room))
+    let ((masked, listed, formed), room) = c.self.invariant in (
+      (
+        listed_still in_mask c.self.inside.lists.masks c.release.new.self.masks c.self.inside.loads.loads c.release.ensures.masks.loads masked,
+        listed_still in_key c.self.inside.lists.cells c.release.new.self.cells c.self.inside.loads.loads c.release.ensures.cells.loads listed,
+        formed,
+      ),
+      omega (arith, room),
+    )
 
 pub returns-clause-places : goal.returns-clause-places
 returns-clause-places c =
-    let (front, rest, had) = c.requires.place in
-    let old = index_of c.self.inside.loads c.self.inside.places c.self.inside.groups in
-    let new = index_of c.self.inside.loads (c.self.inside.places - 1) c.release.new.self in
-    let some = some_place old c.args.header.now front rest (rw (← c.self.view_is) at had) in
-    rw (← c.self.view_is)
-    (place_used old new c.args.header.now c.header_mask.result c.header_mask.ensures (omega (arith, some)) (seen_less c.self.inside.groups c.release.new.self c.header_mask.result c.release.ensures.places))
+    rw (← c.self.view_is) (place_used c.self.inside.loads c.self.inside.loads c.self.inside.places c.self.inside.lists.masks c.release.new.self.masks c.self.inside.lists.cells c.release.new.self.cells c.args.header.now c.release.ensures.masks.places c.release.ensures.cells.places)

@@ -1,29 +1,43 @@
 -- That `reserve` makes one place more, and keeps the others.
 use Rattle.std.proofs.Common.{arith}
-use Rattle.segment_index.proofs.MaskedFacts.{grouped_still}
-use Rattle.segment_index.proofs.PlaceFacts.{index_of, place_made, places_kept, places_stay, seen_more, seen_same}
+use Rattle.segment_index.specs.Index.{in_key, in_mask}
+use Rattle.segment_index.proofs.ListedFacts.{listed_still}
+use Rattle.segment_index.proofs.PlaceFacts.{place_made, places_stay}
 use Rattle.segment_index.proofs.index.SegmentIndexCacheShelf.reserve.Goals as goal
+
+pub invariant_of-self-in_err-reserve-2 : goal.invariant_of-self-in_err-reserve-2
+invariant_of-self-in_err-reserve-2 c =
+    let ((masked, listed, formed), room) = c.self.invariant in (
+      rw c.reserve.ensures.loads (
+        listed_still in_mask c.self.inside.lists.masks c.reserve-2.new.self.masks c.self.inside.loads.loads c.in_err-reserve-2.ensures.err_masks.loads masked,
+        listed_still in_key c.self.inside.lists.cells c.reserve-2.new.self.cells c.self.inside.loads.loads c.in_err-reserve-2.ensures.err_cells.loads listed,
+        formed,
+      ),
+      omega (arith, room, c.reserve.ensures.places),
+    )
 
 pub returns-in_err-reserve-2-clause-places : goal.returns-in_err-reserve-2-clause-places
 returns-in_err-reserve-2-clause-places c =
-    let old = index_of c.self.inside.loads c.self.inside.places c.self.inside.groups in
-    let new = index_of c.reserve.new.self c.self.inside.places c.reserve-2.new.self in
-    rw (← c.self.view_is) (λ headers. places_stay old new headers (omega arith) (seen_same c.self.inside.groups c.reserve-2.new.self c.in_err-reserve-2.ensures.err))
+    rw (← c.self.view_is) (places_stay c.self.inside.loads c.reserve.new.self c.self.inside.places c.self.inside.places c.self.inside.lists.masks c.reserve-2.new.self.masks c.self.inside.lists.cells c.reserve-2.new.self.cells (omega arith)
+    (λ q. let same = c.in_err-reserve-2.ensures.err_masks.places q in omega (arith, same)) (λ q. let same = c.in_err-reserve-2.ensures.err_cells.places q in omega (arith, same)))
 
 pub invariant_of-self-2 : goal.invariant_of-self-2
 invariant_of-self-2 c =
-    (rw c.reserve.ensures.loads (grouped_still c.self.inside.groups c.reserve-2.new.self c.self.inside.loads.loads c.reserve-2.ensures.loads c.self.invariant.0), c.in_ok-reserve.ensures.ok)
+    let ((masked, listed, formed), room) = c.self.invariant in (
+      rw c.reserve.ensures.loads (
+        listed_still in_mask c.self.inside.lists.masks c.reserve-2.new.self.masks c.self.inside.loads.loads c.in_ok-reserve-2.ensures.ok_masks.loads masked,
+        listed_still in_key c.self.inside.lists.cells c.reserve-2.new.self.cells c.self.inside.loads.loads c.in_ok-reserve-2.ensures.ok_cells.loads listed,
+        formed,
+      ),
+      c.in_ok-reserve.ensures.ok,
+    )
 
 pub returns-clause-place : goal.returns-clause-place
 returns-clause-place c =
-    let old = index_of c.self.inside.loads c.self.inside.places c.self.inside.groups in
-    let new = index_of c.reserve.new.self c.in_ok-places.places c.reserve-2.new.self in
-    let each = seen_more c.self.inside.groups c.reserve-2.new.self c.header_mask.result c.in_ok-reserve-2.ensures.ok in
-    rw (← c.self.view_is) (place_made old new c.args.header.now c.header_mask.result c.header_mask.ensures c.in_ok-places.ensures each)
+    rw (← c.self.view_is, c.in_ok-places.ensures) (place_made c.self.inside.loads c.reserve.new.self c.self.inside.places c.self.inside.lists.masks c.reserve-2.new.self.masks c.self.inside.lists.cells c.reserve-2.new.self.cells c.args.header.now
+    c.in_ok-reserve-2.ensures.ok_masks c.in_ok-reserve-2.ensures.ok_cells)
 
 pub returns-clause-places : goal.returns-clause-places
 returns-clause-places c =
-    let old = index_of c.self.inside.loads c.self.inside.places c.self.inside.groups in
-    let new = index_of c.reserve.new.self c.in_ok-places.places c.reserve-2.new.self in
-    let each = seen_more c.self.inside.groups c.reserve-2.new.self c.header_mask.result c.in_ok-reserve-2.ensures.ok in
-    rw (← c.self.view_is) (places_kept old new c.args.header.now c.header_mask.result c.header_mask.ensures c.in_ok-places.ensures each)
+    rw (← c.self.view_is) (places_stay c.self.inside.loads c.reserve.new.self c.self.inside.places c.in_ok-places.places c.self.inside.lists.masks c.reserve-2.new.self.masks c.self.inside.lists.cells c.reserve-2.new.self.cells (omega (arith, c.in_ok-places.ensures))
+    (λ q. let more = c.in_ok-reserve-2.ensures.ok_masks.places q in omega (arith, more)) (λ q. let more = c.in_ok-reserve-2.ensures.ok_cells.places q in omega (arith, more)))

@@ -1,0 +1,8 @@
+-- That `release_first` has a place under each key, and gives it back.
+use Rattle.std.proofs.Common.{rules}
+use Rattle.segment_index.proofs.TallyFacts.{needs_place}
+use Rattle.segment_index.proofs.listing.release_first.Goals as goal
+
+pub release-requires : goal.release-requires
+release-requires c =
+    rw c.key_at.ensures (needs_place c.args.header.now c.loop-number.number _ _ c.args.count (search rules) c.requires c.loop-number.invariant.places)

@@ -1,0 +1,7 @@
+-- What holds at each turn of `release_first`.
+use Rattle.segment_index.specs.Grouping.{IsReleased}
+use Rattle.segment_index.specs.Keys.{tally}
+use Rattle.segment_index.proofs.listing.release_first.Given as goal
+
+abbrev pub invariant-loop-number : goal.invariant-loop-number
+invariant-loop-number l = IsReleased (λ q. tally q l.header l.number) l.fn.cells l.cells
