@@ -235,7 +235,7 @@ impl Manager {
     /// Flushes the cells of a region (Cache Control): no load that was started before serves them from now on. A load of
     /// which only some cells are covered serves the others on; that is so also of the loads in flight, once they are
     /// delivered. It answers the position of its entry. All its room is made first: where there is no memory, nothing has
-    /// changed. What it costs does not grow with the loads that are kept.
+    /// changed. Beside its own entry it costs the loads that it may shut off as a whole.
     pub fn flush(&mut self, who: Who, region: Region) -> Result<u64, OutOfMemory>
         requires call { IsTrue (is_next_call self.old.entries who) }
         requires flushable { IsTrue (is_flushable self.old.setting.catalog region) }

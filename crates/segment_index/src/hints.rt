@@ -1,45 +1,57 @@
 //! Which loads a flush of a region may shut off as a whole. Nothing that is answered depends on it: a load is asked itself.
 use crate::groups::Groups;
 use crate::keys::with_pair;
-use olap_meaning::{Allowed, ColumnId, Header, List, OutOfMemory, Region, RegionBox, ValueId};
+use olap_meaning::{
+    Allowed, ColumnId, CubeId, Header, List, OutOfMemory, Region, RegionBox, ValueId,
+};
 use segment_header::header_mask;
 use std::alloc::Global;
 
 /// The numbers of loads by a value that they allow: of each column with a set of values, under the value where it is the only one,
-/// and else under the column alone.
+/// and else under the column alone. Loads with one cube and one mask of columns have one shape.
 #[derive(Drop)]
 pub(crate) struct Hints {
     by_value: Groups,
 }
 
-// The key of a value of a column, for loads whose columns have a mask.
-fn value_key(mask: u64, column: ColumnId, value: ValueId) -> u64 {
-    with_pair(mask, column, value)
+// The number of a shape.
+fn shape_of(cube: CubeId, mask: u64) -> u64 {
+    with_pair(mask, ColumnId(cube.0), ValueId(0))
 }
 
-// The key of a column, for loads that allow several of its values.
-fn column_key(mask: u64, column: ColumnId) -> u64 {
-    with_pair(!mask, column, ValueId(0))
+// The shape of a header.
+fn header_shape(header: &Header) -> u64 {
+    shape_of(header.cube, header_mask(header))
+}
+
+// The key of a value of a column, for loads of a shape.
+fn value_key(shape: u64, column: ColumnId, value: ValueId) -> u64 {
+    with_pair(shape, column, value)
+}
+
+// The key of a column, for loads of a shape that allow several of its values.
+fn column_key(shape: u64, column: ColumnId) -> u64 {
+    with_pair(!shape, column, ValueId(0))
 }
 
 // The key for what a load allows in a column, None where it is any value: no box with values there shuts off the whole load.
-fn key_of(mask: u64, column: ColumnId, allowed: &Allowed) -> Option<u64> {
+fn key_of(shape: u64, column: ColumnId, allowed: &Allowed) -> Option<u64> {
     match allowed {
         Allowed::Any => None,
         Allowed::Set(values) => {
             if values.len() == 1 {
-                Some(value_key(mask, column, values.as_slice()[0]))
+                Some(value_key(shape, column, values.as_slice()[0]))
             } else {
-                Some(column_key(mask, column))
+                Some(column_key(shape, column))
             }
         }
     }
 }
 
 // The key for a column of a header, by its place.
-fn key_at(header: &Header, mask: u64, place: usize) -> Option<u64> {
+fn key_at(header: &Header, shape: u64, place: usize) -> Option<u64> {
     let own = header.columns.as_slice().get(place)?;
-    key_of(mask, own.0, &own.1)
+    key_of(shape, own.0, &own.1)
 }
 
 impl Hints {
@@ -52,10 +64,13 @@ impl Hints {
 
     /// Makes a place for a load of a header. Where there is no memory, none is made.
     pub(crate) fn reserve(&mut self, alloc: Global, header: &Header) -> Result<(), OutOfMemory> {
-        let mask = header_mask(header);
+        let shape = header_shape(header);
         for place in 0..header.columns.len() {
-            if self.reserve_at(alloc, key_at(header, mask, place)).is_err() {
-                self.release_first(header, mask, place);
+            if self
+                .reserve_at(alloc, key_at(header, shape, place))
+                .is_err()
+            {
+                self.release_first(header, shape, place);
                 return Err(OutOfMemory);
             }
         }
@@ -69,9 +84,10 @@ impl Hints {
         }
     }
 
-    fn release_first(&mut self, header: &Header, mask: u64, places: usize) {
+    // Gives back the place for each of the first columns of a header.
+    fn release_first(&mut self, header: &Header, shape: u64, places: usize) {
         for place in 0..places {
-            self.release_at(key_at(header, mask, place));
+            self.release_at(key_at(header, shape, place));
         }
     }
 
@@ -85,14 +101,14 @@ impl Hints {
 
     /// Gives back the place for a load of a header. It takes no memory.
     pub(crate) fn release(&mut self, header: &Header) {
-        self.release_first(header, header_mask(header), header.columns.len());
+        self.release_first(header, header_shape(header), header.columns.len());
     }
 
     /// Puts a load in where there is a place for it. It takes no memory.
     pub(crate) fn add(&mut self, header: &Header, load: u64) {
-        let mask = header_mask(header);
+        let shape = header_shape(header);
         for place in 0..header.columns.len() {
-            self.add_at(key_at(header, mask, place), load);
+            self.add_at(key_at(header, shape, place), load);
         }
     }
 
@@ -106,9 +122,9 @@ impl Hints {
 
     /// Takes a load out. It takes no memory.
     pub(crate) fn remove(&mut self, header: &Header, load: u64) {
-        let mask = header_mask(header);
+        let shape = header_shape(header);
         for place in 0..header.columns.len() {
-            self.remove_at(key_at(header, mask, place), load);
+            self.remove_at(key_at(header, shape, place), load);
         }
     }
 
@@ -124,13 +140,74 @@ impl Hints {
         front.len().saturating_add(back.len())
     }
 
-    // How many loads with a mask stand under a column's values, and under the column.
-    fn count_under(&self, mask: u64, column: &(ColumnId, List<ValueId>)) -> usize {
-        let mut count = self.count_at(column_key(mask, column.0));
+    // How many loads of a shape stand under a column's values, and under the column.
+    fn count_under(&self, shape: u64, column: &(ColumnId, List<ValueId>)) -> usize {
+        let mut count = self.count_at(column_key(shape, column.0));
         for value in column.1.as_slice() {
-            count = count.saturating_add(self.count_at(value_key(mask, column.0, *value)));
+            count = count.saturating_add(self.count_at(value_key(shape, column.0, *value)));
         }
         count
+    }
+
+    // The place of the column of a box, of those with a bit in a mask, under which the fewest loads of a shape stand.
+    fn narrowest(
+        &self,
+        shape: u64,
+        mask: u64,
+        columns: &[(ColumnId, List<ValueId>)],
+    ) -> Option<usize> {
+        let mut narrowest = None;
+        let mut least = usize::MAX;
+        for place in 0..columns.len() {
+            let column = &columns[place];
+            if has_bit(mask, column.0) {
+                let count = self.count_under(shape, column);
+                if narrowest.is_none() || count < least {
+                    narrowest = Some(place);
+                    least = count;
+                }
+            }
+        }
+        narrowest
+    }
+
+    // Adds the keys of the loads of a shape that a box may shut off as a whole, and tells whether it has one of their columns. Else
+    // it may shut off all of them.
+    fn add_box(
+        &self,
+        shape: u64,
+        mask: u64,
+        region_box: &RegionBox,
+        keys: &mut Vec<u64>,
+    ) -> Result<bool, OutOfMemory> {
+        let columns = region_box.columns.as_slice();
+        let narrowest = self.narrowest(shape, mask, columns);
+        match narrowest.and_then(|place| columns.get(place)) {
+            Some(column) => {
+                add_keys(shape, column, keys)?;
+                Ok(true)
+            }
+            None => Ok(false),
+        }
+    }
+
+    // The keys of the loads of a shape that some boxes may shut off as a whole, each once, or None where these may be all loads.
+    fn keys_of(
+        &self,
+        alloc: Global,
+        shape: u64,
+        mask: u64,
+        boxes: &[RegionBox],
+    ) -> Result<Option<Vec<u64>>, OutOfMemory> {
+        let mut keys = Vec::new(alloc);
+        for one in boxes {
+            if !self.add_box(shape, mask, one, &mut keys)? {
+                return Ok(None);
+            }
+        }
+        keys.sort_unstable();
+        keys.dedup();
+        Ok(Some(keys))
     }
 
     // Adds the loads that stand under a key.
@@ -141,54 +218,29 @@ impl Hints {
         Ok(())
     }
 
-    // Adds the loads with a mask that stand under a column's values, or under the column.
-    fn add_under(
-        &self,
-        mask: u64,
-        column: &(ColumnId, List<ValueId>),
-        found: &mut Vec<u64>,
-    ) -> Result<(), OutOfMemory> {
-        self.add_found(column_key(mask, column.0), found)?;
-        for value in column.1.as_slice() {
-            self.add_found(value_key(mask, column.0, *value), found)?;
+    // Adds the loads that stand under some keys.
+    fn add_all(&self, keys: &[u64], found: &mut Vec<u64>) -> Result<(), OutOfMemory> {
+        for key in keys {
+            self.add_found(*key, found)?;
         }
         Ok(())
     }
 
-    // The place of the column of a box, of those with a bit in a mask, under which the fewest loads stand.
-    fn narrowest(&self, mask: u64, columns: &[(ColumnId, List<ValueId>)]) -> Option<usize> {
-        let mut narrowest = None;
-        let mut least = usize::MAX;
-        for place in 0..columns.len() {
-            let column = &columns[place];
-            if has_bit(mask, column.0) {
-                let count = self.count_under(mask, column);
-                if narrowest.is_none() || count < least {
-                    narrowest = Some(place);
-                    least = count;
-                }
-            }
-        }
-        narrowest
-    }
-
-    // Adds the loads with one mask that a box may shut off as a whole.
+    // Adds the loads with one mask that a region may shut off as a whole.
     fn add_masked(
         &self,
+        alloc: Global,
         masks: &Groups,
         position: usize,
-        region_box: &RegionBox,
+        region: &Region,
         found: &mut Vec<u64>,
     ) -> Result<(), OutOfMemory> {
         let Some((mask, front, back)) = masks.get(position) else {
             return Ok(());
         };
-        let columns = region_box.columns.as_slice();
-        match self
-            .narrowest(mask, columns)
-            .and_then(|place| columns.get(place))
-        {
-            Some(column) => self.add_under(mask, column, found),
+        let shape = shape_of(region.cube, mask);
+        match self.keys_of(alloc, shape, mask, region.boxes.as_slice())? {
+            Some(keys) => self.add_all(keys.as_slice(), found),
             None => {
                 found.extend_from_slice(front)?;
                 found.extend_from_slice(back)?;
@@ -197,21 +249,8 @@ impl Hints {
         }
     }
 
-    // Adds the loads that a box may shut off as a whole.
-    fn add_boxed(
-        &self,
-        masks: &Groups,
-        region_box: &RegionBox,
-        found: &mut Vec<u64>,
-    ) -> Result<(), OutOfMemory> {
-        for position in 0..masks.len() {
-            self.add_masked(masks, position, region_box, found)?;
-        }
-        Ok(())
-    }
-
-    /// The loads that a flush of a region may shut off as a whole, rising: of the loads under each mask, those that have none of the
-    /// columns of a box, and those that allow a value of one.
+    /// The loads that a flush of a region may shut off as a whole, rising: of the loads under each mask all where a box has none of
+    /// their columns, and else those of its cube that allow just a value of a box in one column, or several values there.
     pub(crate) fn touched(
         &self,
         alloc: Global,
@@ -219,13 +258,26 @@ impl Hints {
         region: &Region,
     ) -> Result<Vec<u64>, OutOfMemory> {
         let mut found = Vec::new(alloc);
-        for region_box in region.boxes.as_slice() {
-            self.add_boxed(masks, region_box, &mut found)?;
+        for position in 0..masks.len() {
+            self.add_masked(alloc, masks, position, region, &mut found)?;
         }
         found.sort_unstable();
         found.dedup();
         Ok(found)
     }
+}
+
+// Adds the keys of a column's values, and that of the column.
+fn add_keys(
+    shape: u64,
+    column: &(ColumnId, List<ValueId>),
+    keys: &mut Vec<u64>,
+) -> Result<(), OutOfMemory> {
+    keys.push(column_key(shape, column.0))?;
+    for value in column.1.as_slice() {
+        keys.push(value_key(shape, column.0, *value))?;
+    }
+    Ok(())
 }
 
 // Whether a mask has the bit of a column.

@@ -163,11 +163,12 @@ impl CacheShelf for SegmentIndex {
     }
 
     fn reserve_shut(&mut self, region: &Arc<Region>) -> Result<(), OutOfMemory> {
+        self.loads.reserve_shut(region)?;
         self.touched = self
             .lists
             .hints
             .touched(self.alloc, &self.lists.masks, region)?;
-        self.loads.reserve_shut(region)
+        Ok(())
     }
 
     fn shut(&mut self, region: &Region) {
