@@ -62,7 +62,7 @@ class Session:
         return busy, seconds, told
 
     def lines(self, line, times, head):
-        """Gives a line so many times, and returns the seconds that the program was busy. Each reply begins so."""
+        """Gives a line N times, and returns the seconds that the program was busy. Each reply begins so."""
         return self.each([line] * times, head)
 
     def each(self, lines, head):
@@ -88,7 +88,7 @@ class Session:
         return (more - less) / few
 
     def front(self, entries):
-        """Tests that the history has so many entries."""
+        """Tests that the history has this number of entries."""
         if self.block([f"AFTER {entries}"])[2] != f"SEEN {entries}\n":
             wrong(f"there are not {entries} entries")
 
@@ -112,7 +112,7 @@ def write(file, lines):
 
 
 def make_cube(name, counts):
-    """Writes a schema, NAME.json, of the cube C over dimensions of one level, each with so many members, of which the k-th of
+    """Writes a schema, NAME.json, of the cube C over dimensions of one level, each with N members, of which the k-th of
     dimension D is Dk; its tables; and a fact row for each k up to ten: the k-th member of each, and k units.
     """
     keys = [f"{it.lower()}_id" for it in counts]
@@ -167,7 +167,7 @@ taken = {}
 
 
 def rounds(kind, count, best):
-    """The busy seconds of so many rounds, the seconds until they are done, and the most MB that the session held. Each round makes
+    """The busy seconds of N rounds, the seconds until they are done, and the most MB that the session held. Each round makes
     four entries, after that of the base batch: a Start and a Done, of all quarters or of the one that was flushed, an Answer, and a
     Flush.
     """
@@ -221,8 +221,8 @@ singles = {}
 
 
 def over_singles(kind, loads):
-    """What lines take over so many loads of single members, in seconds: a warm look at the first, at the middle and at the last of them;
-    a flush of a member that is not loaded, and of one that one load has; and one flush of everything, while so many loads live.
+    """What lines take over N loads of single members, in seconds: a warm look at the first, at the middle and at the last of them;
+    a flush of a member that is not loaded, and of one that one load has; and one flush of everything, while all of them live.
     There are as many loads more as are flushed one by one. Where there are ten loads, nothing is flushed.
     """
     if (kind, loads) in singles:

@@ -10,7 +10,7 @@ cp "$here/../HANDLES" "$here/../LICENSE" "$here/../crates.txt" "$folder"
 mkdir "$folder/crates"
 cp -r "$here/../crates/." "$folder/crates"
 copy_parts index finds
-echo "finds: olap_meaning segment_header segment_body cache_flush segment_index indexmap" >> "$folder/crates.txt"
+echo "finds: olap_meaning catalog_tables olap_catalog cube_schema dim_tables segment_header segment_body cache_flush segment_index indexmap" >> "$folder/crates.txt"
 rustc -O --edition 2021 "$here/plain_index.rs" -o "$folder/plain"
 cd "$folder/crates/finds"
 echo "10 0 0" | rt run > "$folder/log" 2>&1 || { cat "$folder/log"; exit 1; }

@@ -1,11 +1,11 @@
 -- Kept loads, as a list.
-use Rattle.std.specs.Prelude.{ℕ, ◌≡◌, ◌≤◌, ◌++◌, ◌∷◌, [], ◌&&◌, List, Bool, true, false, not, All, Contains, IsTrue, Option, Some, None, drop, length, map}
+use Rattle.std.specs.Prelude.{ℕ, ◌≡◌, ◌≤◌, ◌++◌, ◌∷◌, [], ◌&&◌, List, Bool, true, false, not, All, Contains, Option, Some, None, drop, length, map}
 use Rattle.std.specs.List.{list_any}
 use Rattle.olap_meaning.specs.declared.cells.Cell.{Cell}
 use Rattle.olap_meaning.specs.declared.regions.Region.{Region}
-use Rattle.olap_meaning.specs.Covering.{among, columns_of, concerning, header_covers, just_covers, names_column}
-use Rattle.olap_meaning.specs.Legal.{rise}
+use Rattle.olap_meaning.specs.Covering.{among, concerning, header_covers, just_covers, names_column}
 use Rattle.segment_body.specs.BodyOf.{BodyOf, different_values}
+use Rattle.cache_flush.specs.Gone.{NoneIsLive}
 use Rattle.cache_flush.specs.Shuts.{is_live}
 use Rattle.cache_flush.specs.declared.kept.Kept.{Kept}
 
@@ -52,11 +52,9 @@ is_candidate kept cell =
     && list_any (λ column. not (names_column cell column.0)) kept.body.header.columns
     && is_live kept.shut cell
 
--- a kept load serves no cell any more: no cell whose columns rise and that it covers is live for it
-abbrev pub IsGone : KeptOf → Type 0
-IsGone kept =
-    (cell : Cell) → IsTrue (rise (columns_of cell)) → IsTrue (header_covers kept.body.header cell)
-    → is_live kept.shut cell ≡ false
+-- a kept load serves no well-formed cell any more: none that it covers is live for it
+abbrev pub IsGone : (ℕ → ℕ) → KeptOf → Type 0
+IsGone sizes kept = NoneIsLive sizes kept.shut kept.body.header
 
 -- of kept loads, the one with the greatest number among those that serve a cell, if there is one
 abbrev pub IsGreatest : List KeptOf → Cell → Option KeptOf → Type 0

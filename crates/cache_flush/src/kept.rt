@@ -2,11 +2,13 @@
 ghost use Rattle.std.specs.Prelude.{◌≡◌, ◌&&◌, Contains, IsTrue, drop, not};
 ghost use Rattle.std.specs.List.{list_any};
 ghost use Rattle.olap_meaning.specs.Covering as covering;
+ghost use Rattle.olap_meaning.specs.Rolled.{value_count};
 ghost use Rattle.cache_flush.specs.Loads as loads;
 ghost use Rattle.cache_flush.specs.Loads.{IsGone, kept_in};
 ghost use Rattle.cache_flush.specs.Shuts.{is_live};
 
 use crate::shut::Shut;
+use olap_catalog::Catalog;
 use olap_meaning::{Cell, Header, Region, Version};
 use segment_body::Body;
 use segment_header::{covers, names_column, same_columns};
@@ -59,11 +61,12 @@ impl Kept {
 
     /// Whether the regions that were flushed since the load's Start shut it off as a whole, as far as a short test tells, where this
     /// one is among them. It takes no memory.
-    pub fn is_gone(&self, shut: &Shut, region: &Region) -> bool
+    pub fn is_gone(&self, catalog: &Catalog, shut: &Shut, region: &Region) -> bool
         requires since { Contains (drop self.now.place shut.now.regions) region.now }
-        ensures { IsTrue result → IsGone (kept_in shut.now.regions self.now) }
+        ensures { IsTrue result → IsGone (value_count catalog.now)
+            (kept_in shut.now.regions self.now) }
     {
-        shut.shuts_off(self.place, self.body.header(), region)
+        shut.shuts_off(catalog, self.place, self.body.header(), region)
     }
 
     /// Whether the load covers a cell with just the cell's columns, live or not. It takes no memory.

@@ -14,7 +14,7 @@ use std::alloc::Global;
 use std::marker::Model;
 use std::sync::Arc;
 
-/// So many of the regions that were flushed last are known.
+/// How many of the regions that were flushed last are known.
 const FEW_RECORDS: usize = 64;
 
 /// The records of the regions that were flushed, and the places of those that were flushed last. The record of a region is found

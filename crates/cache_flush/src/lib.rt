@@ -7,6 +7,7 @@
 
 mod anchors;
 mod finder;
+mod formed;
 mod gone;
 mod kept;
 mod ledger;
@@ -18,6 +19,7 @@ mod shelf;
 mod shut;
 mod touch;
 
+pub use formed::{allowed_count, is_formed, size_of};
 pub use kept::Kept;
 pub use shelf::{CacheShelf, Shelf};
 pub use shut::Shut;

@@ -2,6 +2,7 @@
 ghost use Rattle.std.specs.Prelude.{◌≡◌, ◌<◌, ◌≤◌, ◌+◌, ◌++◌, ◌∷◌, [], All, IsTrue, OnOk, count_by, nat_lt};
 ghost use Rattle.std.specs.List.{list_any};
 ghost use Rattle.olap_meaning.specs.Covering as covering;
+ghost use Rattle.olap_meaning.specs.Rolled.{value_count};
 ghost use Rattle.cache_flush.specs.Gone as gone;
 ghost use Rattle.cache_flush.specs.Records as records;
 ghost use Rattle.cache_flush.specs.Records.{count_of, is_after};
@@ -10,6 +11,7 @@ use crate::anchors::{anchor_of, meets};
 use crate::gone::spans;
 use crate::same::same_region;
 use crate::touch::touches;
+use olap_catalog::Catalog;
 use olap_meaning::{Cell, ColumnId, Header, OutOfMemory, Region, ValueId};
 use region_algebra::covers;
 use std::alloc::Global;
@@ -127,9 +129,15 @@ impl Record {
     }
 
     /// Whether it spans a header, which may be narrowed to one value along one column.
-    pub(crate) fn spans(&self, header: &Header, along: &Option<(ColumnId, ValueId)>) -> bool
-        ensures { result ≡ gone.region_spans along.now header.now self.now.region }
+    pub(crate) fn spans(
+        &self,
+        catalog: &Catalog,
+        header: &Header,
+        along: &Option<(ColumnId, ValueId)>,
+    ) -> bool
+        ensures { result
+            ≡ gone.region_spans (value_count catalog.now) along.now header.now self.now.region }
     {
-        spans(&self.region, header, along)
+        spans(catalog, &self.region, header, along)
     }
 }

@@ -1,12 +1,14 @@
 //! The regions that were flushed.
 ghost use Rattle.std.specs.Prelude.{◌≡◌, ◌++◌, ◌∷◌, [], Contains, IsTrue, None, OnOk, Some, drop, length};
 ghost use Rattle.olap_meaning.specs.Covering.{touching};
+ghost use Rattle.olap_meaning.specs.Rolled.{value_count};
 ghost use Rattle.segment_header.specs.Headers.{is_header};
 ghost use Rattle.cache_flush.specs.Gone.{NoneIsLive};
 ghost use Rattle.cache_flush.specs.Shuts.{is_live};
 
 use crate::gone::{span_along, spans};
 use crate::ledger::Ledger;
+use olap_catalog::Catalog;
 use olap_meaning::{Cell, Header, OutOfMemory, Region};
 use std::alloc::Global;
 use std::marker::Model;
@@ -103,11 +105,19 @@ impl Shut {
     /// Whether the regions after a place shut off a header as a whole, as far as a short test tells, where a region is one of
     /// them: it spans the header, or it and the regions that were flushed last do so value by value along one column of few
     /// values. It takes no memory.
-    pub(crate) fn shuts_off(&self, place: u64, header: &Header, region: &Region) -> bool
+    pub(crate) fn shuts_off(
+        &self,
+        catalog: &Catalog,
+        place: u64,
+        header: &Header,
+        region: &Region,
+    ) -> bool
         requires formed { IsTrue (is_header header.now) }
         requires since { Contains (drop place self.now.regions) region.now }
-        ensures { IsTrue result → NoneIsLive (drop place self.now.regions) header.now }
+        ensures { IsTrue result → NoneIsLive (value_count catalog.now) (drop place self.now.regions)
+            header.now }
     {
-        spans(region, header, &None) || span_along(&self.ledger, place, header, region)
+        spans(catalog, region, header, &None)
+            || span_along(catalog, &self.ledger, place, header, region)
     }
 }

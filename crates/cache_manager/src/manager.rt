@@ -78,11 +78,12 @@ impl Manager {
             ≡ record { setting = setting_of catalog.value row_limit budget; entries = [] }) }
     {
         let facts = Facts::new(alloc, catalog.cube_count(), row_limit)?;
+        let shelf = SegmentIndex::new(alloc, Arc::try_clone(&catalog)?);
         Ok(Manager {
             alloc,
             history: History::new(alloc, catalog, row_limit, budget),
             facts,
-            shelf: SegmentIndex::new(alloc),
+            shelf,
             flights: Flights::new(alloc),
             installed: Installed::new(alloc),
         })

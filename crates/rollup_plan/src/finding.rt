@@ -16,22 +16,11 @@ use crate::kinds::{kin_of, leave_kin, newest};
 use crate::parts::parts_along;
 use crate::plan::Plan;
 use crate::rolls::kept_load;
-use cache_flush::{Kept, Shelf};
+use cache_flush::{Kept, Shelf, size_of};
 use olap_catalog::Catalog;
 use olap_meaning::{Aggregator, Cell, ColumnId, OutOfMemory};
 use segment_header::names_column;
 use std::alloc::Global;
-
-// How many values a column has.
-fn size_of(catalog: &Catalog, column: ColumnId) -> u32
-    ensures { result ≡ value_count catalog.now column }
-{
-    if u32::from(column.0) < catalog.column_count() {
-        catalog.value_count(column)
-    } else {
-        0
-    }
-}
 
 // The plan of loads of one kind along a split.
 fn plan_along(

@@ -1,5 +1,5 @@
 -- Which loads are found for a cell, and which are candidates for it, among those that are listed.
-use Rattle.std.proofs.Common.{◌≡◌, ◌∙◌, ◌++◌, ◌||◌, ◌&&◌, ℕ, Bool, true, false, not, List, [], ◌∷◌, Option, Some, None, filter, refl, sym, ap, inl, inr, true≢false, nat_eq, Contains, bit_and, reverse}
+use Rattle.std.proofs.Common.{◌≡◌, ◌∙◌, ◌++◌, ◌||◌, ◌&&◌, ℕ, Bool, true, false, not, List, [], ◌∷◌, Option, Some, None, filter, refl, sym, ap, inl, inr, true≢false, nat_eq, Contains, reverse}
 use Rattle.std.specs.Prelude.{◌==◌, All, Err, IfOk, Ok, Result}
 use Rattle.std.specs.List.{dedup, list_any}
 use Rattle.std.specs.List.Sorted.{IsPermutation}
@@ -8,32 +8,32 @@ use Rattle.std.proofs.lemmas.List.Elements.{All-contains}
 use Rattle.std.proofs.lemmas.List.Sorted.{list_any-IsPermutation}
 use Rattle.std.proofs.lemmas.Map.Views.{any-filter_same}
 use Rattle.olap_meaning.specs.declared.cells.Cell.{Cell}
-use Rattle.olap_meaning.specs.Covering.{among, columns_of, header_covers, just_covers, names_column}
-use Rattle.olap_meaning.specs.Legal.{rise}
+use Rattle.olap_meaning.specs.Covering.{among, header_covers, just_covers, names_column}
 use Rattle.olap_meaning.proofs.Lists.{same_bool}
 use Rattle.olap_meaning.proofs.Members.{filter_member, in_first, in_rest}
 use Rattle.olap_meaning.proofs.Orders.{among_once}
 use Rattle.segment_header.specs.Headers.{is_header}
-use Rattle.segment_header.specs.Masks.{cell_mask, header_mask}
-use Rattle.segment_header.proofs.MaskFacts.{cell_within}
+use Rattle.cache_flush.specs.Formed.{is_formed}
 use Rattle.cache_flush.specs.Shuts.{is_live}
 use Rattle.cache_flush.specs.Loads as loads
 use Rattle.cache_flush.specs.Loads.{IsGreatest, KeptOf, are_different, numbers_of, serves}
 use Rattle.cache_flush.proofs.GoneFacts.{gone_candidate, gone_serves}
-use Rattle.segment_index.specs.Grouping.{loads_above, loads_at, loads_where_above}
+use Rattle.segment_index.specs.Grouping.{is_above, loads_above, loads_at, loads_where_above}
 use Rattle.segment_index.specs.Index.{in_key, in_mask}
 use Rattle.segment_index.specs.Keeping.{AreListed}
 use Rattle.segment_index.specs.Keys.{cell_columns_key, cell_key}
+use Rattle.segment_index.specs.Masks.{cell_list_mask, header_list_mask}
 use Rattle.segment_index.specs.Search.{has_candidate, is_candidate, latest_serving, load_of}
 use Rattle.segment_index.proofs.KeyFacts.{served_key}
 use Rattle.segment_index.proofs.ListedFacts.{Stands}
+use Rattle.segment_index.proofs.MaskFacts.{candidate_above}
 use Rattle.segment_index.proofs.SearchFacts.{among_reversed, greatest_found, latest_more, load_found, load_there, number_there}
 
 pub if_ok : {A E : Type 0} {P Q : A → Type 0} (r : Result A E) → ((x : A) → P x → Q x) → IfOk r P → IfOk r Q
 if_ok (Ok x) f p = f x p
 if_ok (Err e) f p = p
 
--- ---- the numbers under the masks that have all bits of another
+-- ---- the numbers under the masks that stand above another
 
 pub among_append : (xs ys : List ℕ) (n : ℕ) → among (xs ++ ys) n ≡ (among xs n || among ys n)
 among_append [] ys n = refl
@@ -43,13 +43,13 @@ among_append (x ∷ xs) ys n = by (x == n) (among (xs ++ ys) n) (among xs n) (am
     by true l r s e = refl
     by false l r s e = e
 
-above_here : (es : List (ℕ × (List ℕ × ℕ))) (q m n : ℕ) → bit_and q m ≡ m → among (loads_at es q) n ≡ true → among (loads_above es m) n ≡ true
+above_here : (es : List (ℕ × (List ℕ × ℕ))) (q m n : ℕ) → is_above m q ≡ true → among (loads_at es q) n ≡ true → among (loads_above es m) n ≡ true
 above_here [] q m n within h = h
 above_here (e ∷ es) q m n within h =
     elim (cases_Bool (nat_eq q e.0)) [
       | inl same ↦
           let is : q ≡ e.0 = eqb-true q e.0 same in
-          let bits : nat_eq (bit_and e.0 m) m ≡ true = rw (← is, within) (eq-eqb m m refl) in
+          let bits : is_above m e.0 ≡ true = ap (is_above m) (sym is) ∙ within in
           let here : among e.1.0 n ≡ true = rw same at h in
           among_append (loads_where_above m e) (loads_above es m) n ∙ rw (bits, here) refl
       | inr other ↦
@@ -79,18 +79,18 @@ from_filter p (x ∷ xs) n h =
     later : ((other : KeptOf) × Contains xs other × ((other.load == n) ≡ true) × (p other ≡ true)) → (other : KeptOf) × Contains (x ∷ xs) other × ((other.load == n) ≡ true) × (p other ≡ true)
     later (other, held, same, passes) = (other, in_rest x xs other held, same, passes)
 
--- a candidate stands under its mask, which has all bits of the cell's
+-- a candidate stands under its mask, which stands above the cell's
 pub candidate_listed :
-    (masks : List (ℕ × (List ℕ × ℕ))) (kept_loads : List KeptOf) (cell : Cell) → AreListed in_mask masks kept_loads → rise (columns_of cell) ≡ true
-    → (kept : KeptOf) → Contains kept_loads kept → loads.is_candidate kept cell ≡ true → among (loads_above masks (cell_mask cell)) kept.load ≡ true
-candidate_listed masks kept_loads cell listed up kept held passes = by (All-contains (Stands in_mask masks) kept_loads kept listed.whole held)
+    (sizes : ℕ → ℕ) (masks : List (ℕ × (List ℕ × ℕ))) (kept_loads : List KeptOf) (cell : Cell) → AreListed sizes in_mask masks kept_loads → is_formed sizes cell ≡ true
+    → (kept : KeptOf) → Contains kept_loads kept → loads.is_candidate kept cell ≡ true → among (loads_above masks (cell_list_mask cell)) kept.load ≡ true
+candidate_listed sizes masks kept_loads cell listed up kept held passes = by (All-contains (Stands sizes in_mask masks) kept_loads kept listed.whole held)
   where
-    by : Stands in_mask masks kept → among (loads_above masks (cell_mask cell)) kept.load ≡ true
-    by (inl gone) = absurd (true≢false (sym passes ∙ gone_candidate kept cell gone up))
+    by : Stands sizes in_mask masks kept → among (loads_above masks (cell_list_mask cell)) kept.load ≡ true
+    by (inl gone) = absurd (true≢false (sym passes ∙ gone_candidate sizes kept cell gone up))
     by (inr stands) =
-        let m = header_mask kept.body.header in
-        let covers = (and_parts (header_covers kept.body.header cell) (list_any (λ column. not (names_column cell column.0)) kept.body.header.columns) (and_parts (header_covers kept.body.header cell && list_any (λ column. not (names_column cell column.0)) kept.body.header.columns) (is_live kept.shut cell) passes).0).0 in
-        above_here masks m (cell_mask cell) kept.load (cell_within kept.body.header cell covers) (stands m (rw (eq-eqb m m refl) refl))
+        let m = header_list_mask kept.body.header in
+        let (covers, drops) = and_parts (header_covers kept.body.header cell) (list_any (λ column. not (names_column cell column.0)) kept.body.header.columns) (and_parts (header_covers kept.body.header cell && list_any (λ column. not (names_column cell column.0)) kept.body.header.columns) (is_live kept.shut cell) passes).0 in
+        above_here masks m (cell_list_mask cell) kept.load (candidate_above kept.body.header cell covers drops) (stands m (rw (eq-eqb m m refl) refl))
 
 module _ (kept : List KeptOf) (cell : Cell) (searched : List ℕ) (differ : are_different (numbers_of kept) ≡ true)
     (each : (other : KeptOf) → Contains kept other → loads.is_candidate other cell ≡ true → among searched other.load ≡ true) where
@@ -122,29 +122,29 @@ module _ (kept : List KeptOf) (cell : Cell) (searched : List ℕ) (differ : are_
 
 -- a load that serves a cell stands under the cell's key, or under that of its columns
 serving_listed :
-    (cells : List (ℕ × (List ℕ × ℕ))) (kept_loads : List KeptOf) (cell : Cell) → AreListed in_key cells kept_loads → All (λ kept. is_header kept.body.header ≡ true) kept_loads → rise (columns_of cell) ≡ true
+    (sizes : ℕ → ℕ) (cells : List (ℕ × (List ℕ × ℕ))) (kept_loads : List KeptOf) (cell : Cell) → AreListed sizes (in_key sizes) cells kept_loads → All (λ kept. is_header kept.body.header ≡ true) kept_loads → is_formed sizes cell ≡ true
     → (kept : KeptOf) → Contains kept_loads kept → serves kept cell ≡ true → (among (loads_at cells (cell_key cell)) kept.load || among (loads_at cells (cell_columns_key cell)) kept.load) ≡ true
-serving_listed cells kept_loads cell listed formed up kept held served = by (All-contains (Stands in_key cells) kept_loads kept listed.whole held)
+serving_listed sizes cells kept_loads cell listed formed up kept held served = by (All-contains (Stands sizes (in_key sizes) cells) kept_loads kept listed.whole held)
   where
-    by : Stands in_key cells kept → (among (loads_at cells (cell_key cell)) kept.load || among (loads_at cells (cell_columns_key cell)) kept.load) ≡ true
-    by (inl gone) = absurd (true≢false (sym served ∙ gone_serves kept cell gone up))
+    by : Stands sizes (in_key sizes) cells kept → (among (loads_at cells (cell_key cell)) kept.load || among (loads_at cells (cell_columns_key cell)) kept.load) ≡ true
+    by (inl gone) = absurd (true≢false (sym served ∙ gone_serves sizes kept cell gone up))
     by (inr stands) =
         let just = (and_parts (just_covers kept.body.header cell) (is_live kept.shut cell) served).0 in
-        elim (served_key kept.body.header cell (All-contains (λ (k : KeptOf). is_header k.body.header ≡ true) kept_loads kept formed held) up just) [
+        elim (served_key sizes kept.body.header cell (All-contains (λ (k : KeptOf). is_header k.body.header ≡ true) kept_loads kept formed held) up just) [
           | inl narrow ↦ rw (stands (cell_key cell) narrow) refl
           | inr wide ↦ or_right (among (loads_at cells (cell_key cell)) kept.load) (among (loads_at cells (cell_columns_key cell)) kept.load) (stands (cell_columns_key cell) wide)
         ]
 
 -- the search in the list of the cell's key and in that of its columns finds the greatest that serves the cell
 pub greatest_listed :
-    (cells : List (ℕ × (List ℕ × ℕ))) (kept_loads : List KeptOf) (cell : Cell) → AreListed in_key cells kept_loads → All (λ kept. is_header kept.body.header ≡ true) kept_loads → rise (columns_of cell) ≡ true → are_different (numbers_of kept_loads) ≡ true
+    (sizes : ℕ → ℕ) (cells : List (ℕ × (List ℕ × ℕ))) (kept_loads : List KeptOf) (cell : Cell) → AreListed sizes (in_key sizes) cells kept_loads → All (λ kept. is_header kept.body.header ≡ true) kept_loads → is_formed sizes cell ≡ true → are_different (numbers_of kept_loads) ≡ true
     → IsGreatest kept_loads cell (latest_serving kept_loads cell (latest_serving kept_loads cell None (reverse (loads_at cells (cell_key cell)))) (reverse (loads_at cells (cell_columns_key cell))))
-greatest_listed cells kept_loads cell listed formed up differ =
+greatest_listed sizes cells kept_loads cell listed formed up differ =
     let narrow = loads_at cells (cell_key cell) in
     let wide = loads_at cells (cell_columns_key cell) in
     rw (← latest_more kept_loads cell None (reverse narrow) (reverse wide))
     (greatest_found kept_loads cell (reverse narrow ++ reverse wide) differ (λ kept held served.
-    among_append (reverse narrow) (reverse wide) kept.load ∙ rw (among_reversed narrow kept.load, among_reversed wide kept.load) (serving_listed cells kept_loads cell listed formed up kept held served)))
+    among_append (reverse narrow) (reverse wide) kept.load ∙ rw (among_reversed narrow kept.load, among_reversed wide kept.load) (serving_listed sizes cells kept_loads cell listed formed up kept held served)))
 
 -- the search among all numbers does
 pub greatest_of_all :

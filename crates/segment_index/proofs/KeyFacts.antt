@@ -1,9 +1,10 @@
 -- What keys a header has.
-use Rattle.std.proofs.Common.{◌≡◌, ◌∙◌, ◌≤◌, ◌<◌, ◌+◌, ◌*◌, ℕ, zero, suc, Bool, true, false, ◌⊎◌, inl, inr, List, [], ◌∷◌, fold, length, map, min, refl, sym, ap, arith, nat_eq, mul_assoc}
-use Rattle.std.specs.Prelude.{◌==◌, ◌&&◌, nat_le, nat_lt, slice_index}
-use Rattle.std.specs.List.{list_all, list_any}
+use Rattle.std.proofs.Common.{◌≡◌, ◌∙◌, ◌≤◌, ◌<◌, ◌+◌, ◌*◌, ◌%◌, ℕ, zero, suc, Bool, true, false, ◌⊎◌, inl, inr, List, [], ◌∷◌, fold, length, map, min, refl, sym, ap, arith, nat_eq, mul_assoc, subst}
+use Rattle.std.specs.Prelude.{◌==◌, ◌&&◌, nat_lt, slice_index}
+use Rattle.std.specs.List.{list_all, list_any, range_with_len}
 use Rattle.std.proofs.lemmas.Bool.{and_from, and_parts, cases_Bool, cases_lt, eq-eqb, eqb-true, lt-ltb, ltb-true, true≢false}
-use Rattle.std.proofs.lemmas.Nat.{div-mul-add, mod-mul-add, mul-add-lt}
+use Rattle.std.proofs.lemmas.List.FromFn.{length-range_with_len}
+use Rattle.std.proofs.lemmas.Nat.{div-mul-add, mod-mul-add, mod_below, mul-add-lt}
 use Rattle.olap_meaning.specs.declared.cells.Allowed.{Allowed}
 use Rattle.olap_meaning.specs.declared.cells.Allowed.TheVariants.{Any, Set}
 use Rattle.olap_meaning.specs.declared.cells.Cell.{Cell}
@@ -14,8 +15,9 @@ use Rattle.olap_meaning.proofs.Lists.{below_differs}
 use Rattle.list_orders.proofs.Rising.{same_rising}
 use Rattle.segment_header.specs.Headers.{is_header, is_set}
 use Rattle.segment_header.proofs.RiseFacts.{found_at, key_told}
-use Rattle.segment_index.specs.declared.keys.TheConstants.{CELL_SEED, MOST_CELLS}
-use Rattle.segment_index.specs.Keys.{are_few, are_listed, cell_columns_key, cell_count, cell_key, has_key, key_at, key_count, picked_key, tally, with_pair}
+use Rattle.cache_flush.specs.Formed.{is_formed, values_of}
+use Rattle.segment_index.specs.declared.keys.TheConstants.{CELL_SEED}
+use Rattle.segment_index.specs.Keys.{are_few, cell_columns_key, cell_count, cell_key, has_key, key_at, key_count, picked_key, tally, with_pair}
 
 -- ---- numbers of cells
 
@@ -33,42 +35,47 @@ capped_more limit count more (suc rest) =
           rw same (ap (min limit) whole)
     ]
 
+-- a column more
+pub count_next : (sizes : ℕ → ℕ) (limit count : ℕ) (own : ℕ × Allowed) (columns : List (ℕ × Allowed)) (size more whole : ℕ) → size ≡ sizes own.0 → more ≡ length (values_of size own.1)
+    → min limit (count * cell_count sizes (own ∷ columns)) ≡ whole → min limit (min limit (count * more) * cell_count sizes columns) ≡ whole
+count_next sizes limit count own columns size more whole same is before = capped_more limit count more (cell_count sizes columns) ∙ rw (is, same) before
+
 -- ---- how many of the first numbers have a key
 
 -- one number more does not have a key less often
-tally_next : (key : ℕ) (header : Header) (number : ℕ) → tally key header number ≤ tally key header (suc number)
-tally_next key header number =
-    elim (cases_Bool (nat_eq (key_at header number) key)) [
+tally_next : (sizes : ℕ → ℕ) (key : ℕ) (header : Header) (number : ℕ) → tally sizes key header number ≤ tally sizes key header (suc number)
+tally_next sizes key header number =
+    elim (cases_Bool (nat_eq (key_at sizes header number) key)) [
       | inl here ↦ rw here (omega arith)
       | inr other ↦ rw other (omega arith)
     ]
 
 -- more numbers do not have a key less often
-pub tally_more : (key : ℕ) (header : Header) (less more : ℕ) → less ≤ more → tally key header less ≤ tally key header more
-tally_more key header less zero le = let same : less ≡ 0 = omega arith in rw same (omega arith)
-tally_more key header less (suc more) le =
+pub tally_more : (sizes : ℕ → ℕ) (key : ℕ) (header : Header) (less more : ℕ) → less ≤ more → tally sizes key header less ≤ tally sizes key header more
+tally_more sizes key header less zero le = let same : less ≡ 0 = omega arith in rw same (omega arith)
+tally_more sizes key header less (suc more) le =
     elim (cases_lt less (suc more)) [
       | inl below ↦
-          let before = tally_more key header less more (omega arith) in
-          let next = tally_next key header more in
+          let before = tally_more sizes key header less more (omega arith) in
+          let next = tally_next sizes key header more in
           omega (arith, before, next)
       | inr above ↦ let same : less ≡ suc more = omega arith in rw same (omega arith)
     ]
 
 -- a number that has a key is counted
-tally_here : (key : ℕ) (header : Header) (number : ℕ) → key_at header number ≡ key → 0 < tally key header (suc number)
-tally_here key header number is = rw (eq-eqb (key_at header number) key is) (omega arith)
+tally_here : (sizes : ℕ → ℕ) (key : ℕ) (header : Header) (number : ℕ) → key_at sizes header number ≡ key → 0 < tally sizes key header (suc number)
+tally_here sizes key header number is = rw (eq-eqb (key_at sizes header number) key is) (omega arith)
 
 -- a header has the key that it has at a number below how many keys it has
-pub key_found : (header : Header) (number key : ℕ) → number < key_count header → key_at header number ≡ key → has_key header key ≡ true
-key_found header number key below is =
-    let here = tally_here key header number is in
-    let more = tally_more key header (suc number) (key_count header) below in
-    lt-ltb 0 (tally key header (key_count header)) (omega (arith, here, more))
+pub key_found : (sizes : ℕ → ℕ) (header : Header) (number key : ℕ) → number < key_count sizes header → key_at sizes header number ≡ key → has_key sizes header key ≡ true
+key_found sizes header number key below is =
+    let here = tally_here sizes key header number is in
+    let more = tally_more sizes key header (suc number) (key_count sizes header) below in
+    lt-ltb 0 (tally sizes key header (key_count sizes header)) (omega (arith, here, more))
 
 -- so it has each of its keys
-pub key_there : (header : Header) (number : ℕ) → number < key_count header → has_key header (key_at header number) ≡ true
-key_there header number below = key_found header number (key_at header number) below refl
+pub key_there : (sizes : ℕ → ℕ) (header : Header) (number : ℕ) → number < key_count sizes header → has_key sizes header (key_at sizes header number) ≡ true
+key_there sizes header number below = key_found sizes header number (key_at sizes header number) below refl
 
 -- ---- the keys of a header that covers a cell
 
@@ -88,28 +95,51 @@ place_of (first ∷ values) value h =
       | inr other ↦ let later = place_of values value (rw other at h) in (suc later.0, omega (arith, later.1), later.2)
     ]
 
--- the first column's value is picked by the remainder, and the quotient goes on
-picked_first : (key column own value : ℕ) (values : List ℕ) (columns : List (ℕ × Allowed)) (place rest : ℕ) → column ≡ own → place < length values → slice_index values place ≡ value
-    → picked_key key ((column, Set values) ∷ columns) (rest * length values + place) ≡ picked_key (with_pair key own value) columns rest
-picked_first key column own value values columns place rest same below is =
-    rw (mod-mul-add rest (length values) place below, div-mul-add rest (length values) place below, is, same) refl
+-- a number of a range stands at its place
+range_at : (first count place : ℕ) → place < count → slice_index (range_with_len first count) place ≡ first + place
+range_at first zero place below = absurd (omega (arith, below))
+range_at first (suc count) zero below = omega arith
+range_at first (suc count) (suc place) below = range_at (first + 1) count place (omega (arith, below)) ∙ omega arith
 
--- the number of the key of a cell
-number_of : (key : ℕ) (columns : List (ℕ × Allowed)) (at : List (ℕ × ℕ)) → are_paired columns at ≡ true → are_listed columns ≡ true
-    → (number : ℕ) × (number < cell_count columns) × (picked_key key columns number ≡ fold (λ key pair. with_pair key pair.0 pair.1) key at)
-number_of key [] [] paired few = (zero, omega arith, refl)
-number_of key [] (pair ∷ at) paired few = absurd (true≢false (sym paired))
-number_of key (own ∷ columns) [] paired few = absurd (true≢false (sym paired))
-number_of key ((column, Any) ∷ columns) (pair ∷ at) paired few = absurd (true≢false (sym few))
-number_of key ((column, Set values) ∷ columns) ((own, value) ∷ at) paired few =
-    let parts = and_parts (nat_eq column own && among values value) (are_paired columns at) paired in
-    let first = and_parts (nat_eq column own) (among values value) parts.0 in
+-- the value that a number picks of all below a size
+pub picked_below : (size number value : ℕ) → 0 < size → value ≡ number % size → value ≡ slice_index (range_with_len 0 size) (number % length (range_with_len 0 size))
+picked_below size number value some is =
+    let below : number % size < size = mod_below number size some in
+    let there : slice_index (range_with_len 0 size) (number % size) ≡ number % size = range_at 0 size (number % size) below ∙ omega arith in
+    rw (length-range_with_len 0 size, there) is
+
+-- the number of a value among those that a column of this size allows
+place_in : (size : ℕ) (allowed : Allowed) (value : ℕ) → allows allowed value ≡ true → value < size
+    → (place : ℕ) × (place < length (values_of size allowed)) × (slice_index (values_of size allowed) place ≡ value)
+place_in size Any value is below = (value, rw (length-range_with_len 0 size) below, range_at 0 size value below ∙ omega arith)
+place_in size (Set values) value is below = place_of values value is
+
+-- the first column's value is picked by the remainder, and the quotient goes on
+picked_first : (sizes : ℕ → ℕ) (key column own value : ℕ) (allowed : Allowed) (columns : List (ℕ × Allowed)) (place rest : ℕ) → column ≡ own → place < length (values_of (sizes column) allowed)
+    → slice_index (values_of (sizes column) allowed) place ≡ value
+    → picked_key sizes key ((column, allowed) ∷ columns) (rest * length (values_of (sizes column) allowed) + place) ≡ picked_key sizes (with_pair key own value) columns rest
+picked_first sizes key column own value allowed columns place rest same below is =
+    let count = length (values_of (sizes column) allowed) in
+    rw (mod-mul-add rest count place below, div-mul-add rest count place below, is, same) refl
+
+-- the number of the key of a cell, whose values are the columns'
+number_of : (sizes : ℕ → ℕ) (key : ℕ) (columns : List (ℕ × Allowed)) (at : List (ℕ × ℕ)) → are_paired columns at ≡ true → list_all (λ pair. nat_lt pair.1 (sizes pair.0)) at ≡ true
+    → (number : ℕ) × (number < cell_count sizes columns) × (picked_key sizes key columns number ≡ fold (λ key pair. with_pair key pair.0 pair.1) key at)
+number_of sizes key [] [] paired below = (zero, omega arith, refl)
+number_of sizes key [] (pair ∷ at) paired below = absurd (true≢false (sym paired))
+number_of sizes key (own ∷ columns) [] paired below = absurd (true≢false (sym paired))
+number_of sizes key ((column, allowed) ∷ columns) ((own, value) ∷ at) paired below =
+    let parts = and_parts (nat_eq column own && allows allowed value) (are_paired columns at) paired in
+    let first = and_parts (nat_eq column own) (allows allowed value) parts.0 in
     let same : column ≡ own = eqb-true column own first.0 in
-    let here = place_of values value first.1 in
-    let rest = number_of (with_pair key own value) columns at parts.1 few in (
-      rest.0 * length values + here.0,
-      mul-add-lt rest.0 (length values) here.0 (cell_count columns) rest.1 here.1,
-      picked_first key column own value values columns here.0 rest.0 same here.1 here.2 ∙ rest.2,
+    let all = and_parts (nat_lt value (sizes own)) (list_all (λ pair. nat_lt pair.1 (sizes pair.0)) at) below in
+    let less : value < sizes own = ltb-true value (sizes own) all.0 in
+    let here = place_in (sizes column) allowed value first.1 (subst (λ (c : ℕ). value < sizes c) (sym same) less) in
+    let rest = number_of sizes (with_pair key own value) columns at parts.1 all.1 in
+    let count = length (values_of (sizes column) allowed) in (
+      rest.0 * count + here.0,
+      mul-add-lt rest.0 count here.0 (cell_count sizes columns) rest.1 here.1,
+      picked_first sizes key column own value allowed columns here.0 rest.0 same here.1 here.2 ∙ rest.2,
     )
 
 -- where the columns of a cell come after the first of a header, the later ones of the header allow what all of them do
@@ -156,7 +186,7 @@ named_by (own ∷ columns) column value h =
     ]
 
 -- each column of a cell is one of a header's
-all_named : (columns : List (ℕ × Allowed)) (at : List (ℕ × ℕ)) → list_all (λ pair. list_any (λ column. (column.0 == pair.0) && allows column.1 pair.1) columns) at ≡ true
+pub all_named : (columns : List (ℕ × Allowed)) (at : List (ℕ × ℕ)) → list_all (λ pair. list_any (λ column. (column.0 == pair.0) && allows column.1 pair.1) columns) at ≡ true
     → list_all (among (map (λ own. own.0) columns)) (map (λ pair. pair.0) at) ≡ true
 all_named columns [] all = refl
 all_named columns (pair ∷ at) all =
@@ -186,19 +216,20 @@ all_named_in at (own ∷ columns) all =
 -- ---- a cell's keys
 
 -- a header with few cells has the key of a cell of this number
-few_served : (header : Header) (cell : Cell) (number : ℕ) → are_few header.columns ≡ true → header.cube ≡ cell.cube → header.measure ≡ cell.measure → number < cell_count header.columns
-    → picked_key (with_pair CELL_SEED cell.cube cell.measure) header.columns number ≡ cell_key cell → has_key header (cell_key cell) ≡ true
-few_served header cell number few cube measure below is = key_found header number (cell_key cell) (rw few below) (rw (few, cube, measure) is)
+few_served : (sizes : ℕ → ℕ) (header : Header) (cell : Cell) (number : ℕ) → are_few sizes header.columns ≡ true → header.cube ≡ cell.cube → header.measure ≡ cell.measure → number < cell_count sizes header.columns
+    → picked_key sizes (with_pair CELL_SEED cell.cube cell.measure) header.columns number ≡ cell_key cell → has_key sizes header (cell_key cell) ≡ true
+few_served sizes header cell number few cube measure below is = key_found sizes header number (cell_key cell) (rw few below) (rw (few, cube, measure) is)
 
 -- any other has the key of its columns
-wide_served : (header : Header) (cell : Cell) → are_few header.columns ≡ false → header.cube ≡ cell.cube → header.measure ≡ cell.measure
-    → map (λ own. own.0) header.columns ≡ columns_of cell → has_key header (cell_columns_key cell) ≡ true
-wide_served header cell wide cube measure columns = key_found header 0 (cell_columns_key cell) (rw wide (omega arith)) (rw (wide, cube, measure, columns) refl)
+wide_served : (sizes : ℕ → ℕ) (header : Header) (cell : Cell) → are_few sizes header.columns ≡ false → header.cube ≡ cell.cube → header.measure ≡ cell.measure
+    → map (λ own. own.0) header.columns ≡ columns_of cell → has_key sizes header (cell_columns_key cell) ≡ true
+wide_served sizes header cell wide cube measure columns = key_found sizes header 0 (cell_columns_key cell) (rw wide (omega arith)) (rw (wide, cube, measure, columns) refl)
 
--- a header that covers a cell with just the cell's columns has one of the cell's keys
-pub served_key : (header : Header) (cell : Cell) → is_header header ≡ true → rise (columns_of cell) ≡ true → just_covers header cell ≡ true
-    → (has_key header (cell_key cell) ≡ true) ⊎ (has_key header (cell_columns_key cell) ≡ true)
-served_key header cell formed up covers =
+-- a header that covers a well-formed cell with just the cell's columns has one of the cell's keys
+pub served_key : (sizes : ℕ → ℕ) (header : Header) (cell : Cell) → is_header header ≡ true → is_formed sizes cell ≡ true → just_covers header cell ≡ true
+    → (has_key sizes header (cell_key cell) ≡ true) ⊎ (has_key sizes header (cell_columns_key cell) ≡ true)
+served_key sizes header cell formed own covers =
+    let (up, below) = and_parts (rise (columns_of cell)) (list_all (λ pair. nat_lt pair.1 (sizes pair.0)) cell.at) own in
     let rises = and_parts (rise (map (λ own. own.0) header.columns)) (list_all (λ column. is_set column.1) header.columns) formed in
     let just = and_parts (header_covers header cell) (list_all (λ column. names_column cell column.0) header.columns) covers in
     let covered = and_parts ((header.cube == cell.cube) && (header.measure == cell.measure))
@@ -208,11 +239,10 @@ served_key header cell formed up covers =
     let measure : header.measure ≡ cell.measure = eqb-true header.measure cell.measure head.1 in
     let columns : map (λ own. own.0) header.columns ≡ columns_of cell =
     same_rising (map (λ own. own.0) header.columns) (columns_of cell) rises.0 up (all_named_in cell.at header.columns just.1) (all_named header.columns cell.at covered.1) in
-    elim (cases_Bool (are_few header.columns)) [
+    elim (cases_Bool (are_few sizes header.columns)) [
       | inl few ↦
-          let number = number_of (with_pair CELL_SEED cell.cube cell.measure) header.columns cell.at
-          (paired_from header.columns cell.at rises.0 columns covered.1)
-          (and_parts (are_listed header.columns) (nat_le (cell_count header.columns) MOST_CELLS) few).0 in
-          inl (few_served header cell number.0 few cube measure number.1 number.2)
-      | inr wide ↦ inr (wide_served header cell wide cube measure columns)
+          let number = number_of sizes (with_pair CELL_SEED cell.cube cell.measure) header.columns cell.at
+          (paired_from header.columns cell.at rises.0 columns covered.1) below in
+          inl (few_served sizes header cell number.0 few cube measure number.1 number.2)
+      | inr wide ↦ inr (wide_served sizes header cell wide cube measure columns)
     ]

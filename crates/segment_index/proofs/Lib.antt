@@ -2,6 +2,7 @@
 pub mod SwapFacts
 pub mod GroupFacts
 pub mod KeyFacts
+pub mod MaskFacts
 pub mod TallyFacts
 pub mod RisingFacts
 pub mod LoadFacts

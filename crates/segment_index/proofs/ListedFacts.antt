@@ -42,23 +42,23 @@ in_others n loads p kept held other passes = any_member p (others n loads) kept 
     there : (loads : List KeptOf) → Contains loads kept → Contains (others n loads) kept
     there loads held = filter_member (λ kept. not (kept.load == n)) loads kept held (rw other refl)
 
-module _ (count : Header → ℕ → ℕ) where
+module _ (sizes : ℕ → ℕ) (count : Header → ℕ → ℕ) where
   -- a load has a key and a number
   abbrev Has : ℕ → ℕ → KeptOf → Bool
   Has q number kept = nat_lt 0 (count kept.body.header q) && (kept.load == number)
 
   abbrev pub Stands : Groups → KeptOf → Type 0
-  Stands groups kept = IsGone kept ⊎ StandsUnder count groups kept
+  Stands groups kept = IsGone sizes kept ⊎ StandsUnder count groups kept
 
   -- no load
-  pub listed_none : (groups : Groups) → ((q : ℕ) → loads_at groups q ≡ []) → AreListed count groups []
+  pub listed_none : (groups : Groups) → ((q : ℕ) → loads_at groups q ≡ []) → AreListed sizes count groups []
   listed_none groups none = record {
     whole = All-nil (Stands groups);
     just = λ q number listed. absurd (let nothing : among [] number ≡ true = rw (none q) at listed in cc);
   }
 
   -- the same numbers under each key
-  pub listed_still : (groups after : Groups) (loads : List KeptOf) → ((q : ℕ) → loads_at after q ≡ loads_at groups q) → AreListed count groups loads → AreListed count after loads
+  pub listed_still : (groups after : Groups) (loads : List KeptOf) → ((q : ℕ) → loads_at after q ≡ loads_at groups q) → AreListed sizes count groups loads → AreListed sizes count after loads
   listed_still groups after loads same listed = record {
     whole = All-from_member (Stands after) loads (λ kept held.
         elim (All-contains (Stands groups) loads kept listed.whole held) [
@@ -69,11 +69,11 @@ module _ (count : Header → ℕ → ℕ) where
   }
 
   stands_shut : (groups : Groups) (region : Region) (kept : KeptOf) → Stands groups kept → Stands groups (shut_off region kept)
-  stands_shut groups region kept (inl gone) = inl (gone_more region kept gone)
+  stands_shut groups region kept (inl gone) = inl (gone_more sizes region kept gone)
   stands_shut groups region kept (inr stands) = inr stands
 
   -- a region is flushed
-  pub listed_shut : (groups : Groups) (region : Region) (loads : List KeptOf) → AreListed count groups loads → AreListed count groups (map (shut_off region) loads)
+  pub listed_shut : (groups : Groups) (region : Region) (loads : List KeptOf) → AreListed sizes count groups loads → AreListed sizes count groups (map (shut_off region) loads)
   listed_shut groups region loads listed = record {
     whole = All-from_member (Stands groups) (map (shut_off region) loads) (λ kept held.
         let (before, there, is) = member_map (shut_off region) loads kept held in
@@ -82,14 +82,14 @@ module _ (count : Header → ℕ → ℕ) where
   }
 
   -- the loads in another order
-  pub listed_moved : (groups : Groups) (loads moved : List KeptOf) → IsPermutation loads moved → AreListed count groups loads → AreListed count groups moved
+  pub listed_moved : (groups : Groups) (loads moved : List KeptOf) → IsPermutation loads moved → AreListed sizes count groups loads → AreListed sizes count groups moved
   listed_moved groups loads moved permuted listed = record {
     whole = All-permutation (Stands groups) loads moved permuted listed.whole;
     just = λ q number there. sym (list_any-IsPermutation (Has q number) loads moved permuted) ∙ listed.just q number there;
   }
 
   -- a load is put in
-  pub listed_more : (groups after : Groups) (loads : List KeptOf) (kept : KeptOf) → IsAdded (count kept.body.header) kept.load groups after → AreListed count groups loads → AreListed count after (loads ++ kept ∷ [])
+  pub listed_more : (groups after : Groups) (loads : List KeptOf) (kept : KeptOf) → IsAdded (count kept.body.header) kept.load groups after → AreListed sizes count groups loads → AreListed sizes count after (loads ++ kept ∷ [])
   listed_more groups after loads kept added listed = record {
     whole = All-push (Stands after) loads kept
         (All-from_member (Stands after) loads (λ other held.
@@ -119,7 +119,7 @@ module _ (count : Header → ℕ → ℕ) where
   stood groups after n header q number removed there = and_parts (not (nat_lt 0 (count header q) && (n == number))) (among (loads_at groups q) number) (sym (removed.loads q number) ∙ there)
 
   module _ (groups after : Groups) (loads : List KeptOf) (n : ℕ) (kept : KeptOf) (differ : are_different (numbers_of loads) ≡ true) (found : load_of loads n ≡ Some kept)
-      (removed : IsRemoved (count kept.body.header) n groups after) (listed : AreListed count groups loads) where
+      (removed : IsRemoved (count kept.body.header) n groups after) (listed : AreListed sizes count groups loads) where
     -- the load with the number is the one that was found
     is_found : (other : KeptOf) → Contains loads other → (other.load == n) ≡ true → other ≡ kept
     is_found other held same =
@@ -129,7 +129,7 @@ module _ (count : Header → ℕ → ℕ) where
         cc
 
     -- a load is taken out
-    pub listed_left : (left : List KeptOf) → IsPermutation (others n loads) left → AreListed count after left
+    pub listed_left : (left : List KeptOf) → IsPermutation (others n loads) left → AreListed sizes count after left
     listed_left left permuted = listed_moved after (others n loads) left permuted (record {
       whole = all_others (Stands after) n loads (λ other held apart.
           elim (All-contains (Stands groups) loads other listed.whole held) [
@@ -153,7 +153,7 @@ module _ (count : Header → ℕ → ℕ) where
     })
 
     -- a load that serves no cell any more leaves the lists
-    pub listed_gone : IsGone kept → AreListed count after loads
+    pub listed_gone : IsGone sizes kept → AreListed sizes count after loads
     listed_gone gone = record {
       whole = All-from_member (Stands after) loads (λ other held.
           elim (cases_Bool (other.load == n)) [

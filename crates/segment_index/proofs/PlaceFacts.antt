@@ -2,6 +2,8 @@
 use Rattle.std.proofs.Common.{◌≡◌, ◌<◌, ◌≤◌, ◌+◌, ◌-◌, ◌++◌, ℕ, suc, List, [], ◌∷◌, refl, ap, arith, nat_eq, length, map, if◌then◌else◌}
 use Rattle.std.proofs.lemmas.List.Sums.{sum_by-cons}
 use Rattle.olap_meaning.specs.declared.cells.Header.{Header}
+use Rattle.olap_meaning.specs.declared.tables.Catalog.{Catalog}
+use Rattle.olap_meaning.specs.Rolled.{value_count}
 use Rattle.segment_index.specs.Grouping.{IsReserved, places_at}
 use Rattle.segment_index.specs.Numbered.{NumberedOf}
 use Rattle.segment_index.specs.Index.{IndexOf, has_places, in_key, in_mask, needed, places_with}
@@ -13,8 +15,9 @@ abbrev shown : Groups → List (ℕ × ℕ)
 shown groups = map (λ under. (under.0, under.1.1)) groups
 
 -- what contracts see of the parts of an index
-abbrev pub index_of : NumberedOf → ℕ → Groups → Groups → IndexOf
-index_of numbered places masks cells = record {
+abbrev pub index_of : Catalog → NumberedOf → ℕ → Groups → Groups → IndexOf
+index_of catalog numbered places masks cells = record {
+  catalog = catalog;
   loads = numbered.loads;
   flushed = numbered.flushed;
   ready = numbered.ready;
@@ -92,33 +95,33 @@ module _ (count : Header → ℕ → ℕ) (old new : Groups) where
 
 -- a place more
 pub place_made :
-    (numbered after : NumberedOf) (places : ℕ) (masks masks_after cells cells_after : Groups) (header : Header) → IsReserved (in_mask header) masks masks_after → IsReserved (in_key header) cells cells_after
-    → (headers : List Header) → has_places (index_of numbered places masks cells) headers → has_places (index_of after (places + 1) masks_after cells_after) (headers ++ header ∷ [])
-place_made numbered after places masks masks_after cells cells_after header more_masks more_cells headers (all, by_mask, by_key) =
+    (catalog : Catalog) (numbered after : NumberedOf) (places : ℕ) (masks masks_after cells cells_after : Groups) (header : Header) → IsReserved (in_mask header) masks masks_after → IsReserved (in_key (value_count catalog) header) cells cells_after
+    → (headers : List Header) → has_places (index_of catalog numbered places masks cells) headers → has_places (index_of catalog after (places + 1) masks_after cells_after) (headers ++ header ∷ [])
+place_made catalog numbered after places masks masks_after cells cells_after header more_masks more_cells headers (all, by_mask, by_key) =
     let longer = length_split headers header [] in
     let same : length (headers ++ []) ≡ length headers = ap length (nothing_more headers) in (
       omega (arith, all, longer, same),
       place_added in_mask masks masks_after header more_masks.places headers by_mask,
-      place_added in_key cells cells_after header more_cells.places headers by_key,
+      place_added (in_key (value_count catalog)) cells cells_after header more_cells.places headers by_key,
     )
 
 -- no place fewer
 pub places_stay :
-    (numbered after : NumberedOf) (places more : ℕ) (masks masks_after cells cells_after : Groups) → places ≤ more → ((q : ℕ) → places_at masks q ≤ places_at masks_after q) → ((q : ℕ) → places_at cells q ≤ places_at cells_after q)
-    → (headers : List Header) → has_places (index_of numbered places masks cells) headers → has_places (index_of after more masks_after cells_after) headers
-places_stay numbered after places more masks masks_after cells cells_after le by_mask_le by_key_le headers (all, by_mask, by_key) =
-    (omega (arith, all, le), places_remain in_mask masks masks_after by_mask_le headers by_mask, places_remain in_key cells cells_after by_key_le headers by_key)
+    (catalog : Catalog) (numbered after : NumberedOf) (places more : ℕ) (masks masks_after cells cells_after : Groups) → places ≤ more → ((q : ℕ) → places_at masks q ≤ places_at masks_after q) → ((q : ℕ) → places_at cells q ≤ places_at cells_after q)
+    → (headers : List Header) → has_places (index_of catalog numbered places masks cells) headers → has_places (index_of catalog after more masks_after cells_after) headers
+places_stay catalog numbered after places more masks masks_after cells cells_after le by_mask_le by_key_le headers (all, by_mask, by_key) =
+    (omega (arith, all, le), places_remain in_mask masks masks_after by_mask_le headers by_mask, places_remain (in_key (value_count catalog)) cells cells_after by_key_le headers by_key)
 
 -- a place is used
 pub place_used :
-    (numbered after : NumberedOf) (places : ℕ) (masks masks_after cells cells_after : Groups) (header : Header)
-    → ((q : ℕ) → places_at masks_after q + in_mask header q ≡ places_at masks q) → ((q : ℕ) → places_at cells_after q + in_key header q ≡ places_at cells q)
-    → (front rest : List Header) → has_places (index_of numbered places masks cells) (front ++ header ∷ rest) → has_places (index_of after (places - 1) masks_after cells_after) (front ++ rest)
-place_used numbered after places masks masks_after cells cells_after header less_masks less_cells front rest (all, by_mask, by_key) =
+    (catalog : Catalog) (numbered after : NumberedOf) (places : ℕ) (masks masks_after cells cells_after : Groups) (header : Header)
+    → ((q : ℕ) → places_at masks_after q + in_mask header q ≡ places_at masks q) → ((q : ℕ) → places_at cells_after q + in_key (value_count catalog) header q ≡ places_at cells q)
+    → (front rest : List Header) → has_places (index_of catalog numbered places masks cells) (front ++ header ∷ rest) → has_places (index_of catalog after (places - 1) masks_after cells_after) (front ++ rest)
+place_used catalog numbered after places masks masks_after cells cells_after header less_masks less_cells front rest (all, by_mask, by_key) =
     let longer = length_split front header rest in (
       omega (arith, all, longer),
       place_taken in_mask masks masks_after header less_masks front rest by_mask,
-      place_taken in_key cells cells_after header less_cells front rest by_key,
+      place_taken (in_key (value_count catalog)) cells cells_after header less_cells front rest by_key,
     )
 
 -- where no place is needed, all are there
@@ -135,5 +138,5 @@ places_apart index front header rest (all, by_mask, by_key) =
     let longer = length_split front header rest in (
       omega (arith, all, longer),
       λ mask. let split = needed_split in_mask mask front header rest in let had = by_mask mask in omega (arith, split, had),
-      λ key. let split = needed_split in_key key front header rest in let had = by_key key in omega (arith, split, had),
+      λ key. let split = needed_split (in_key (value_count index.catalog)) key front header rest in let had = by_key key in omega (arith, split, had),
     )

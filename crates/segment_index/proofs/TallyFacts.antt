@@ -33,29 +33,29 @@ enough count before after reserved q = let more = reserved.places q in omega (ar
 
 -- ---- one key more
 
-next_is : (q : ℕ) (header : Header) (number : ℕ) → tally q header (number + 1) ≡ tally q header number + one (key_at header number) q
-next_is q header number =
-    ap (λ n. tally q header n) (add-one number) ∙ by (nat_eq (key_at header number) q) refl
+next_is : (sizes : ℕ → ℕ) (q : ℕ) (header : Header) (number : ℕ) → tally sizes q header (number + 1) ≡ tally sizes q header number + one (key_at sizes header number) q
+next_is sizes q header number =
+    ap (λ n. tally sizes q header n) (add-one number) ∙ by (nat_eq (key_at sizes header number) q) refl
   where
-    by : (b : Bool) → nat_eq (key_at header number) q ≡ b → tally q header (suc number) ≡ tally q header number + one (key_at header number) q
+    by : (b : Bool) → nat_eq (key_at sizes header number) q ≡ b → tally sizes q header (suc number) ≡ tally sizes q header number + one (key_at sizes header number) q
     by true same = rw same (omega arith)
     by false other = rw other (omega arith)
 
 -- a place is needed for each key that comes
-pub needs_place : (header : Header) (number : ℕ) (groups old : Groups) (all : ℕ) → number < all → ((q : ℕ) → tally q header all ≤ places_at old q)
-    → ((q : ℕ) → places_at groups q + tally q header number ≡ places_at old q) → 0 < places_at groups (key_at header number)
-needs_place header number groups old all below room taken =
-    let key = key_at header number in
-    let next : tally key header (number + 1) ≡ tally key header number + one key key = next_is key header number in
+pub needs_place : (sizes : ℕ → ℕ) (header : Header) (number : ℕ) (groups old : Groups) (all : ℕ) → number < all → ((q : ℕ) → tally sizes q header all ≤ places_at old q)
+    → ((q : ℕ) → places_at groups q + tally sizes q header number ≡ places_at old q) → 0 < places_at groups (key_at sizes header number)
+needs_place sizes header number groups old all below room taken =
+    let key = key_at sizes header number in
+    let next : tally sizes key header (number + 1) ≡ tally sizes key header number + one key key = next_is sizes key header number in
     let its : one key key ≡ 1 = rw (eq-eqb key key refl) refl in
-    let more = tally_more key header (number + 1) all (omega (arith, below)) in
+    let more = tally_more sizes key header (number + 1) all (omega (arith, below)) in
     let had = room key in
     let here = taken key in
     omega (arith, next, its, more, had, here)
 
-module _ (header : Header) (number : ℕ) (before between after : Groups) where
+module _ (sizes : ℕ → ℕ) (header : Header) (number : ℕ) (before between after : Groups) where
   key : ℕ
-  key = key_at header number
+  key = key_at sizes header number
 
   either : (b t l o : Bool) → ((b && l) || ((t && l) || o)) ≡ (((b || t) && l) || o)
   either true t true o = refl
@@ -68,34 +68,34 @@ module _ (header : Header) (number : ℕ) (before between after : Groups) where
   neither false t l o = refl
 
   -- a key more is counted where it is one of those before, or this one
-  counted : (q : ℕ) → nat_lt 0 (tally q header (number + 1)) ≡ (nat_lt 0 (one (key_at header number) q) || nat_lt 0 (tally q header number))
-  counted q = ap (λ n. nat_lt 0 (tally q header n)) (add-one number) ∙ by (nat_eq (key_at header number) q) refl
+  counted : (q : ℕ) → nat_lt 0 (tally sizes q header (number + 1)) ≡ (nat_lt 0 (one (key_at sizes header number) q) || nat_lt 0 (tally sizes q header number))
+  counted q = ap (λ n. nat_lt 0 (tally sizes q header n)) (add-one number) ∙ by (nat_eq (key_at sizes header number) q) refl
     where
-      by : (b : Bool) → nat_eq (key_at header number) q ≡ b → nat_lt 0 (tally q header (suc number)) ≡ (nat_lt 0 (one (key_at header number) q) || nat_lt 0 (tally q header number))
-      by true same = rw same (lt-ltb 0 (suc (tally q header number)) (omega arith))
+      by : (b : Bool) → nat_eq (key_at sizes header number) q ≡ b → nat_lt 0 (tally sizes q header (suc number)) ≡ (nat_lt 0 (one (key_at sizes header number) q) || nat_lt 0 (tally sizes q header number))
+      by true same = rw same (lt-ltb 0 (suc (tally sizes q header number)) (omega arith))
       by false other = rw other refl
 
-  pub reserved_next : IsReserved (λ q. tally q header number) before between → IsReserved (one (key_at header number)) between after → IsReserved (λ q. tally q header (number + 1)) before after
+  pub reserved_next : IsReserved (λ q. tally sizes q header number) before between → IsReserved (one (key_at sizes header number)) between after → IsReserved (λ q. tally sizes q header (number + 1)) before after
   reserved_next had more = record {
     loads = λ q. more.loads q ∙ had.loads q;
-    places = λ q. let a = had.places q in let b = more.places q in let n = next_is q header number in omega (arith, a, b, n);
+    places = λ q. let a = had.places q in let b = more.places q in let n = next_is sizes q header number in omega (arith, a, b, n);
   }
 
-  pub released_next : IsReleased (λ q. tally q header number) before between → IsReleased (one (key_at header number)) between after → IsReleased (λ q. tally q header (number + 1)) before after
+  pub released_next : IsReleased (λ q. tally sizes q header number) before between → IsReleased (one (key_at sizes header number)) between after → IsReleased (λ q. tally sizes q header (number + 1)) before after
   released_next had less = record {
     loads = λ q. less.loads q ∙ had.loads q;
-    places = λ q. let a = had.places q in let b = less.places q in let n = next_is q header number in omega (arith, a, b, n);
+    places = λ q. let a = had.places q in let b = less.places q in let n = next_is sizes q header number in omega (arith, a, b, n);
   }
 
   module _ (load : ℕ) where
-    pub added_next : IsAdded (λ q. tally q header number) load before between → IsAdded (one (key_at header number)) load between after → IsAdded (λ q. tally q header (number + 1)) load before after
+    pub added_next : IsAdded (λ q. tally sizes q header number) load before between → IsAdded (one (key_at sizes header number)) load between after → IsAdded (λ q. tally sizes q header (number + 1)) load before after
     added_next had more = record {
-      loads = λ q n. more.loads q n ∙ rw (had.loads q n, counted q) (either (nat_lt 0 (one (key_at header number) q)) (nat_lt 0 (tally q header number)) (load == n) (among (loads_at before q) n));
-      places = λ q. let a = had.places q in let b = more.places q in let n = next_is q header number in omega (arith, a, b, n);
+      loads = λ q n. more.loads q n ∙ rw (had.loads q n, counted q) (either (nat_lt 0 (one (key_at sizes header number) q)) (nat_lt 0 (tally sizes q header number)) (load == n) (among (loads_at before q) n));
+      places = λ q. let a = had.places q in let b = more.places q in let n = next_is sizes q header number in omega (arith, a, b, n);
     }
 
-    pub removed_next : IsRemoved (λ q. tally q header number) load before between → IsRemoved (one (key_at header number)) load between after → IsRemoved (λ q. tally q header (number + 1)) load before after
+    pub removed_next : IsRemoved (λ q. tally sizes q header number) load before between → IsRemoved (one (key_at sizes header number)) load between after → IsRemoved (λ q. tally sizes q header (number + 1)) load before after
     removed_next had less = record {
-      loads = λ q n. less.loads q n ∙ rw (had.loads q n, counted q) (neither (nat_lt 0 (one (key_at header number) q)) (nat_lt 0 (tally q header number)) (load == n) (among (loads_at before q) n));
+      loads = λ q n. less.loads q n ∙ rw (had.loads q n, counted q) (neither (nat_lt 0 (one (key_at sizes header number) q)) (nat_lt 0 (tally sizes q header number)) (load == n) (among (loads_at before q) n));
       places = λ q. less.places q ∙ had.places q;
     }

@@ -13,17 +13,18 @@ abbrev pub StandsUnder : (Header → ℕ → ℕ) → List (ℕ × (List ℕ × 
 StandsUnder count groups kept =
     (q : ℕ) → IsTrue (nat_lt 0 (count kept.body.header q)) → IsTrue (among (loads_at groups q) kept.load)
 
--- each kept load stands under its keys, or serves no cell any more, and nothing else stands there
-pub record AreListed (count : Header → ℕ → ℕ) (groups : List (ℕ × (List ℕ × ℕ))) (loads : List KeptOf) : Type 0 where
-  pub whole : All (λ kept. IsGone kept ⊎ StandsUnder count groups kept) loads
+-- each kept load stands under its keys, or serves no well-formed cell any more, and nothing else stands there. Here and below,
+-- sizes tell how many values each column has
+pub record AreListed (sizes : ℕ → ℕ) (count : Header → ℕ → ℕ) (groups : List (ℕ × (List ℕ × ℕ))) (loads : List KeptOf) : Type 0 where
+  pub whole : All (λ kept. IsGone sizes kept ⊎ StandsUnder count groups kept) loads
   pub just :
       (q number : ℕ) → IsTrue (among (loads_at groups q) number)
       → IsTrue (list_any (λ kept. nat_lt 0 (count kept.body.header q) && (kept.load == number)) loads)
 
 -- kept loads are listed by the masks of their columns and by the keys of their cells, and their headers are well formed
-abbrev pub AreKept : List (ℕ × (List ℕ × ℕ)) → List (ℕ × (List ℕ × ℕ)) → List KeptOf → Type 0
-AreKept masks cells loads =
-    AreListed in_mask masks loads × AreListed in_key cells loads
+abbrev pub AreKept : (ℕ → ℕ) → List (ℕ × (List ℕ × ℕ)) → List (ℕ × (List ℕ × ℕ)) → List KeptOf → Type 0
+AreKept sizes masks cells loads =
+    AreListed sizes in_mask masks loads × AreListed sizes (in_key sizes) cells loads
     × All (λ kept. IsTrue (is_header kept.body.header)) loads
 
 -- some numbers are just those of kept loads

@@ -1,12 +1,11 @@
 -- Keys by which loads with few cells are found by a cell's values: a header has the key of each of its cells where they are
 -- few, and else one key, of its columns.
-use Rattle.std.specs.Prelude.{ℕ, zero, suc, ◌+◌, ◌*◌, ◌/◌, ◌%◌, ◌^◌, ◌&&◌, List, [], ◌∷◌, Bool, true, false, if◌then◌else◌, fold, length, map, nat_eq, nat_le, nat_lt, slice_index}
-use Rattle.std.specs.List.{list_all}
+use Rattle.std.specs.Prelude.{ℕ, zero, suc, ◌+◌, ◌*◌, ◌/◌, ◌%◌, ◌^◌, List, [], ◌∷◌, Bool, if◌then◌else◌, fold, length, map, nat_eq, nat_le, nat_lt, slice_index}
 use Rattle.olap_meaning.specs.declared.cells.Allowed.{Allowed}
-use Rattle.olap_meaning.specs.declared.cells.Allowed.TheVariants.{Any, Set}
 use Rattle.olap_meaning.specs.declared.cells.Cell.{Cell}
 use Rattle.olap_meaning.specs.declared.cells.Header.{Header}
 use Rattle.olap_meaning.specs.Covering.{columns_of}
+use Rattle.cache_flush.specs.Formed.{values_of}
 use Rattle.segment_index.specs.declared.keys.TheConstants.{MOST_CELLS, FACTOR, CELL_SEED, COLUMNS_SEED}
 
 -- a key with a number more
@@ -33,53 +32,47 @@ cell_columns_key cell = columns_key cell.cube cell.measure (columns_of cell)
 abbrev pub header_columns_key : Header → ℕ
 header_columns_key header = columns_key header.cube header.measure (map (λ own. own.0) header.columns)
 
--- the allowed values are listed: not just any value is
-abbrev pub is_listed : Allowed → Bool
-is_listed Any = false
-is_listed (Set values) = true
-
--- the values that are listed, none where any is allowed
-abbrev pub listed : Allowed → List ℕ
-listed Any = []
-listed (Set values) = values
-
--- no column allows any value
-abbrev pub are_listed : List (ℕ × Allowed) → Bool
-are_listed columns = list_all (λ own. is_listed own.1) columns
-
--- how many cells have just these columns, at listed values: the product of the numbers of their values
-abbrev pub cell_count : List (ℕ × Allowed) → ℕ
-cell_count [] = 1
-cell_count (own ∷ columns) = length (listed own.1) * cell_count columns
+-- how many well-formed cells have just these columns, at allowed values: the product of the numbers of these. Here and below,
+-- sizes tell how many values each column has
+abbrev pub cell_count : (ℕ → ℕ) → List (ℕ × Allowed) → ℕ
+cell_count sizes [] = 1
+cell_count sizes (own ∷ columns) =
+    length (values_of (sizes own.0) own.1) * cell_count sizes columns
 
 -- these cells are few
-abbrev pub are_few : List (ℕ × Allowed) → Bool
-are_few columns = are_listed columns && nat_le (cell_count columns) MOST_CELLS
+abbrev pub are_few : (ℕ → ℕ) → List (ℕ × Allowed) → Bool
+are_few sizes columns = nat_le (cell_count sizes columns) MOST_CELLS
 
--- the key of one of these cells, by its number: its remainder by how many values the first column lists picks that column's
+-- the key of one of these cells, by its number: its remainder by how many values the first column allows picks that column's
 -- value, and its quotient goes on to the columns after it
-abbrev pub picked_key : ℕ → List (ℕ × Allowed) → ℕ → ℕ
-picked_key key [] number = key
-picked_key key (own ∷ columns) number =
-    picked_key (with_pair key own.0 (slice_index (listed own.1) (number % length (listed own.1)))) columns
-    (number / length (listed own.1))
+abbrev pub picked_key : (ℕ → ℕ) → ℕ → List (ℕ × Allowed) → ℕ → ℕ
+picked_key sizes key [] number = key
+picked_key sizes key (own ∷ columns) number =
+    picked_key sizes
+    (with_pair key own.0
+    (slice_index (values_of (sizes own.0) own.1)
+    (number % length (values_of (sizes own.0) own.1)))) columns
+    (number / length (values_of (sizes own.0) own.1))
 
 -- how many keys a header has: the number of its cells where they are few, else one
-abbrev pub key_count : Header → ℕ
-key_count header = if are_few header.columns then cell_count header.columns else 1
+abbrev pub key_count : (ℕ → ℕ) → Header → ℕ
+key_count sizes header =
+    if are_few sizes header.columns then cell_count sizes header.columns else 1
 
 -- the key of a header that has this number
-abbrev pub key_at : Header → ℕ → ℕ
-key_at header number =
-    if are_few header.columns then picked_key (with_pair CELL_SEED header.cube header.measure) header.columns number
+abbrev pub key_at : (ℕ → ℕ) → Header → ℕ → ℕ
+key_at sizes header number =
+    if are_few sizes header.columns
+    then picked_key sizes (with_pair CELL_SEED header.cube header.measure) header.columns number
     else header_columns_key header
 
 -- how many of the first numbers have a key
-abbrev pub tally : ℕ → Header → ℕ → ℕ
-tally key header zero = 0
-tally key header (suc number) =
-    if nat_eq (key_at header number) key then suc (tally key header number) else tally key header number
+abbrev pub tally : (ℕ → ℕ) → ℕ → Header → ℕ → ℕ
+tally sizes key header zero = 0
+tally sizes key header (suc number) =
+    if nat_eq (key_at sizes header number) key then suc (tally sizes key header number)
+    else tally sizes key header number
 
 -- a header has a key
-abbrev pub has_key : Header → ℕ → Bool
-has_key header key = nat_lt 0 (tally key header (key_count header))
+abbrev pub has_key : (ℕ → ℕ) → Header → ℕ → Bool
+has_key sizes header key = nat_lt 0 (tally sizes key header (key_count sizes header))

@@ -2,8 +2,10 @@
 ghost use Rattle.std.specs.Prelude.{◌≡◌, ◌<◌, ◌≤◌, ◌+◌, ◌++◌, [], ℕ, map, nat_eq, nat_lt, if◌then◌else◌, None, OnOk, OnErr, IfOk, false};
 ghost use Rattle.std.specs.Map.{lookup};
 ghost use Rattle.indexmap.specs.IndexMap.{swap_remove_entry};
+ghost use Rattle.segment_index.specs.Grouping as grouping;
 ghost use Rattle.segment_index.specs.Grouping.{IsAdded, IsReleased, IsRemoved, IsReserved, IsStill, has_spent, loads_at, loads_above, loads_where_above, one, places_at};
 
+use crate::masks::ALL_BITS;
 use crate::numbers::Numbers;
 use indexmap::IndexMap;
 use olap_meaning::OutOfMemory;
@@ -183,7 +185,8 @@ impl Groups {
         }
     }
 
-    /// The loads under each key, as a mask, that has all bits of this one.
+    /// The loads under each key, as a mask, that has all bits of this one and others besides; under this mask itself only where it
+    /// is that of all bits.
     pub(crate) fn above(&self, alloc: Global, mask: u64) -> Result<Vec<u64>, OutOfMemory>
         ensures { IfOk result (λ found. found.items ≡ loads_above self.now mask) }
     {
@@ -217,7 +220,14 @@ fn forget(by_key: &mut IndexMap<u64, Group>, key: u64)
     by_key.swap_remove(&key);
 }
 
-// Adds the loads under a mask, where it has all bits of another.
+// Whether one mask stands above another: it has all bits of the other and others besides, or both are that of all bits.
+fn is_above(mask: u64, under: u64) -> bool
+    ensures { result ≡ grouping.is_above mask under }
+{
+    under & mask == mask && (under != mask || mask == ALL_BITS)
+}
+
+// Adds the loads under a mask, where it stands above another.
 fn add_where_above(
     under: u64,
     group: &Group,
@@ -228,7 +238,7 @@ fn add_where_above(
         ≡ found.old.items
         ++ loads_where_above mask (under, (group.now.loads.items, group.now.places))) }
 {
-    if under & mask == mask {
+    if is_above(mask, under) {
         let (front, back) = group.loads.parts();
         found.extend_from_slice(front)?;
         found.extend_from_slice(back)?;
@@ -236,7 +246,7 @@ fn add_where_above(
     Ok(())
 }
 
-// Adds the loads under each mask that has all bits of this one.
+// Adds the loads under each mask that stands above this one.
 fn add_above(
     groups: &IndexMap<u64, Group>,
     mask: u64,

@@ -1,14 +1,14 @@
 //! Which loads a flush of a region may shut off as a whole. Nothing that is answered depends on it: a load is asked itself.
 use crate::groups::Groups;
 use crate::keys::with_pair;
+use crate::masks::{ALL_BITS, header_list_mask};
 use olap_meaning::{
     Allowed, ColumnId, CubeId, Header, List, OutOfMemory, Region, RegionBox, ValueId,
 };
-use segment_header::header_mask;
 use std::alloc::Global;
 
-/// The numbers of loads by a value that they allow: of each column with a set of values, under the value where it is the only one,
-/// and else under the column alone. Loads with one cube and one mask of columns have one shape.
+/// The numbers of loads by what they allow in each column: under the value where it is the only one of a set, and else under the
+/// column alone. Loads with one cube and one mask of columns have one shape.
 #[derive(Drop)]
 pub(crate) struct Hints {
     by_value: Groups,
@@ -21,7 +21,7 @@ fn shape_of(cube: CubeId, mask: u64) -> u64 {
 
 // The shape of a header.
 fn header_shape(header: &Header) -> u64 {
-    shape_of(header.cube, header_mask(header))
+    shape_of(header.cube, header_list_mask(header))
 }
 
 // The key of a value of a column, for loads of a shape.
@@ -29,29 +29,19 @@ fn value_key(shape: u64, column: ColumnId, value: ValueId) -> u64 {
     with_pair(shape, column, value)
 }
 
-// The key of a column, for loads of a shape that allow several of its values.
+// The key of a column, for loads of a shape that allow several of its values, or any.
 fn column_key(shape: u64, column: ColumnId) -> u64 {
     with_pair(!shape, column, ValueId(0))
 }
 
-// The key for what a load allows in a column, None where it is any value: no box with values there shuts off the whole load.
-fn key_of(shape: u64, column: ColumnId, allowed: &Allowed) -> Option<u64> {
+// The key for what a load allows in a column.
+fn key_of(shape: u64, column: ColumnId, allowed: &Allowed) -> u64 {
     match allowed {
-        Allowed::Any => None,
-        Allowed::Set(values) => {
-            if values.len() == 1 {
-                Some(value_key(shape, column, values.as_slice()[0]))
-            } else {
-                Some(column_key(shape, column))
-            }
+        Allowed::Set(values) if values.len() == 1 => {
+            value_key(shape, column, values.as_slice()[0])
         }
+        _ => column_key(shape, column),
     }
-}
-
-// The key for a column of a header, by its place.
-fn key_at(header: &Header, shape: u64, place: usize) -> Option<u64> {
-    let own = header.columns.as_slice().get(place)?;
-    key_of(shape, own.0, &own.1)
 }
 
 impl Hints {
@@ -65,34 +55,22 @@ impl Hints {
     /// Makes a place for a load of a header. Where there is no memory, none is made.
     pub(crate) fn reserve(&mut self, alloc: Global, header: &Header) -> Result<(), OutOfMemory> {
         let shape = header_shape(header);
-        for place in 0..header.columns.len() {
-            if self
-                .reserve_at(alloc, key_at(header, shape, place))
-                .is_err()
-            {
-                self.release_first(header, shape, place);
+        let columns = header.columns.as_slice();
+        for place in 0..columns.len() {
+            let own = &columns[place];
+            let reserved = self.by_value.reserve(alloc, key_of(shape, own.0, &own.1));
+            if reserved.is_err() {
+                self.release_each(shape, &columns[..place]);
                 return Err(OutOfMemory);
             }
         }
         Ok(())
     }
 
-    fn reserve_at(&mut self, alloc: Global, key: Option<u64>) -> Result<(), OutOfMemory> {
-        match key {
-            Some(key) => self.by_value.reserve(alloc, key),
-            None => Ok(()),
-        }
-    }
-
-    // Gives back the place for each of the first columns of a header.
-    fn release_first(&mut self, header: &Header, shape: u64, places: usize) {
-        for place in 0..places {
-            self.release_at(key_at(header, shape, place));
-        }
-    }
-
-    fn release_at(&mut self, key: Option<u64>) {
-        if let Some(key) = key {
+    // Gives back the place for each of some columns.
+    fn release_each(&mut self, shape: u64, columns: &[(ColumnId, Allowed)]) {
+        for own in columns {
+            let key = key_of(shape, own.0, &own.1);
             if self.by_value.has_place(key) {
                 self.by_value.release(key);
             }
@@ -101,19 +79,14 @@ impl Hints {
 
     /// Gives back the place for a load of a header. It takes no memory.
     pub(crate) fn release(&mut self, header: &Header) {
-        self.release_first(header, header_shape(header), header.columns.len());
+        self.release_each(header_shape(header), header.columns.as_slice());
     }
 
     /// Puts a load in where there is a place for it. It takes no memory.
     pub(crate) fn add(&mut self, header: &Header, load: u64) {
         let shape = header_shape(header);
-        for place in 0..header.columns.len() {
-            self.add_at(key_at(header, shape, place), load);
-        }
-    }
-
-    fn add_at(&mut self, key: Option<u64>, load: u64) {
-        if let Some(key) = key {
+        for own in header.columns.as_slice() {
+            let key = key_of(shape, own.0, &own.1);
             if self.by_value.has_place(key) {
                 self.by_value.add(key, load);
             }
@@ -123,14 +96,8 @@ impl Hints {
     /// Takes a load out. It takes no memory.
     pub(crate) fn remove(&mut self, header: &Header, load: u64) {
         let shape = header_shape(header);
-        for place in 0..header.columns.len() {
-            self.remove_at(key_at(header, shape, place), load);
-        }
-    }
-
-    fn remove_at(&mut self, key: Option<u64>, load: u64) {
-        if let Some(key) = key {
-            self.by_value.remove(key, load);
+        for own in header.columns.as_slice() {
+            self.by_value.remove(key_of(shape, own.0, &own.1), load);
         }
     }
 
@@ -250,7 +217,7 @@ impl Hints {
     }
 
     /// The loads that a flush of a region may shut off as a whole, rising: of the loads under each mask all where a box has none of
-    /// their columns, and else those of its cube that allow just a value of a box in one column, or several values there.
+    /// their columns, and else those of its cube that allow just a value of a box in one column, or several values or any there.
     pub(crate) fn touched(
         &self,
         alloc: Global,
@@ -280,7 +247,7 @@ fn add_keys(
     Ok(())
 }
 
-// Whether a mask has the bit of a column.
+// Whether the loads under a mask have a column, as the mask tells: that of all bits tells it of no column.
 fn has_bit(mask: u64, column: ColumnId) -> bool {
-    mask & (1 << (column.0 % 64)) != 0
+    mask != ALL_BITS && column.0 < 64 && mask & (1 << column.0) != 0
 }

@@ -7,11 +7,12 @@ use crate::groups::one_more;
 use crate::keys::{cell_columns_key, cell_key};
 use crate::listing::Lists;
 use crate::loads::Loads;
+use crate::masks::cell_list_mask;
 use crate::search::{candidates, latest_serving};
 use crate::spent::unlist;
-use cache_flush::{CacheShelf, Kept, Shelf, Shut};
+use cache_flush::{CacheShelf, Kept, Shelf, Shut, is_formed};
+use olap_catalog::Catalog;
 use olap_meaning::{Cell, Header, List, OutOfMemory, Region};
-use segment_header::{cell_mask, columns_rise};
 use std::alloc::Global;
 use std::marker::Model;
 use std::sync::Arc;
@@ -21,6 +22,7 @@ use std::sync::Arc;
 #[derive(Drop)]
 pub struct SegmentIndex {
     alloc: Global,
+    catalog: Arc<Catalog>,
     loads: Loads,
     lists: Lists,
     places: usize,
@@ -30,24 +32,26 @@ pub struct SegmentIndex {
 
 impl Model for SegmentIndex {
     ghost use Rattle.std.specs.Prelude.{◌≤◌, map};
+    ghost use Rattle.olap_meaning.specs.Rolled.{value_count};
     ghost use Rattle.segment_index.specs.Index.{IndexOf};
     ghost use Rattle.segment_index.specs.Keeping.{AreKept};
 
     ghost Value = { IndexOf };
 
-    ghost view = { λ a. record { loads = a.loads.loads; flushed = a.loads.flushed; ready = a.loads.ready; places = a.places; places_by_mask = map (λ under. (under.0, under.1.1)) a.lists.masks; places_by_key = map (λ under. (under.0, under.1.1)) a.lists.cells } };
+    ghost view = { λ a. record { catalog = a.catalog.value; loads = a.loads.loads; flushed = a.loads.flushed; ready = a.loads.ready; places = a.places; places_by_mask = map (λ under. (under.0, under.1.1)) a.lists.masks; places_by_key = map (λ under. (under.0, under.1.1)) a.lists.cells } };
 
-    ghost invariant = { λ a. AreKept a.lists.masks a.lists.cells a.loads.loads × (a.places ≤ a.loads.places) };
+    ghost invariant = { λ a. AreKept (value_count a.catalog.value) a.lists.masks a.lists.cells a.loads.loads × (a.places ≤ a.loads.places) };
 }
 
 impl SegmentIndex {
-    /// An index of no load. It takes no memory.
-    pub fn new(alloc: Global) -> SegmentIndex
+    /// An index of no load, over a catalog. It takes no memory.
+    pub fn new(alloc: Global, catalog: Arc<Catalog>) -> SegmentIndex
         ensures loads { result.loads ≡ [] }
         ensures flushed { result.flushed ≡ [] }
     {
         SegmentIndex {
             alloc,
+            catalog,
             loads: Loads::new(alloc),
             lists: Lists::new(alloc),
             places: 0,
@@ -55,14 +59,14 @@ impl SegmentIndex {
         }
     }
 
-    // Numbers of loads, with those of all candidates for a cell among them. Only a cell whose columns rise is looked for in the
-    // lists, since a load may leave them that still serves another.
+    // Numbers of loads, with those of all candidates for a cell among them. Only a well-formed cell is looked for in the lists,
+    // since a load may leave them that still serves another.
     fn searched(&self, cell: &Cell) -> Result<Vec<u64>, OutOfMemory>
         ensures { IfOk result (λ numbers. (kept : KeptOf) → Contains self.now.loads kept
             → IsTrue (is_candidate kept cell.now) → IsTrue (among numbers.items kept.load)) }
     {
-        if columns_rise(cell.at.as_slice()) {
-            self.lists.masks.above(self.alloc, cell_mask(cell))
+        if is_formed(&self.catalog, cell) {
+            self.lists.masks.above(self.alloc, cell_list_mask(cell))
         } else {
             self.loads.numbers(self.alloc)
         }
@@ -117,7 +121,7 @@ impl CacheShelf for SegmentIndex {
 
     fn find(&self, cell: &Cell) -> Option<&Kept> {
         self.loads.numbers_differ();
-        if !columns_rise(cell.at.as_slice()) {
+        if !is_formed(&self.catalog, cell) {
             let (front, back) = self.loads.parts();
             return latest_serving(&self.loads, cell, None, front, back);
         }
@@ -139,26 +143,26 @@ impl CacheShelf for SegmentIndex {
     fn reserve(&mut self, header: &Header) -> Result<(), OutOfMemory> {
         let places = one_more(self.places)?;
         self.loads.reserve(places)?;
-        self.lists.reserve(self.alloc, header)?;
+        self.lists.reserve(self.alloc, &self.catalog, header)?;
         self.places = places;
         Ok(())
     }
 
     fn insert(&mut self, kept: Kept) {
-        self.lists.add(kept.body.header(), kept.load);
+        self.lists.add(&self.catalog, kept.body.header(), kept.load);
         self.places -= 1;
         self.loads.insert(kept);
     }
 
     fn release(&mut self, header: &Header) {
-        self.lists.release(header);
+        self.lists.release(&self.catalog, header);
         self.places -= 1;
     }
 
     fn remove(&mut self, load: u64) -> Option<Kept> {
         self.loads.numbers_differ();
         let kept = self.loads.remove(load)?;
-        self.lists.remove(kept.body.header(), load);
+        self.lists.remove(&self.catalog, kept.body.header(), load);
         Some(kept)
     }
 
@@ -174,6 +178,7 @@ impl CacheShelf for SegmentIndex {
     fn shut(&mut self, region: &Region) {
         self.loads.shut(region);
         unlist(
+            &self.catalog,
             &self.loads,
             &mut self.lists,
             self.touched.as_slice(),

@@ -2,8 +2,13 @@
 //! other has one key, of its cube, measure and columns. Keys of different cells may be equal by chance, so what is found by a
 //! key is still to be compared with the cell.
 ghost use Rattle.std.specs.Prelude.{◌≡◌, ◌+◌, ◌*◌, ◌/◌, ◌%◌, length, min, slice_index};
+ghost use Rattle.std.specs.List.{range_with_len};
+ghost use Rattle.olap_meaning.specs.Rolled.{value_count};
+ghost use Rattle.cache_flush.specs.Formed.{values_of};
 ghost use Rattle.segment_index.specs.Keys as keys;
 
+use cache_flush::{allowed_count, size_of};
+use olap_catalog::Catalog;
 use olap_meaning::{Allowed, Cell, ColumnId, CubeId, Header, MeasureId, ValueId};
 
 /// A header has a key for each of its cells where it has at most this many.
@@ -71,32 +76,14 @@ fn header_columns_key(header: &Header) -> u64
     key
 }
 
-fn is_listed(allowed: &Allowed) -> bool
-    ensures { result ≡ keys.is_listed allowed.now }
-{
-    match allowed {
-        Allowed::Any => false,
-        Allowed::Set(_) => true,
-    }
-}
-
-// The values that are listed, none where any is allowed.
-fn listed(allowed: &Allowed) -> &[ValueId]
-    ensures { result.now ≡ keys.listed allowed.now }
-{
-    match allowed {
-        Allowed::Any => &[],
-        Allowed::Set(values) => values.as_slice(),
-    }
-}
-
 // The number of cells, or one more than the most where it is greater.
-fn capped_count(columns: &[(ColumnId, Allowed)]) -> usize
-    ensures { result ≡ min (MOST_CELLS + 1) (keys.cell_count columns.now) }
+fn capped_count(catalog: &Catalog, columns: &[(ColumnId, Allowed)]) -> usize
+    ensures { result
+        ≡ min (MOST_CELLS + 1) (keys.cell_count (value_count catalog.now) columns.now) }
 {
     let mut count: usize = 1;
     for own in columns {
-        count = capped(count, listed(&own.1).len());
+        count = capped(count, allowed_count(size_of(catalog, own.0), &own.1));
     }
     count
 }
@@ -108,32 +95,34 @@ fn capped(count: usize, more: usize) -> usize
     count.saturating_mul(more).min(MOST_CELLS + 1)
 }
 
-fn are_listed(columns: &[(ColumnId, Allowed)]) -> bool
-    ensures { result ≡ keys.are_listed columns.now }
+/// How many keys a header has: the number of its cells where they are few, else one. It takes no memory.
+pub(crate) fn key_count(catalog: &Catalog, header: &Header) -> usize
+    ensures { result ≡ keys.key_count (value_count catalog.now) header.now }
 {
-    columns.iter().all(|own| is_listed(&own.1))
+    let count = capped_count(catalog, header.columns.as_slice());
+    if count <= MOST_CELLS { count } else { 1 }
 }
 
-/// How many keys a header has: the number of its cells where they are few, else one. It takes no memory.
-pub(crate) fn key_count(header: &Header) -> usize
-    ensures { result ≡ keys.key_count header.now }
+fn are_few(catalog: &Catalog, columns: &[(ColumnId, Allowed)]) -> bool
+    ensures { result ≡ keys.are_few (value_count catalog.now) columns.now }
 {
-    let count = capped_count(header.columns.as_slice());
-    if are_listed(header.columns.as_slice()) && count <= MOST_CELLS {
-        count
-    } else {
-        1
+    capped_count(catalog, columns) <= MOST_CELLS
+}
+
+// The value that a number picks, of those that a column of this size allows: the one at its remainder by how many there are.
+fn value_at(size: u32, allowed: &Allowed, number: usize) -> ValueId
+    ensures { result
+        ≡ slice_index (values_of size allowed.now)
+        (number % length (values_of size allowed.now)) }
+{
+    match allowed {
+        Allowed::Any => value_below(size, number),
+        Allowed::Set(values) => value_among(values.as_slice(), number),
     }
 }
 
-fn are_few(columns: &[(ColumnId, Allowed)]) -> bool
-    ensures { result ≡ keys.are_few columns.now }
-{
-    are_listed(columns) && capped_count(columns) <= MOST_CELLS
-}
-
-// The value that a number picks: the one at its remainder by how many there are.
-fn value_at(values: &[ValueId], number: usize) -> ValueId
+// The one of a set.
+fn value_among(values: &[ValueId], number: usize) -> ValueId
     ensures { result ≡ slice_index values.now (number % length values.now) }
 {
     if values.is_empty() {
@@ -142,37 +131,48 @@ fn value_at(values: &[ValueId], number: usize) -> ValueId
     values[number % values.len()]
 }
 
-// What is left of the number for the columns after it.
-fn number_left(values: &[ValueId], number: usize) -> usize
-    ensures { result ≡ number / length values.now }
+// The one of all values.
+fn value_below(size: u32, number: usize) -> ValueId
+    ensures { result
+        ≡ slice_index (range_with_len 0 size) (number % length (range_with_len 0 size)) }
 {
-    if values.is_empty() {
-        return 0;
+    if size == 0 {
+        return ValueId(0);
     }
-    number / values.len()
+    ValueId((number % size as usize) as u32)
 }
 
-// The key of the cell of a number, of those with listed values.
-fn picked_key(start: u64, columns: &[(ColumnId, Allowed)], number: usize) -> u64
-    ensures { result ≡ keys.picked_key start columns.now number }
+// What is left of a number for the columns after one that allows this many values.
+fn number_left(count: usize, number: usize) -> usize
+    ensures { result ≡ number / count }
+{
+    if count == 0 {
+        return 0;
+    }
+    number / count
+}
+
+// The key of the cell of a number, of those with allowed values.
+fn picked_key(catalog: &Catalog, start: u64, columns: &[(ColumnId, Allowed)], number: usize) -> u64
+    ensures { result ≡ keys.picked_key (value_count catalog.now) start columns.now number }
 {
     let mut key = start;
     let mut left = number;
     for own in columns {
-        let values = listed(&own.1);
-        key = with_pair(key, own.0, value_at(values, left));
-        left = number_left(values, left);
+        let size = size_of(catalog, own.0);
+        key = with_pair(key, own.0, value_at(size, &own.1, left));
+        left = number_left(allowed_count(size, &own.1), left);
     }
     key
 }
 
 /// The key of a header that has this number, below how many keys it has. It takes no memory.
-pub(crate) fn key_at(header: &Header, number: usize) -> u64
-    ensures { result ≡ keys.key_at header.now number }
+pub(crate) fn key_at(catalog: &Catalog, header: &Header, number: usize) -> u64
+    ensures { result ≡ keys.key_at (value_count catalog.now) header.now number }
 {
-    if are_few(header.columns.as_slice()) {
+    if are_few(catalog, header.columns.as_slice()) {
         let start = start_key(CELL_SEED, header.cube, header.measure);
-        picked_key(start, header.columns.as_slice(), number)
+        picked_key(catalog, start, header.columns.as_slice(), number)
     } else {
         header_columns_key(header)
     }

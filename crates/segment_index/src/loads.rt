@@ -5,11 +5,13 @@ ghost use Rattle.std.specs.List.Sorted.{IsPermutation};
 ghost use Rattle.olap_meaning.specs.declared.regions.Region.{Region};
 ghost use Rattle.olap_meaning.specs.Covering.{among};
 ghost use Rattle.olap_meaning.specs.Legal.{rise};
+ghost use Rattle.olap_meaning.specs.Rolled.{value_count};
 ghost use Rattle.cache_flush.specs.Loads.{IsGone, IsOldest, are_different, group_count, kept_in, numbers_of, shut_off};
 
 use crate::numbers::Numbers;
 use cache_flush::{Kept, Shut};
 use indexmap::IndexMap;
+use olap_catalog::Catalog;
 use olap_meaning::{OutOfMemory, Region};
 use std::alloc::Global;
 use std::marker::Model;
@@ -88,17 +90,17 @@ impl Loads {
 
     /// A load of a number that a region which was flushed last shuts off as a whole, as far as a short test tells. It takes no
     /// memory.
-    pub(crate) fn gone(&self, load: u64, region: &Region) -> Option<&Kept>
+    pub(crate) fn gone(&self, catalog: &Catalog, load: u64, region: &Region) -> Option<&Kept>
         requires last { (before : List Region)
             × (self.now.flushed ≡ before ++ region.now ∷ []) }
         ensures there { IfSome (option_copied result)
             (λ kept. find (λ other. other.load == load) self.now.loads
             ≡ Some (kept_in self.now.flushed kept)) }
         ensures gone { IfSome (option_copied result)
-            (λ kept. IsGone (kept_in self.now.flushed kept)) }
+            (λ kept. IsGone (value_count catalog.now) (kept_in self.now.flushed kept)) }
     {
         match self.by_number.get(&load) {
-            Some(kept) if is_gone(&self.shut, kept, region) => Some(kept),
+            Some(kept) if is_gone(catalog, &self.shut, kept, region) => Some(kept),
             _ => None,
         }
     }
@@ -204,9 +206,9 @@ impl Loads {
 }
 
 // Whether a region that was flushed last shuts off a load as a whole.
-fn is_gone(shut: &Shut, kept: &Kept, region: &Region) -> bool
+fn is_gone(catalog: &Catalog, shut: &Shut, kept: &Kept, region: &Region) -> bool
     requires last { (before : List Region) × (shut.now.regions ≡ before ++ region.now ∷ []) }
-    ensures { IsTrue result → IsGone (kept_in shut.now.regions kept.now) }
+    ensures { IsTrue result → IsGone (value_count catalog.now) (kept_in shut.now.regions kept.now) }
 {
-    kept.place < shut.len() && kept.is_gone(shut, region)
+    kept.place < shut.len() && kept.is_gone(catalog, shut, region)
 }

@@ -1,7 +1,8 @@
 -- What holds at each turn of `add_keys`.
+use Rattle.olap_meaning.specs.Rolled.{value_count}
 use Rattle.segment_index.specs.Grouping.{IsAdded}
 use Rattle.segment_index.specs.Keys.{tally}
 use Rattle.segment_index.proofs.listing.add_keys.Given as goal
 
 abbrev pub invariant-loop-number : goal.invariant-loop-number
-invariant-loop-number l = IsAdded (λ q. tally q l.header l.number) l.load l.fn.cells l.cells
+invariant-loop-number l = IsAdded (λ q. tally (value_count l.catalog) q l.header l.number) l.load l.fn.cells l.cells

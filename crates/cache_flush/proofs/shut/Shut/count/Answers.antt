@@ -1,4 +1,4 @@
--- The records tell how many regions after a place touch a header; so many can be counted.
+-- The records tell how many regions after a place touch a header; a u64 can count them.
 use Rattle.std.proofs.Common.{◌∙◌, sym, arith, drop}
 use Rattle.std.proofs.lemmas.List.{length-drop}
 use Rattle.std.proofs.lemmas.List.Sums.{count_by-le-length}
