@@ -1,0 +1,5 @@
+pub mod Prefixes
+pub mod Sure
+pub mod Moves
+pub mod Rows
+pub mod Marks

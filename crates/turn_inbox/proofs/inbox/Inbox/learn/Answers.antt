@@ -1,0 +1,12 @@
+use Rattle.std.proofs.Common.{Some, ap, ◌∙◌}
+use Rattle.turn_inbox.proofs.Sure.{is_sure, same_identity}
+use Rattle.turn_inbox.proofs.inbox.Inbox.learn.Goals as goal
+
+pub returns-clause-same : goal.returns-clause-same
+returns-clause-same g c =
+    let s = c.seat.view_is in
+    let e = c.learn-place.ensures.same in
+    (e.1 ∙ ap (λ k. k.number) s, same_identity _ _ _ _ _ _ e.0 e.2 ∙ ap (λ k. k.inbox) s)
+
+pub returns-clause-lawful : goal.returns-clause-lawful
+returns-clause-lawful g c = c.learn-place.ensures.lawful _ (is_sure _ c.seat.inside.place.based ∙ ap Some (ap (λ k. k.inbox.basis) c.seat.view_is))

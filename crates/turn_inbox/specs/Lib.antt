@@ -1,0 +1,4 @@
+pub mod Entries
+pub mod Known
+pub mod Rule
+pub mod Shorter
