@@ -18,7 +18,7 @@ use Rattle.olap_meaning.proofs.Orders.{above_of, among_held}
 use Rattle.olap_meaning.proofs.ReachUp.{any_weaker}
 use Rattle.segment_header.specs.Headers.{is_header, is_set}
 use Rattle.cache_flush.specs.Formed.{is_formed, values_of}
-use Rattle.cache_flush.specs.Gone.{NoneIsLive, box_spans, column_holds, column_spans, has_all, holds_along, is_along, reached, records_span, region_spans, spans_after, spans_along}
+use Rattle.cache_flush.specs.Gone.{NoneIsLive, box_spans, column_holds, column_spans, has_all, holds_along, is_along, reached, records_span, region_names, region_spans, spans_after, spans_along}
 use Rattle.cache_flush.specs.Loads.{IsGone, KeptOf, is_candidate, serves, shut_off}
 use Rattle.cache_flush.specs.Records.{LedgerOf, is_after}
 use Rattle.cache_flush.proofs.AnchorFacts.{any_positions}
@@ -213,8 +213,8 @@ module _ (sizes : ℕ → ℕ) (regions : List Region) (ledger : LedgerOf) (plac
       let values = values_of (sizes own) allowed in
       let some = λ (value : ℕ). region_spans sizes (Some (own, value)) header region in
       let each = λ (value : ℕ). region_spans sizes (Some (own, value)) header region || records_span sizes ledger place (Some (own, value)) header in
-      let parts = and_parts (nat_le (length values) FEW_VALUES && list_any some values) (list_all each values) h in
-      let first = and_parts (nat_le (length values) FEW_VALUES) (list_any some values) parts.0 in
+      let parts = and_parts (region_names region own && nat_le (length values) FEW_VALUES && list_any some values) (list_all each values) h in
+      let first = and_parts (region_names region own && nat_le (length values) FEW_VALUES) (list_any some values) parts.0 in
       elim (cases_Bool (names_column cell own)) [
         | inl named ↦
             let (pair, there, at) = member_any (λ (pair : ℕ × ℕ). pair.0 == own) cell.at named in

@@ -78,11 +78,16 @@ abbrev pub records_span : (ℕ → ℕ) → LedgerOf → ℕ → Option (ℕ × 
 records_span sizes ledger place along header =
     list_any (passes_at (spans_after sizes place along header) ledger.records) ledger.recent
 
--- along a column with few allowed values, a region spans a header that is narrowed to one of them, and for each of them
--- the region or one of the records that were flushed last does
+-- a box of a region names a column
+abbrev pub region_names : Region → ℕ → Bool
+region_names region own = list_any (λ box. list_any (λ column. column.0 == own) box.columns) region.boxes
+
+-- along a column that a region names, with few allowed values, the region spans a header that is narrowed to one of them,
+-- and for each of them the region or one of the records that were flushed last does
 abbrev pub spans_along : (ℕ → ℕ) → LedgerOf → ℕ → Header → Region → ℕ → Allowed → Bool
 spans_along sizes ledger place header region own allowed =
-    nat_le (length (values_of (sizes own) allowed)) FEW_VALUES
+    region_names region own
+    && nat_le (length (values_of (sizes own) allowed)) FEW_VALUES
     && list_any (λ value. region_spans sizes (Some (own, value)) header region)
     (values_of (sizes own) allowed)
     && list_all

@@ -1,5 +1,5 @@
 //! Whether flushed regions shut off a header as a whole, as far as a short test tells. Nothing here takes memory.
-ghost use Rattle.std.specs.Prelude.{◌≡◌, ◌||◌, Some};
+ghost use Rattle.std.specs.Prelude.{◌≡◌, ◌==◌, ◌||◌, Some};
 ghost use Rattle.std.specs.List.{list_all, list_any, range_with_len};
 ghost use Rattle.olap_meaning.specs.Covering as covering;
 ghost use Rattle.olap_meaning.specs.Rolled.{value_count};
@@ -171,8 +171,23 @@ pub(crate) fn span_along(
     ))
 }
 
-// Along a column with few allowed values a region and the records that were flushed last span a header, the region for one of the
-// values at least.
+// One of some boxes names a column.
+fn names(boxes: &[RegionBox], own: ColumnId) -> bool
+    ensures { result ≡ list_any (λ box. list_any (λ column. column.0 == own) box.columns) boxes.now }
+{
+    boxes.iter().any(|one| name(one.columns.as_slice(), own))
+}
+
+// The columns of a box name a column.
+fn name(columns: &[(ColumnId, List<ValueId>)], own: ColumnId) -> bool
+    ensures { result ≡ list_any (λ column. column.0 == own) columns.now }
+{
+    columns.iter().any(|column| column.0 == own)
+}
+
+// Along a column that the region names, with few allowed values, a region and the records that were flushed last span a header,
+// the region for one of the values at least. Along any other column a region spans a header narrowed just where it spans it
+// whole.
 fn span_column(
     catalog: &Catalog,
     ledger: &Ledger,
@@ -187,7 +202,8 @@ fn span_column(
         allowed.now }
 {
     let size = size_of(catalog, own);
-    allowed_count(size, allowed) <= FEW_VALUES
+    names(region.boxes.as_slice(), own)
+        && allowed_count(size, allowed) <= FEW_VALUES
         && span_some(catalog, region, header, own, size, allowed)
         && span_each(catalog, ledger, place, header, region, own, size, allowed)
 }

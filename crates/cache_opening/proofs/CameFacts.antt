@@ -1,10 +1,12 @@
 -- How many files came, and how many rows are read for them.
-use Rattle.std.proofs.Common.{◌≡◌, refl, sym, ap, ◌∙◌, subst, ℕ, zero, suc, ◌+◌, ◌≤◌, List, [], ◌∷◌, ◌++◌, Option, Some, None, Result, Ok, Err, Bool, true, false, arith, append-nil, cond, is_some, length}
+use Rattle.std.proofs.Common.{◌≡◌, refl, sym, ap, ◌∙◌, subst, ℕ, zero, suc, ◌+◌, ◌≤◌, List, [], ◌∷◌, ◌++◌, Option, Some, None, Result, Ok, Err, Bool, true, false, arith, append-nil, cond, drop, is_some, length, slice_get}
 use Rattle.std.specs.Option.{IsSomeAnd}
 use Rattle.std.specs.Prelude.{OnOk}
+use Rattle.std.proofs.lemmas.List.{drop_all}
 use Rattle.olap_meaning.specs.declared.schema.SchemaAggregate.{SchemaAggregate}
 use Rattle.olap_meaning.specs.declared.tables.Catalog.{Catalog}
 use Rattle.olap_meaning.specs.declared.tables.Row.{Row}
+use Rattle.olap_meaning.proofs.Lists.{drop_at}
 use Rattle.outside.specs.Fetched.{Fetched}
 use Rattle.outside.specs.Told.{Files}
 use Rattle.cache_opening.specs.declared.fault.OpenFault.{OpenFault}
@@ -63,7 +65,15 @@ pub some_came : (o : Option SchemaAggregate) (file : List ℕ) (before after : L
 some_came None file before after is came = absurd is
 some_came (Some own) file before after is came = let P : Option (List ℕ) → Type 0 = λ f. FilesCame before after (cond (is_some f) 1 0) in subst P is came
 
+pub some_cost : (o : Option SchemaAggregate) (file : List ℕ) (start later rows : ℕ) → IsSomeAnd o (λ own. Some file ≡ own.file) → later ≡ start + rows → IsSomeAnd o (λ own. later ≡ start + cond (is_some own.file) rows 0)
+some_cost None file start later rows is cost = absurd is
+some_cost (Some own) file start later rows is cost = let P : Option (List ℕ) → Type 0 = λ f. later ≡ start + cond (is_some f) rows 0 in subst P is cost
+
 -- one that has none
+pub none_cost : (o : Option SchemaAggregate) (start rows : ℕ) → IsSomeAnd o (λ own. ◌≡◌ {A = Option (List ℕ)} None own.file) → IsSomeAnd o (λ own. start ≡ start + cond (is_some own.file) rows 0)
+none_cost None start rows is = absurd is
+none_cost (Some own) start rows is = let P : Option (List ℕ) → Type 0 = λ f. start ≡ start + cond (is_some f) rows 0 in subst P is (omega arith)
+
 pub none_read : (o : Option SchemaAggregate) (now : List Fetched) (start rows : ℕ) → IsSomeAnd o (λ own. ◌≡◌ {A = Option (List ℕ)} None own.file) → IsSomeAnd o (λ own. ReadsFew now now (cond (is_some own.file) rows 0) start start)
 none_read None now start rows is = absurd is
 none_read (Some own) now start rows is = record { more = []; behind = sym (append-nil now); steps = omega arith }
@@ -84,11 +94,22 @@ module _ (catalog : Catalog) (batches : List (List Row)) where
   rows_of_none table [] = refl
   rows_of_none table (own ∷ owns) = refl
 
-  -- at most the rows of all are read
-  pub rows_most : (table : ℕ) (owns : List SchemaAggregate) (came : ℕ) → rows_come catalog batches table owns came ≤ rows_from catalog batches table owns
-  rows_most table [] came = omega arith
-  rows_most table (own ∷ owns) zero = omega arith
-  rows_most table (own ∷ owns) (suc came) = let rest = rows_most (suc table) owns (cond (is_some own.file) came (suc came)) in omega (arith, rest)
+  -- one table more, of those that are left
+  pub rows_turn : (table next : ℕ) (owns : List SchemaAggregate) (steps later whole : ℕ) → next ≡ suc table → steps + rows_from catalog batches table (drop table owns) ≡ whole → IsSomeAnd (slice_get owns table) (λ own. later ≡ steps + rows_for catalog batches table own) → later + rows_from catalog batches next (drop next owns) ≡ whole
+  rows_turn table next owns steps later whole is_next so_far one = subst (λ (n : ℕ). later + rows_from catalog batches n (drop n owns) ≡ whole) (sym is_next) (by (slice_get owns table) refl one)
+    where
+      by : (o : Option SchemaAggregate) → slice_get owns table ≡ o → IsSomeAnd o (λ own. later ≡ steps + rows_for catalog batches table own) → later + rows_from catalog batches (suc table) (drop (suc table) owns) ≡ whole
+      by None is one = absurd one
+      by (Some own) is one =
+          let left : drop table owns ≡ own ∷ drop (suc table) owns = drop_at owns table own is in
+          let all : steps + rows_from catalog batches table (own ∷ drop (suc table) owns) ≡ whole = rw left at so_far in
+          omega (arith, one, all)
+
+  -- none is left
+  pub rows_end : (table : ℕ) (owns : List SchemaAggregate) (steps whole : ℕ) → length owns ≤ table → steps + rows_from catalog batches table (drop table owns) ≡ whole → steps ≡ whole
+  rows_end table owns steps whole end so_far =
+      let none : steps + rows_from catalog batches table [] ≡ whole = rw (drop_all table owns end) at so_far in
+      omega (arith, none)
 
   module _ (table : ℕ) (own : SchemaAggregate) (owns : List SchemaAggregate) where
     -- the rows of the first one, and of the others

@@ -1,6 +1,6 @@
 -- The whole opening: first its base is asked for, the catalog and then the base batches; and then the files of the
 -- aggregate tables.
-use Rattle.std.proofs.Common.{◌≡◌, refl, sym, ap, subst, ◌∙◌, ◌++◌, ℕ, List, [], Option, Ok, Err, append-nil, arith, length}
+use Rattle.std.proofs.Common.{◌≡◌, ◌+◌, refl, sym, ap, subst, ◌∙◌, ◌++◌, ℕ, List, [], Option, Ok, Err, append-nil, arith, length}
 use Rattle.olap_meaning.specs.declared.tables.Catalog.{Catalog}
 use Rattle.olap_meaning.specs.declared.tables.Row.{Row}
 use Rattle.olap_meaning.specs.declared.tables.Setting.{Setting}
@@ -13,9 +13,8 @@ use Rattle.outside.specs.Told.{Files}
 use Rattle.cache_opening.specs.declared.fault.OpenFault.{OpenFault}
 use Rattle.cache_opening.specs.declared.fault.OpenFault.TheVariants.{OutOfMemory}
 use Rattle.cache_opening.specs.Asking.{Asking, made, ◌>>=◌, value, stopped, Leads}
-use Rattle.cache_opening.specs.Opening.{Base, HasBase, IsOpened, Opening, agg_entries, base_entries, base_from, batches_from, budget, catalog_from, checks_from, files_came, opened_entries, opening_from}
+use Rattle.cache_opening.specs.Opening.{Base, HasBase, IsOpened, Opening, agg_entries, base_entries, base_from, batches_from, catalog_from, checks_from, opened_entries, opening_from, rows_checked}
 use Rattle.cache_opening.specs.Steps.{AreInstalled, AreOpened, HasCubes, HasJustBase, IsBased, IsBegun, ReadsCame, base_in, batches_in}
-use Rattle.cache_opening.proofs.CameFacts.{rows_most}
 use Rattle.cache_opening.proofs.EntryFacts.{opened_batches, opened_length}
 use Rattle.cache_opening.proofs.LeadFacts.{leads_first, leads_on, leads_then}
 
@@ -32,14 +31,14 @@ module _ (file : List ℕ) (files : Option Files) (before : List Fetched) where
   unfolding base_from
   manager_stops after catalog h = leads_then (catalog_from file) then_batches files before after catalog (Err OutOfMemory) h stopped
 
-  module _ (middle after : List Fetched) (catalog : Catalog) (read : Leads files before middle (catalog_from file) (Ok catalog)) (begun : CacheOf) (is : begun ≡ record { setting = setting_of catalog row_limit budget; entries = [] }) where
+  module _ (middle after : List Fetched) (catalog : Catalog) (read : Leads files before middle (catalog_from file) (Ok catalog)) (budget : ℕ) (begun : CacheOf) (is : begun ≡ record { setting = setting_of catalog row_limit budget; entries = [] }) where
     pub batches_unread : (fault : OpenFault) → Leads files middle after (batches_from begun.setting.catalog 0 0 begun.setting.catalog.schema.cubes) (Err fault) → Leads files before after (base_from file) (Err fault)
     unfolding base_from
     batches_unread fault h =
         let P : CacheOf → Type 0 = λ cache. Leads files middle after (batches_from cache.setting.catalog 0 0 cache.setting.catalog.schema.cubes) (Err fault) in
         leads_on (catalog_from file) then_batches files before middle after catalog (Err fault) read (leads_first (batches_from catalog 0 0 catalog.schema.cubes) (λ batches. made (record { catalog = catalog; batches = batches })) files middle after fault (subst P is h))
 
-    pub has_base : (cache : CacheOf) → cache.setting ≡ begun.setting → AreOpened files middle after cache → HasJustBase files before after file cache
+    pub has_base : (cache : CacheOf) → cache.setting ≡ begun.setting → AreOpened files middle after cache → HasJustBase files before after file budget cache
     unfolding base_from
     has_base cache kept are = record {
       base = base;
@@ -67,7 +66,7 @@ module _ (file : List ℕ) (files : Option Files) (before : List Fetched) where
   unfolding opening_from
   base_unread after fault h = leads_first (base_from file) then_checks files before after fault h
 
-  module _ (middle after : List Fetched) (cache : CacheOf) (just : HasJustBase files before middle file cache) where
+  module _ (middle after : List Fetched) (budget : ℕ) (cache : CacheOf) (just : HasJustBase files before middle file budget cache) where
     -- there are no tables yet
     entries_are : cache.entries ≡ opened_entries just.base.batches []
     entries_are = just.entries ∙ sym (append-nil (base_entries 0 just.base.batches))
@@ -112,18 +111,17 @@ module _ (file : List ℕ) (files : Option Files) (before : List Fetched) where
         steps = few_here.steps;
       }
 
-      pub is_opened : (done : CacheOf) → done.setting ≡ cache.setting → AreInstalled files middle after (checks_from (base_in cache) 0 cache.setting.catalog.schema.aggregates) cache.entries done.entries → IsOpened files before after file done start steps
+      pub is_opened : (done : CacheOf) → done.setting ≡ cache.setting → AreInstalled files middle after (checks_from (base_in cache) 0 cache.setting.catalog.schema.aggregates) cache.entries done.entries → steps ≡ start + rows_checked cache.setting.catalog (batches_in cache.entries) → (opened : IsOpened files before after file budget done) × (steps ≡ start + rows_checked opened.opening.catalog opened.opening.batches)
       unfolding opening_from
-      is_opened done kept are = record {
-        opening = opening;
-        read = leads_on (base_from file) then_checks files before middle after just.base (Ok opening) just.read (leads_then (checks_from just.base 0 just.base.catalog.schema.aggregates) (λ tables. made (record { catalog = just.base.catalog; batches = just.base.batches; tables = tables })) files middle after are.tables (Ok opening) here value);
-        setting = kept ∙ just.setting;
-        entries = entry;
-        steps =
-            let most = rows_most just.base.catalog just.base.batches 0 just.base.catalog.schema.aggregates (files_came few_here.more) in
-            let came = few_here.steps in
-            omega (arith, came, most);
-      }
+      is_opened done kept are cost = (
+        record {
+          opening = opening;
+          read = leads_on (base_from file) then_checks files before middle after just.base (Ok opening) just.read (leads_then (checks_from just.base 0 just.base.catalog.schema.aggregates) (λ tables. made (record { catalog = just.base.catalog; batches = just.base.batches; tables = tables })) files middle after are.tables (Ok opening) here value);
+          setting = kept ∙ just.setting;
+          entries = entry;
+        },
+        let P : Base → Type 0 = λ base. steps ≡ start + rows_checked base.catalog base.batches in subst P base_is cost,
+      )
         where
           opening : Opening
           opening = record { catalog = just.base.catalog; batches = just.base.batches; tables = are.tables }
@@ -140,5 +138,5 @@ module _ (file : List ℕ) (files : Option Files) (before : List Fetched) where
           entry = are.entry ∙ ap (λ (n : ℕ). cache.entries ++ agg_entries n are.tables) many ∙ ap (λ (es : List Entry). es ++ agg_entries (length just.base.batches) are.tables) just.entries
 
 -- nothing has happened in a new cache
-pub begun : (catalog : Catalog) (cache : CacheOf) → HasCubes catalog → cache ≡ record { setting = setting_of catalog row_limit budget; entries = [] } → IsBegun cache
-begun catalog cache whole is = subst IsBegun (sym is) (record { whole = whole; limit = refl; entries = refl })
+pub begun : (catalog : Catalog) (budget : ℕ) (cache : CacheOf) → HasCubes catalog → cache ≡ record { setting = setting_of catalog row_limit budget; entries = [] } → IsBegun cache
+begun catalog budget cache whole is = subst IsBegun (sym is) (record { whole = whole; limit = refl; entries = refl })

@@ -27,10 +27,6 @@ use Rattle.cache_opening.specs.declared.fault.OpenFault.{OpenFault}
 use Rattle.cache_opening.specs.declared.fault.OpenFault.TheVariants as fault
 use Rattle.cache_opening.specs.Asking.{Asking, made, refused, ask, ◌>>=◌, Leads, bytes_of, read_by}
 
--- the most groups that the kept loads of a cache have after an answer
-abbrev pub budget : ℕ
-budget = 1_000_000
-
 -- the schema of a file
 unfoldable pub schema_from : List ℕ → Asking Schema
 schema_from file = do
@@ -214,16 +210,15 @@ rows_come catalog batches table (own ∷ owns) (suc came) =
     rows_for catalog batches table own
     + rows_come catalog batches (suc table) owns (if is_some own.file then came else suc came)
 
--- a manager is opened from a schema's file: between two states of a depot just those answers came that lead to the
--- opening, the manager has its catalog, and in its history just its base batches and its aggregate tables; and at most
--- as many steps were added as there are rows that the tables are checked over
+-- a manager is opened from a schema's file with a budget, the most groups that the kept loads have after an answer: between two
+-- states of a depot just those answers came that lead to the opening; the manager has its catalog and this budget, and in its
+-- history just its base batches and its aggregate tables
 pub record IsOpened (files : Option Files) (before after : List Fetched) (file : List ℕ)
-    (manager : CacheOf) (steps_before steps_after : ℕ) : Type 0 where
+    (budget : ℕ) (manager : CacheOf) : Type 0 where
   pub opening : Opening
   pub read : Leads files before after (opening_from file) (Ok opening)
   pub setting : manager.setting ≡ setting_of opening.catalog row_limit budget
   pub entries : manager.entries ≡ opened_entries opening.batches opening.tables
-  pub steps : steps_after ≤ steps_before + rows_checked opening.catalog opening.batches
 
 -- the base of an opening was read, and after it at most as many steps were added as there are rows that those of its
 -- aggregate tables are checked over whose files came

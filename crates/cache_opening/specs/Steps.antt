@@ -15,7 +15,7 @@ use Rattle.outside.specs.Told.{Files}
 use Rattle.cache_opening.specs.declared.fault.OpenFault.{OpenFault}
 use Rattle.cache_opening.specs.declared.fault.OpenFault.TheVariants.{OutOfMemory}
 use Rattle.cache_opening.specs.Asking.{Asking, Leads}
-use Rattle.cache_opening.specs.Opening.{Base, agg_entries, base_entries, base_from, batches_from, budget, files_came, opened_entries, rows_come}
+use Rattle.cache_opening.specs.Opening.{Base, agg_entries, base_entries, base_from, batches_from, files_came, opened_entries, rows_come}
 
 -- this is answered, or want of memory
 abbrev pub IsOrMemory : OpenFault → OpenFault → Type 0
@@ -117,9 +117,9 @@ pub record ReadsCame (before after : List Fetched) (base : Base) (start later : 
   pub steps : later ≤ start
       + rows_come base.catalog base.batches 0 base.catalog.schema.aggregates (files_came more)
 
--- a manager has the base of a schema's file, and nothing more: just this was asked for
+-- a manager has the base of a schema's file and this budget, and nothing more: just this was asked for
 pub record HasJustBase (files : Option Files) (before after : List Fetched) (file : List ℕ)
-    (manager : CacheOf) : Type 0 where
+    (budget : ℕ) (manager : CacheOf) : Type 0 where
   pub base : Base
   pub read : Leads files before after (base_from file) (Ok base)
   pub count : length base.batches ≡ length base.catalog.cubes

@@ -41,6 +41,8 @@ fn aggregate_in<L: Ledger>(
     ensures fault { IfErr result (λ fault. Comes
         (read_by (OpenFault.Aggregate file.now) (table_in (base_in manager.now) table bytes.now))
         [] (Err fault)) }
+    ensures cost { OnOk result (steps.new ≡ steps.old
+        + length (base_rows manager.now.setting.catalog (batches_in manager.now.entries) table)) }
     ensures at_least { steps.old ≤ steps.new }
     ensures at_most { steps.new ≤ steps.old
         + length (base_rows manager.now.setting.catalog (batches_in manager.now.entries) table) }
@@ -82,6 +84,8 @@ pub(crate) fn open_aggregate<D: Depot, L: Ledger>(
         Leads (D.files depot.old) (D.answers depot.old) (D.answers depot.new)
         (check_from (base_in manager.now) table file.now) (Err fault)) }
     ensures came { OnOk result (FilesCame (D.answers depot.old) (D.answers depot.new) 1) }
+    ensures cost { OnOk result (steps.new ≡ steps.old
+        + length (base_rows manager.now.setting.catalog (batches_in manager.now.entries) table)) }
     ensures at_least { steps.old ≤ steps.new }
     ensures at_most { ReadsFew (D.answers depot.old) (D.answers depot.new)
         (length (base_rows manager.now.setting.catalog (batches_in manager.now.entries) table))

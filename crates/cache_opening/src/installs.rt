@@ -4,7 +4,7 @@ ghost use Rattle.olap_meaning.specs.History.{Agg};
 ghost use Rattle.olap_meaning.specs.Legal.{is_next_call};
 ghost use Rattle.cache_manager.specs.Tables.{IsOwnTable};
 ghost use Rattle.cache_opening.specs.Asking.{Leads};
-ghost use Rattle.cache_opening.specs.Opening.{base_entries, checked_from, checks_from, rows_for};
+ghost use Rattle.cache_opening.specs.Opening.{base_entries, checked_from, checks_from, rows_checked, rows_for};
 ghost use Rattle.cache_opening.specs.Steps.{AreInstalled, FilesCame, IsBased, ReadsCame, ReadsFew, base_in, batches_in, files_for};
 
 use crate::aggregates::{aggregate_file, open_aggregate};
@@ -59,6 +59,10 @@ fn install_table<D: Depot, L: Ledger>(
         IsSomeAnd (slice_get manager.old.setting.catalog.schema.aggregates table)
         (λ own. Leads (D.files depot.old) (D.answers depot.old) (D.answers depot.new)
         (checked_from (base_in manager.old) table own.file) (Err fault))) }
+    ensures cost { OnOk result
+        (IsSomeAnd (slice_get manager.old.setting.catalog.schema.aggregates table)
+        (λ own. steps.new ≡ steps.old
+        + rows_for manager.old.setting.catalog (batches_in manager.old.entries) table own)) }
     ensures at_least { steps.old ≤ steps.new }
     ensures came { OnOk result
         (IsSomeAnd (slice_get manager.old.setting.catalog.schema.aggregates table)
@@ -97,6 +101,8 @@ pub(crate) fn install_tables<D: Depot, L: Ledger>(
         Leads (D.files depot.old) (D.answers depot.old) (D.answers depot.new)
         (checks_from (base_in manager.old) 0 manager.old.setting.catalog.schema.aggregates)
         (Err fault)) }
+    ensures cost { OnOk result (steps.new ≡ steps.old
+        + rows_checked manager.old.setting.catalog (batches_in manager.old.entries)) }
     ensures at_least { steps.old ≤ steps.new }
     ensures at_most { ReadsCame (D.answers depot.old) (D.answers depot.new) (base_in manager.old)
         steps.old steps.new }

@@ -15,4 +15,4 @@ pub mod laws;
 mod opened;
 
 pub use fault::OpenFault;
-pub use opened::{BUDGET, open_cache};
+pub use opened::open_cache;

@@ -12,7 +12,7 @@ use Rattle.clap.specs.declared.error.kind.ErrorKind.{ErrorKind}
 use Rattle.clap.specs.Faults.{entered_fault, fault_of, is_simple_and_free, level_fault}
 use Rattle.clap.proofs.WalkLemmas.{first_value-rows}
 use Rattle.clap.specs.declared.parser.matches.Found.{Found}
-use Rattle.olap_meaning.specs.Options.{Text, Known, Given, command_line, value_of}
+use Rattle.command_words.specs.Options.{Text, Known, Given, command_line, value_of}
 use Rattle.command_words.specs.OddWords.{is_odd}
 use Rattle.command_words.specs.Shapes.{HasOptions, given_rows, known_option, option_rule, options_app}
 use Rattle.command_words.specs.declared.options.KnownOption.{KnownOption}

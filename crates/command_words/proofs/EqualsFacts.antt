@@ -6,7 +6,7 @@ use Rattle.std.proofs.lemmas.Bool.{cases_Bool}
 use Rattle.std.proofs.lemmas.Grind.{common_steps}
 use Rattle.std.proofs.lemmas.List.{length-drop}
 use Rattle.std.proofs.lemmas.List.Quantifiers.{position-Some}
-use Rattle.olap_meaning.specs.Options.{Text, is_equals, joined_value, option_parts}
+use Rattle.command_words.specs.Options.{Text, is_equals, joined_value, option_parts}
 
 or_true : (b : Bool) → (b || true) ≡ true
 or_true true = refl

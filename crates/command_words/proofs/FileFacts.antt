@@ -1,19 +1,23 @@
--- The file of a command line of `run` is the one of the one or two words that `schema_file` knows.
+-- The file of a command line of `run` that gives no budget is the one of the one or two words that `schema_file` knows.
 use Rattle.std.proofs.Common.{◌≡◌, ◌∙◌, ◌==◌, ◌&&◌, ℕ, Bool, true, false, List, [], ◌∷◌, ◌++◌, Option, None, Some, refl, sym, ap, ap₂, subst, inl, inr, if◌then◌else◌, true≢false, option_map, codes, drop, nat_eq}
 use Rattle.std.specs.List.{list_all, list_any, before_first, after_first, position_or_len, starts_with}
 use Rattle.std.specs.Option.{option_and_then}
 use Rattle.std.specs.Str.{bytes_eq}
-use Rattle.std.proofs.lemmas.Bool.{and_parts, cases_Bool}
+use Rattle.std.proofs.lemmas.Bool.{and_parts, cases_Bool, or_parts}
 use Rattle.std.proofs.lemmas.Bool.Decides.{Decides-eqb}
 use Rattle.std.proofs.lemmas.Slice.Eq.{bytes_eq-Decides, starts_is}
 use Rattle.std.proofs.Math.Bool.{and-false}
-use Rattle.command_words.specs.OneOption.{is_file_word, joined_file, schema_file}
-use Rattle.olap_meaning.specs.Options.{Text, Given, behind_hyphens, from_word, is_equals, is_known, is_value, joined_value, option_parts, option_word, options_from, run_file, run_known, taken, takes, value_of}
+use Rattle.command_words.specs.Commands.{run_known}
+use Rattle.command_words.specs.OneOption.{file_alone, is_file_word, joined_file, schema_file}
+use Rattle.command_words.specs.Options.{Text, Given, Known, behind_hyphens, from_word, is_equals, is_given, is_known, is_value, joined_value, option_parts, option_word, options_from, taken, takes, value_of}
 use Rattle.command_words.proofs.WordFacts.{drop-one, take-one}
 use Rattle.command_words.proofs.WordByWord.{eq-turn}
 
 abbrev schema_name : Text
 schema_name = codes "schema"
+
+abbrev budget_name : Text
+budget_name = codes "budget"
 
 abbrev schema_word : Text
 schema_word = codes "--schema"
@@ -103,18 +107,21 @@ word_alone w n e =
     let (t, stands, parts) = some_text (behind_hyphens w) (n, None) e in
     behind w t stands ∙ ap (λ (s : Text). 45 ∷ 45 ∷ s) (parts_alone t n parts)
 
--- ---- options that `run` takes
+-- ---- options that `run` takes where no budget is given: those of a command that knows the schema alone
+
+abbrev schema_known : Known
+schema_known = (schema_name, true) ∷ []
 
 abbrev file_of : Option Given → Option Text
-file_of o = option_and_then (value_of schema_name) (taken run_known o)
+file_of o = option_and_then (value_of schema_name) (taken schema_known o)
 
 one_by : (n v : Text) → n ≡ schema_name → file_of (Some ((n, v) ∷ [])) ≡ Some v
 one_by n v e = let P : Text → Type 0 = λ m. file_of (Some ((m, v) ∷ [])) ≡ Some v in subst P (sym e) refl
 
-not_taken : (o : Given) → takes run_known o ≡ false → file_of (Some o) ≡ None
+not_taken : (o : Given) → takes schema_known o ≡ false → file_of (Some o) ≡ None
 not_taken o h = rw h refl
 
-other_name : (n v : Text) (rest : Given) → bytes_eq n schema_name ≡ false → takes run_known ((n, v) ∷ rest) ≡ false
+other_name : (n v : Text) (rest : Given) → bytes_eq n schema_name ≡ false → takes schema_known ((n, v) ∷ rest) ≡ false
 other_name n v rest h = rw (eq-turn n schema_name false h) refl
 
 one_file : (n v : Text) → file_of (Some ((n, v) ∷ [])) ≡ (if bytes_eq n schema_name then Some v else None)
@@ -123,6 +130,9 @@ one_file n v =
       | inl same ↦ one_by n v (same_text n schema_name same) ∙ ap (λ b. if b then Some v else None) (sym same)
       | inr other ↦ not_taken ((n, v) ∷ []) (other_name n v [] other) ∙ ap (λ b. if b then Some v else None) (sym other)
     ]
+
+abbrev file_in : List Text → Option Text
+file_in words = file_of (options_from None words)
 
 abbrev AtLeastOne : Option Given → Type 0
 AtLeastOne None = Unit {0}
@@ -135,7 +145,7 @@ AtLeastTwo (Some []) = ⊥
 AtLeastTwo (Some (a ∷ [])) = ⊥
 AtLeastTwo (Some (a ∷ b ∷ os)) = Unit {0}
 
-two_options : (a b : Text × Text) (os : Given) → takes run_known (a ∷ b ∷ os) ≡ false
+two_options : (a b : Text × Text) (os : Given) → takes schema_known (a ∷ b ∷ os) ≡ false
 two_options a b os =
     elim (cases_Bool (bytes_eq a.0 schema_name)) [
       | inr other ↦ rw (eq-turn a.0 schema_name false other) refl
@@ -144,7 +154,7 @@ two_options a b os =
         | inl second ↦
             let same : bytes_eq b.0 a.0 ≡ true =
             (bytes_eq-Decides b.0 a.0).1 (same_text b.0 schema_name second ∙ sym (same_text a.0 schema_name first)) in
-            rw same (and-false (list_all (λ (option : Text × Text). is_known run_known option.0) (a ∷ b ∷ os)))
+            rw same (and-false (list_all (λ (option : Text × Text). is_known schema_known option.0) (a ∷ b ∷ os)))
       ]
     ]
 
@@ -216,7 +226,7 @@ single_by None others e h = refl
 single_by (Some (n, None)) others e h = ap file_of (h n)
 single_by (Some (n, Some v)) others e h = ap (λ x. file_of (option_map (λ given. (n, v) ∷ given) x)) e ∙ one_file n v
 
-single_run : (word : Text) → run_file (word ∷ []) ≡ single (option_word word)
+single_run : (word : Text) → file_in (word ∷ []) ≡ single (option_word word)
 unfolding options_from
 single_run word = single_by (option_word word) (λ waiting. options_from waiting []) refl (λ n. refl)
 
@@ -278,7 +288,7 @@ pair_by None file others one h = refl
 pair_by (Some (n, None)) file others one h = ap file_of (h n) ∙ named_file n file (is_value file)
 pair_by (Some (n, Some v)) file others one h = two_none (option_map (λ given. (n, v) ∷ given) (others None)) (two_more (n, v) (others None) one)
 
-pair_run : (word file : Text) → run_file (word ∷ file ∷ []) ≡ paired (option_word word) file
+pair_run : (word file : Text) → file_in (word ∷ file ∷ []) ≡ paired (option_word word) file
 unfolding options_from
 pair_run word file =
     pair_by (option_word word) file (λ waiting. options_from waiting (file ∷ [])) (words_one file []) (λ n. named_by n file (is_value file))
@@ -315,12 +325,55 @@ pair_file word file =
 
 -- ---- the law
 
-none_run : run_file [] ≡ None
+none_run : file_in [] ≡ None
 unfolding options_from
 none_run = refl
 
-pub run_is_schema : (words : List Text) → run_file words ≡ schema_file words
-run_is_schema [] = none_run
-run_is_schema (word ∷ []) = single_run word ∙ sym (single_file word)
-run_is_schema (word ∷ file ∷ []) = pair_run word file ∙ sym (pair_file word file)
-run_is_schema (first ∷ second ∷ third ∷ words) = two_none (options_from None (first ∷ second ∷ third ∷ words)) (words_two first second third words)
+schema_in : (words : List Text) → file_in words ≡ schema_file words
+schema_in [] = none_run
+schema_in (word ∷ []) = single_run word ∙ sym (single_file word)
+schema_in (word ∷ file ∷ []) = pair_run word file ∙ sym (pair_file word file)
+schema_in (first ∷ second ∷ third ∷ words) = two_none (options_from None (first ∷ second ∷ third ∷ words)) (words_two first second third words)
+
+known_alone : (given : Given) → is_given given budget_name ≡ false → list_all (λ (option : Text × Text). is_known run_known option.0) given ≡ list_all (λ (option : Text × Text). is_known schema_known option.0) given
+known_alone [] h = refl
+known_alone (option ∷ given) h =
+    let parts = or_parts (bytes_eq option.0 budget_name) (is_given given budget_name) h in
+    rw (eq-turn option.0 budget_name false parts.0, known_alone given parts.1) refl
+
+budget_unknown : (n : Text) → n ≡ budget_name → is_known schema_known n ≡ false
+budget_unknown n e = subst (λ (m : Text). is_known schema_known m ≡ false) (sym e) refl
+
+known_not : (given : Given) → is_given given budget_name ≡ true → list_all (λ (option : Text × Text). is_known schema_known option.0) given ≡ false
+known_not [] h = absurd (true≢false (sym h))
+known_not (option ∷ given) h =
+    elim (cases_Bool (bytes_eq option.0 budget_name)) [
+      | inl same ↦ rw (budget_unknown option.0 (same_text option.0 budget_name same)) refl
+      | inr other ↦ rw (known_not given (rw other at h)) (and-false (is_known schema_known option.0))
+    ]
+
+none_where : (b : Bool) (given : Given) (f : Given → Option Text) → f given ≡ None → option_and_then f (if b then Some given else None) ≡ None
+none_where true given f h = h
+none_where false given f h = refl
+
+same_where : (b c : Bool) (given : Given) (f g : Given → Option Text) → b ≡ c → f given ≡ g given → option_and_then f (if b then Some given else None) ≡ option_and_then g (if c then Some given else None)
+same_where true true given f g e h = h
+same_where false false given f g e h = refl
+same_where true false given f g e h = absurd (true≢false e)
+same_where false true given f g e h = absurd (true≢false (sym e))
+
+abbrev unless_budget : Given → Option Text
+unless_budget given = if is_given given budget_name then None else value_of schema_name given
+
+alone : (o : Option Given) → option_and_then unless_budget (taken run_known o) ≡ file_of o
+alone None = refl
+alone (Some given) =
+    elim (cases_Bool (is_given given budget_name)) [
+      | inl there ↦
+          none_where (takes run_known given) given unless_budget (rw there refl)
+          ∙ sym (not_taken given (rw (known_not given there) refl))
+      | inr none ↦ same_where (takes run_known given) (takes schema_known given) given unless_budget (value_of schema_name) (rw (known_alone given none) refl) (rw none refl)
+    ]
+
+pub run_is_schema : (words : List Text) → file_alone words ≡ schema_file words
+run_is_schema words = alone (options_from None words) ∙ schema_in words

@@ -4,3 +4,4 @@ pub mod WordByWord
 pub mod WalkFacts
 pub mod ClapFacts
 pub mod FileFacts
+pub mod NumberFacts

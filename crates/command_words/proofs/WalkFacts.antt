@@ -15,7 +15,7 @@ use Rattle.clap.specs.declared.builder.action.ArgAction.TheVariants.{Set}
 use Rattle.clap.specs.declared.builder.value_parser.ValueParser.TheVariants as vp
 use Rattle.clap.specs.declared.parser.matches.ValueSource.TheVariants.{CommandLine}
 use Rattle.command_words.specs.Shapes.{given_row, given_rows}
-use Rattle.olap_meaning.specs.Options.{Text, Known, Given, is_known, is_given, is_whole}
+use Rattle.command_words.specs.Options.{Text, Known, Given, is_known, is_given, is_whole}
 use Rattle.olap_meaning.proofs.Lists.{or_first, or_second, some_or_none}
 use Rattle.command_words.specs.OddWords.{is_odd}
 use Rattle.command_words.proofs.WordFacts.{begins_with_hyphen, not-odd-plain}

@@ -7,7 +7,7 @@ use Rattle.std.proofs.lemmas.List.{append-nil, append_assoc}
 use Rattle.std.proofs.lemmas.List.Folds.{list_all-append, list_any-append}
 use Rattle.std.proofs.lemmas.Slice.Eq.{bytes_eq-Decides}
 use Rattle.clap.specs.Lexer.{long_of}
-use Rattle.olap_meaning.specs.Options.{Text, Known, Given, command_line, from_word, is_given, is_known, is_once, is_value, is_whole, options_from, taken, takes}
+use Rattle.command_words.specs.Options.{Text, Known, Given, command_line, from_word, is_given, is_known, is_once, is_value, is_whole, options_from, taken, takes}
 use Rattle.olap_meaning.proofs.Lists.{or_first, or_second}
 use Rattle.command_words.specs.OddWords.{is_odd}
 use Rattle.command_words.proofs.WordFacts.{begins_with_hyphen, odd-none, plain-value, plain-word}

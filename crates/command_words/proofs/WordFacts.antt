@@ -3,7 +3,7 @@ use Rattle.std.proofs.Common.{◌≡◌, ◌∙◌, ◌==◌, ◌&&◌, ℕ, Boo
 use Rattle.std.specs.List.{list_any, before_first, after_first, position_or_len}
 use Rattle.std.proofs.lemmas.Bool.{cases_Bool}
 use Rattle.clap.specs.Lexer.{long_of, name_and_value}
-use Rattle.olap_meaning.specs.Options.{Text, Given, from_word, is_equals, is_value, joined_value, option_parts, option_word, options_from}
+use Rattle.command_words.specs.Options.{Text, Given, from_word, is_equals, is_value, joined_value, option_parts, option_word, options_from}
 use Rattle.olap_meaning.proofs.Lists.{or_first, or_second}
 use Rattle.command_words.specs.OddWords.{is_odd}
 

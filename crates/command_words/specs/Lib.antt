@@ -1,3 +1,5 @@
+pub mod Options
+pub mod Commands
 pub mod OneOption
 pub mod OddWords
 pub mod Shapes

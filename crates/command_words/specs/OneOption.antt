@@ -1,6 +1,9 @@
--- The command line of `run` in its one or two words, as it can be said of the one option that there is.
+-- The command line of `run` without a budget, in its one or two words.
 use Rattle.std.specs.Prelude.{ℕ, Bool, false, ◌==◌, ◌&&◌, List, [], ◌∷◌, Option, Some, None, bytes_eq, codes, drop, nat_eq, not, if◌then◌else◌}
 use Rattle.std.specs.List.{starts_with}
+use Rattle.std.specs.Option.{option_and_then}
+use Rattle.command_words.specs.Commands.{run_known}
+use Rattle.command_words.specs.Options.{Text, command_line, is_given, value_of}
 
 -- a word can stand as the file of an option: it is not empty, and does not begin with a hyphen
 abbrev pub is_file_word : List ℕ → Bool
@@ -21,3 +24,10 @@ schema_file (option ∷ []) = joined_file option
 schema_file (option ∷ file ∷ []) =
     if bytes_eq option (codes "--schema") && is_file_word file then Some file else None
 schema_file (option ∷ file ∷ others) = None
+
+-- the file of a command line of `run` that gives no budget; None where the words are no such line
+abbrev pub file_alone : List Text → Option Text
+file_alone words =
+    option_and_then
+    (λ given. if is_given given (codes "budget") then None else value_of (codes "schema") given)
+    (command_line run_known words)

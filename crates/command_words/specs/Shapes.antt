@@ -7,8 +7,10 @@ use Rattle.clap.specs.declared.builder.action.ArgAction.TheVariants.{Set}
 use Rattle.clap.specs.declared.builder.value_parser.ValueParser.TheVariants as vp
 use Rattle.clap.specs.declared.parser.matches.ValueSource.TheVariants.{CommandLine}
 use Rattle.clap.specs.declared.parser.matches.Found.{Found}
-use Rattle.olap_meaning.specs.Options.{Given, Known, Text, value_of}
+use Rattle.command_words.specs.Options.{Given, Known, Text, value_of}
+use Rattle.command_words.specs.Commands.{RunCommand}
 use Rattle.command_words.specs.declared.options.KnownOption.{KnownOption}
+use Rattle.command_words.specs.declared.run.RunOptions.{RunOptions}
 
 -- a known option, as the definitions name it
 abbrev pub known_option : KnownOption → Text × Bool
@@ -44,3 +46,7 @@ given_rows = map given_row
 abbrev pub HasOptions : Option Given → Found → Type 0
 HasOptions None found = ⊥
 HasOptions (Some given) found = (name : Text) → first_value found name ≡ value_of name given
+
+-- the command of the options of `run` that were read
+abbrev pub run_read : RunOptions → RunCommand
+run_read options = record { file = options.schema.now; budget = options.budget }

@@ -1,7 +1,7 @@
 //! Words that no command line has.
 ghost use Rattle.std.specs.Prelude.{◌≡◌, ◌==◌, map, not, is_some, position, string_bytes};
 ghost use Rattle.std.specs.List.{list_any};
-ghost use Rattle.olap_meaning.specs.Options.{option_parts};
+ghost use Rattle.command_words.specs.Options.{option_parts};
 ghost use Rattle.command_words.specs.OddWords.{is_odd};
 
 // The place of the first `=`.

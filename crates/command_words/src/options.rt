@@ -2,7 +2,7 @@
 ghost use Rattle.std.specs.Prelude.{◌≡◌, ◌⊎◌, IfErr, IfOk, None, [], map, string_bytes, false};
 ghost use Rattle.std.specs.List.{list_any};
 ghost use Rattle.clap.specs.Words.{app_of, found_of, with_rule};
-ghost use Rattle.olap_meaning.specs.Options.{command_line};
+ghost use Rattle.command_words.specs.Options.{command_line};
 ghost use Rattle.command_words.specs.OddWords.{is_odd};
 ghost use Rattle.command_words.specs.Shapes.{HasOptions, known_option, option_rule, options_app};
 ghost use Rattle.command_words.specs.declared.fault.CommandFault.TheVariants.{Usage, OutOfMemory};

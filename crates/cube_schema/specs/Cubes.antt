@@ -1,7 +1,7 @@
 -- The cubes of a schema. (Schema Guide, "Cube", "Measures", "Dimensions, Hierarchies, and Levels")
 use Rattle.std.specs.Prelude.{ℕ, List, length, Bool, not, Option, Some, None, Result, Ok, Err, bytes_eq}
 use Rattle.std.specs.List.{list_any}
-use Rattle.olap_meaning.specs.Commands.{aggregator_named}
+use Rattle.olap_meaning.specs.Texts.{aggregator_named}
 use Rattle.olap_meaning.specs.Results.{◌>>=◌}
 use Rattle.olap_meaning.specs.Whole.{has_use}
 use Rattle.olap_meaning.specs.declared.Aggregator.{Aggregator}

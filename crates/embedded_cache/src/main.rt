@@ -1,4 +1,5 @@
-//! A cache in a program of one's own: it is opened from the files of the working folder, and asked for the cells of a query.
+//! A cache in a program of one's own: it is opened from the files of the working folder and one that the program brings along,
+//! and asked for the cells of a query.
 #![tactic(auto)]
 
 ghost use Rattle.std.specs.Prelude.{◌≡◌, IfOk, IsTrue};
@@ -14,7 +15,7 @@ use line_session::Desk;
 use manager_desk::ManagerDesk;
 use mdx_reader::{Query, QueryFault, read_query};
 use olap_meaning::{Allowed, Cell, List, OutOfMemory, ValueId, plain_text};
-use outside::{Depot, FolderDepot};
+use outside::{Depot, DepotRefusal, Fetches, FolderDepot, noted};
 use segment_header::{Widener, Widening, plain_widener, widened_plainly};
 use std::alloc::{AllocError, Global};
 use std::marker::Brand;
@@ -22,6 +23,45 @@ use std::sync::ledger::{Blank, Ledger};
 use thiserror::Error;
 
 const SCHEMA: &str = "sales.json";
+
+// The most groups that the kept loads have after an answer.
+const BUDGET: u64 = 1_000_000;
+
+// The table of stores, which the program brings along.
+const STORES: &str = "store_id,state,city\n1,CA,LA\n2,CA,SF\n3,WA,Seattle\n";
+
+/// A depot of the program's own: the table of stores is here, and every other file comes from another depot. What came of each
+/// name is noted, which is all that a depot owes besides the files.
+#[derive(Drop)]
+struct Bundle<D> {
+    others: D,
+    fetches: Fetches,
+}
+
+impl<D: Depot> Depot for Bundle<D> {
+    ghost use Rattle.std.specs.Prelude.{None};
+
+    ghost answers = { λ d. d.fetches.answers };
+
+    ghost files = { λ _. None };
+
+    fn fetch(&mut self, alloc: Global, name: &str) -> Result<List<u8>, DepotRefusal> {
+        let came = if name == "store.csv" {
+            stores(alloc)
+        } else {
+            self.others.fetch(alloc, name)
+        };
+        noted(&mut self.fetches, name, came)
+    }
+}
+
+// The bytes of the table of stores.
+fn stores(alloc: Global) -> Result<List<u8>, DepotRefusal> {
+    match Vec::from_slice(alloc, STORES.as_bytes()) {
+        Ok(bytes) => Ok(List::from_vec(bytes)),
+        Err(_) => Err(DepotRefusal::OutOfMemory),
+    }
+}
 
 /// Why there is no answer.
 #[derive(Debug, Drop, Error)]
@@ -110,12 +150,15 @@ fn run<D: Depot, L: Ledger>(
     requires one { blank.parts ≡ 1 }
 {
     let mut steps: Steps<L> = Steps::new(blank);
-    let mut desk = ManagerDesk::new(open_cache(alloc, depot, SCHEMA, &mut steps)?);
+    let mut desk = ManagerDesk::new(open_cache(alloc, depot, SCHEMA, BUDGET, &mut steps)?);
     asked(alloc, &mut desk, widener, &mut steps)
 }
 
 fn main(rt: HostRuntime) -> anyhow::Result<()> {
-    let mut depot = FolderDepot::new(&rt);
+    let mut depot = Bundle {
+        others: FolderDepot::new(&rt),
+        fetches: Fetches::new(),
+    };
     let alloc = rt.alloc();
     let widen: Widening = Box::new(
         alloc,

@@ -112,20 +112,6 @@ impl Batch {
         self.values.len() as u32
     }
 
-    /// The bytes that the columns have room for, filled or not. No clause speaks of them: a contract sees rows, and
-    /// not how they are kept.
-    pub fn bytes(&self) -> u64 {
-        let leaves = self
-            .leaves
-            .capacity()
-            .saturating_mul(size_of::<LeafId>() as u64);
-        let values = self
-            .values
-            .capacity()
-            .saturating_mul(size_of::<Option<i64>>() as u64);
-        leaves.saturating_add(values)
-    }
-
     /// All rows, for a step each. This is the one way to a row.
     pub fn read<L: Ledger>(&self, steps: &mut Steps<L>) -> Piece<'_>
         ensures rows { result ≡ self.now }

@@ -48,8 +48,8 @@ impl CellSources {
         }
     }
 
-    /// Makes just the room for this many cells more, with this many values together. Adding them then takes memory only
-    /// where a cell has other loads, or other columns, cube and measure, than all before it.
+    /// Asks for just the room for this many cells more, with this many values together, so that adding them does not grow
+    /// the lists step by step. No clause speaks of room: a cell that is added may be refused for memory all the same.
     pub fn reserve(&mut self, cells: usize, values: usize) -> Result<(), OutOfMemory>
         ensures { self.new ≡ self.old }
     {

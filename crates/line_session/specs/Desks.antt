@@ -85,11 +85,10 @@ is_of_load (Done who load) = true
 is_of_load (Drop who load) = true
 is_of_load _ = false
 
--- an entry ends a load: it was delivered, or given up
-abbrev pub is_end : Entry → Bool
-is_end (Done who load) = true
-is_end (Drop who load) = true
-is_end _ = false
+-- an entry says that a load was given up
+abbrev pub is_drop : Entry → Bool
+is_drop (Drop who load) = true
+is_drop _ = false
 
 -- an entry is a Start, or says that a load was delivered
 abbrev pub is_start_or_done : Entry → Bool
@@ -97,11 +96,11 @@ is_start_or_done (Start load) = true
 is_start_or_done (Done who load) = true
 is_start_or_done _ = false
 
--- no load is started after one that was given up
-abbrev pub none_after_drops : List Entry → Bool
-none_after_drops [] = true
-none_after_drops (Drop who load ∷ entries) = list_all is_end entries
-none_after_drops (entry ∷ entries) = none_after_drops entries
+-- after a load that was given up, loads are given up alone: none is started, and none is delivered
+abbrev pub drops_are_last : List Entry → Bool
+drops_are_last [] = true
+drops_are_last (Drop who load ∷ entries) = list_all is_drop entries
+drops_are_last (entry ∷ entries) = drops_are_last entries
 
 -- a load is one that a look at some cells may start: that of one of their groups, with a header as may be allowed
 pub record MayBeStarted (allowing : Allowing) (cache : CacheOf) (who : Who) (cells : List Cell)
@@ -191,7 +190,7 @@ pub record HasAsked (allowing : Allowing) (before after : DeskOf) (cells : List 
   pub idle : IsIdle after
 
 -- cells were not answered: at most loads that they lack were started, for the seat's next call, and no load of the seat
--- flies; after one that was given up none was started
+-- flies; after one that was given up the rest were given up
 pub record HasNotAsked (allowing : Allowing) (before after : DeskOf)
     (cells : List Cell) : Type 0 where
   pub who : Who
@@ -201,7 +200,7 @@ pub record HasNotAsked (allowing : Allowing) (before after : DeskOf)
   pub goes_on : GoesOnBy before after more
   pub fronts : after.fronts ≡ before.fronts
   pub loads : AreLoadsFor allowing before.cache who cells more
-  pub given_up : none_after_drops (entries_of more before.seat) ≡ true
+  pub given_up : drops_are_last (entries_of more before.seat) ≡ true
   pub idle : IsIdle after
   pub alone : before.alone ≡ true → AreLoadsEnded allowing before.cache who cells more
 

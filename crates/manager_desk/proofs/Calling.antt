@@ -29,7 +29,7 @@ use Rattle.history_core.specs.Seats.{NoneFlies, is_of_seat, entries_of}
 use Rattle.history_core.specs.Shown.{cache_lines}
 use Rattle.load_costs.specs.Costs.{seat_costs, version_rows}
 use Rattle.installed_tables.specs.Installed.{groups_built, present_rows, present_version}
-use Rattle.line_session.specs.Desks.{AddsAnswer as Answered, AddsCall, AreLoadsFor, DeskOf, GoesOnBy, HasAppended, HasAsked, HasBuilt, HasFlushed, HasNotAsked, HasShown, costs_between, delivered_with, is_start_or_done, load_numbers, none_after_drops, with_more}
+use Rattle.line_session.specs.Desks.{AddsAnswer as Answered, AddsCall, AreLoadsFor, DeskOf, GoesOnBy, HasAppended, HasAsked, HasBuilt, HasFlushed, HasNotAsked, HasShown, costs_between, delivered_with, drops_are_last, is_start_or_done, load_numbers, with_more}
 use Rattle.line_session.proofs.Rows.{started_are}
 use Rattle.manager_desk.specs.Delivered.{cost_by}
 use Rattle.manager_desk.specs.Ends.{AddsAnswer, AddsEnded}
@@ -37,7 +37,7 @@ use Rattle.manager_desk.specs.Keeping.{IsDesk}
 use Rattle.manager_desk.proofs.Counting.{count_one}
 use Rattle.manager_desk.proofs.Joining.{parts_uncalled, same_cache}
 use Rattle.manager_desk.proofs.Seeing.{still_idle}
-use Rattle.manager_desk.proofs.Looks.{are_loads_for, look_parts, no_loads_for, none_behind}
+use Rattle.manager_desk.proofs.Looks.{are_loads_for, look_parts, no_loads_for}
 use Rattle.manager_desk.proofs.Own.{IsPartOf, delivered_all, dones_are_ends, own_entries, parts_all, parts_seat}
 
 -- a cache as a desk that seat 1 has alone
@@ -126,12 +126,6 @@ module _ (allowing : Allowing) (before : CacheOf) (who : Who) (cells : List Cell
     | inr some ↦ subst (λ (es : List Entry). AreLoadsFor allowing before who cells es) (sym some.4) (are_loads_for allowing before who cells some.0 some.1 some.2 some.3)
   ]
 
-  ended_behind : (after : CacheOf) (adds : AddsEnded allowing before after who cells) → none_after_drops adds.more ≡ true
-  ended_behind after adds = elim adds.ended [
-    | inl none ↦ ap none_after_drops none
-    | inr some ↦ ap none_after_drops some.4 ∙ none_behind who (loads_with before who cells some.0) (load_numbers before cells) some.2 some.3
-  ]
-
   -- cells that were not answered
   pub has_not_asked : (after : CacheOf) → NoneFlies after.entries → who.seat ≡ 1 → is_next_call before.entries who ≡ true → AddsEnded allowing before after who cells → HasNotAsked allowing (desk_of before) (desk_of after) cells
   has_not_asked after quiet seat next adds =
@@ -145,14 +139,14 @@ module _ (allowing : Allowing) (before : CacheOf) (who : Who) (cells : List Cell
         goes_on = goes_on before after adds.more adds.setting adds.entries own;
         fronts = refl;
         loads = ended_loads after adds;
-        given_up = ap none_after_drops (own_entries 1 adds.more own) ∙ ended_behind after adds;
+        given_up = ap drops_are_last (own_entries 1 adds.more own) ∙ adds.given_up;
         idle = λ j load at own. quiet j;
         alone = λ _. adds.ended;
       }
 
 -- where nothing was added, cells were not answered
 pub nothing_asked : (allowing : Allowing) (cache : CacheOf) (who : Who) (cells : List Cell) → NoneFlies cache.entries → who.seat ≡ 1 → is_next_call cache.entries who ≡ true → HasNotAsked allowing (desk_of cache) (desk_of cache) cells
-nothing_asked allowing cache who cells idle seat next = has_not_asked allowing cache who cells cache idle seat next (record { more = []; setting = refl; entries = sym (append-nil cache.entries); ended = inl refl })
+nothing_asked allowing cache who cells idle seat next = has_not_asked allowing cache who cells cache idle seat next (record { more = []; setting = refl; entries = sym (append-nil cache.entries); ended = inl refl; given_up = refl })
 
 -- calls below a number are below a greater one
 below_rises : (n m : ℕ) (entry : Entry) → n ≤ m → is_call_below n entry ≡ true → is_call_below m entry ≡ true

@@ -1,5 +1,6 @@
 -- Jobs that are out stay so, while one after another is ended.
 use Rattle.std.proofs.Common.{◌≡◌, refl, sym, ◌∙◌, ap, subst, arith, ℕ, zero, suc, ◌+◌, ◌<◌, ◌≤◌, length, List, [], ◌∷◌, ◌++◌, append_assoc, map, Bool, true, false, not, ◌==◌, inl, inr, None, All, is_some}
+use Rattle.std.specs.List.{list_all}
 use Rattle.std.specs.Prelude.{sum_by}
 use Rattle.std.proofs.lemmas.Bool.{and_parts, both_ways, false_from_ne_true, not-true, or_cases, or_from}
 use Rattle.std.proofs.lemmas.List.{append-nil, map_push}
@@ -7,7 +8,7 @@ use Rattle.std.proofs.lemmas.List.Elements.{All-cons, All-head, All-nil, All-tai
 use Rattle.std.proofs.lemmas.List.Sums.{sum_by_push}
 use Rattle.olap_meaning.specs.declared.tables.Setting.{Setting}
 use Rattle.olap_meaning.specs.Covering.{among}
-use Rattle.olap_meaning.specs.History.{Entry, ends, flying, started}
+use Rattle.olap_meaning.specs.History.{Agg, Answer, Append, Done, Drop, Entry, Evict, Flush, Saw, Start, ends, flying, started}
 use Rattle.olap_meaning.specs.Legal.{Legal}
 use Rattle.segment_load.specs.Loads.{JobOf, job_cost}
 use Rattle.history_core.specs.Cache.{CacheOf}
@@ -15,7 +16,7 @@ use Rattle.history_core.specs.Seats.{NoneFlies}
 use Rattle.cache_manager.specs.Jobs.{IsJobOf, apart}
 use Rattle.history_core.proofs.SeatFacts.{none_of_seat}
 use Rattle.cache_manager.specs.Laws.{JobsStay}
-use Rattle.line_session.specs.Desks.{with_more}
+use Rattle.line_session.specs.Desks.{drops_are_last, is_drop, with_more}
 use Rattle.manager_desk.specs.Ends.{AreEndsOf, AreOut, EndsJobs, done_of, end_of}
 use Rattle.manager_desk.specs.Keeping.{IsCount}
 use Rattle.manager_desk.proofs.Joining.{same_cache}
@@ -73,12 +74,44 @@ ends_push [] (e ∷ es) job b are = absurd are
 ends_push (j ∷ js) [] job b are = absurd are
 ends_push (j ∷ js) (e ∷ es) job b are = (are.0, ends_push js es job b are.1)
 
--- one more job was ended
-ended_more : (before middle after : List Entry) (jobs : List JobOf) (job : JobOf) (b : Bool) → EndsJobs before middle jobs → after ≡ middle ++ end_of job b ∷ [] → EndsJobs before after (jobs ++ job ∷ [])
-ended_more before middle after jobs job b so_far end = record {
-  ends = so_far.ends ++ end_of job b ∷ [];
-  are = ends_push jobs so_far.ends job b so_far.are;
-  entries = end ∙ ap (λ (es : List Entry). es ++ end_of job b ∷ []) so_far.entries ∙ append_assoc before so_far.ends (end_of job b ∷ []);
+-- one more that is given up stands last
+drop_last : (es : List Entry) (job : JobOf) → drops_are_last es ≡ true → drops_are_last (es ++ end_of job false ∷ []) ≡ true
+drop_last [] job last = refl
+drop_last (Drop who load ∷ es) job last = all_drops es last
+  where
+    all_drops : (es : List Entry) → list_all is_drop es ≡ true → list_all is_drop (es ++ end_of job false ∷ []) ≡ true
+    all_drops [] all = refl
+    all_drops (e ∷ es) all = let parts = and_parts (is_drop e) (list_all is_drop es) all in rw (parts.0) (all_drops es parts.1)
+drop_last (Start load ∷ es) job last = drop_last es job last
+drop_last (Done who load ∷ es) job last = drop_last es job last
+drop_last (Append who cube version rows ∷ es) job last = drop_last es job last
+drop_last (Flush who region ∷ es) job last = drop_last es job last
+drop_last (Answer who sources ∷ es) job last = drop_last es job last
+drop_last (Evict load ∷ es) job last = drop_last es job last
+drop_last (Agg who table version ∷ es) job last = drop_last es job last
+drop_last (Saw who ∷ es) job last = drop_last es job last
+
+-- where all are delivered, none is given up
+dones_last : (jobs : List JobOf) → drops_are_last (map done_of jobs) ≡ true
+dones_last [] = refl
+dones_last (job ∷ jobs) = dones_last jobs
+
+dones_end : (jobs : List JobOf) → AreEndsOf jobs (map done_of jobs)
+dones_end [] = tt
+dones_end (job ∷ jobs) = (inl refl, dones_end jobs)
+
+all_done : (before after : List Entry) (jobs : List JobOf) → after ≡ before ++ map done_of jobs → EndsJobs before after jobs
+all_done before after jobs is = record { ends = map done_of jobs; are = dones_end jobs; given_up = dones_last jobs; entries = is }
+
+-- one more job was given up, or all so far are delivered, and one more is
+ended_more :
+    (before middle after : List Entry) (jobs : List JobOf) (job : JobOf) (b : Bool) → EndsJobs before middle jobs → after ≡ middle ++ end_of job b ∷ [] → (b ≡ true → after ≡ before ++ map done_of (jobs ++ job ∷ [])) → EndsJobs before after (jobs ++ job ∷ [])
+ended_more before middle after jobs job true so_far end delivered = all_done before after (jobs ++ job ∷ []) (delivered refl)
+ended_more before middle after jobs job false so_far end delivered = record {
+  ends = so_far.ends ++ end_of job false ∷ [];
+  are = ends_push jobs so_far.ends job false so_far.are;
+  given_up = drop_last so_far.ends job so_far.given_up;
+  entries = end ∙ ap (λ (es : List Entry). es ++ end_of job false ∷ []) so_far.entries ∙ append_assoc before so_far.ends (end_of job false ∷ []);
 }
 
 -- some jobs are ended, one after another: those so far are ended, and the others are out
@@ -109,7 +142,7 @@ none_ended before jobs first read are seats different complete count = record {
   seats = seats;
   different = different;
   complete = complete;
-  ended = record { ends = []; are = tt; entries = sym (append-nil before.entries) };
+  ended = record { ends = []; are = tt; given_up = refl; entries = sym (append-nil before.entries) };
   delivered = λ run. sym (append-nil before.entries);
   count = count;
   cost = λ run. omega arith;
@@ -125,6 +158,12 @@ pub one_ended :
 one_ended law before now after jobs rest job run b first steps stepped read counted so_far same grown legal count failed cost least most =
     let out = rest_out law now after job rest b same grown legal so_far.are so_far.different so_far.complete in
     let sums = sum_by_push job_cost so_far.done job in
+    let delivered : b ≡ true → after.entries ≡ before.entries ++ map done_of (so_far.done ++ job ∷ []) = λ all.
+    grown
+    ∙ ap (λ (c : Bool). now.entries ++ end_of job c ∷ []) all
+    ∙ ap (λ (es : List Entry). es ++ done_of job ∷ []) (so_far.delivered (failed all))
+    ∙ append_assoc before.entries (map done_of so_far.done) (done_of job ∷ [])
+    ∙ ap (λ (es : List Entry). before.entries ++ es) (sym (map_push done_of so_far.done job)) in
     record {
       done = so_far.done ++ job ∷ [];
       whole = so_far.whole ∙ sym (append_assoc so_far.done (job ∷ []) rest);
@@ -133,13 +172,8 @@ one_ended law before now after jobs rest job run b first steps stepped read coun
       seats = All-tail (λ j. j.who.seat ≡ 1) job rest so_far.seats;
       different = out.1;
       complete = out.2;
-      ended = ended_more before.entries now.entries after.entries so_far.done job b so_far.ended grown;
-      delivered = λ all.
-          grown
-          ∙ ap (λ (c : Bool). now.entries ++ end_of job c ∷ []) all
-          ∙ ap (λ (es : List Entry). es ++ done_of job ∷ []) (so_far.delivered (failed all))
-          ∙ append_assoc before.entries (map done_of so_far.done) (done_of job ∷ [])
-          ∙ ap (λ (es : List Entry). before.entries ++ es) (sym (map_push done_of so_far.done job));
+      ended = ended_more before.entries now.entries after.entries so_far.done job b so_far.ended grown delivered;
+      delivered = delivered;
       count = subst (λ (s : Setting). IsCount s.catalog after.entries counted) so_far.setting count;
       cost = λ all. let here = cost all in let before_it = so_far.cost (failed all) in omega (arith, here, before_it, sums);
       at_least = omega (arith, least, so_far.at_least);

@@ -26,7 +26,7 @@ use Rattle.cache_manager.specs.Jobs.{IsJobOf}
 use Rattle.cache_manager.specs.Laws.{DeliveredLooksAreReady}
 use Rattle.line_session.specs.Desks.{AreEnds, AreHeadersOf, delivered_with, is_of_load, load_numbers, costs_after, with_more}
 use Rattle.manager_desk.specs.Ends.{AddsAnswer, AddsEnded, AreOut, EndsJobs, done_of}
-use Rattle.manager_desk.proofs.Looks.{look_parts}
+use Rattle.manager_desk.proofs.Looks.{look_parts, starts_first}
 use Rattle.manager_desk.proofs.Counting.{count_answer}
 use Rattle.olap_meaning.proofs.Pushes.{flying_back}
 use Rattle.manager_desk.proofs.Seeing.{all_evictions, idle_on, later_unevicted, no_loads_awaited, numbers_above, serving_headers}
@@ -229,6 +229,7 @@ module _ (allowing : Allowing) (before middle : CacheOf) (who : Who) (cells : Li
     setting = same ∙ look.setting;
     entries = ended_added after.entries ended;
     ended = inr (headers, look.allowed, ended.ends, ended_are after.entries ended, refl);
+    given_up = starts_first (loads_with before who cells headers) ended.ends ended.given_up;
   }
 
   -- the next call stays the next

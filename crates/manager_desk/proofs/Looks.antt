@@ -15,7 +15,7 @@ use Rattle.history_core.specs.Cache.{CacheOf}
 use Rattle.history_core.specs.Groups.{IsHeaderFor, alike, firsts, load_with, loads_with, wanted_of}
 use Rattle.segment_header.specs.Widening.{Allowing}
 use Rattle.history_core.specs.Seats.{actor, entries_of}
-use Rattle.line_session.specs.Desks.{AreEnds, AreHeadersOf, AreLoadsFor, IsLoadOfLook, IsOfLook, MayBeStarted, is_end, is_of_load, load_numbers, none_after_drops, with_more}
+use Rattle.line_session.specs.Desks.{AreEnds, AreHeadersOf, AreLoadsFor, IsLoadOfLook, IsOfLook, MayBeStarted, drops_are_last, is_of_load, load_numbers, with_more}
 use Rattle.manager_desk.proofs.Lists.{get_before, get_behind}
 use Rattle.olap_meaning.proofs.Pushes.{load_within}
 use Rattle.manager_desk.proofs.Own.{IsPartOf, ends_parts, ends_start_none, loads_own, own_entries, parts_all, parts_seat, starts_parts}
@@ -30,28 +30,10 @@ start_on [] ends k load at = absurd (cc)
 start_on (l ∷ ls) ends zero load at = cc
 start_on (l ∷ ls) ends (suc k) load at = start_on ls ends k load at
 
--- after Starts and then ends no load is started once one was given up
-ends_all : (who : Who) (js : List ℕ) (es : List Entry) → AreEnds who js es → list_all is_end es ≡ true
-ends_all who [] [] are = refl
-ends_all who [] (e ∷ es) are = absurd are
-ends_all who (j ∷ js) [] are = absurd are
-ends_all who (j ∷ js) (e ∷ es) are = elim are.0 [
-  | inl done ↦ rw done (ends_all who js es are.1)
-  | inr drop ↦ rw drop (ends_all who js es are.1)
-]
-
-ends_behind : (who : Who) (js : List ℕ) (es : List Entry) → AreEnds who js es → none_after_drops es ≡ true
-ends_behind who [] [] are = refl
-ends_behind who [] (e ∷ es) are = absurd are
-ends_behind who (j ∷ js) [] are = absurd are
-ends_behind who (j ∷ js) (e ∷ es) are = elim are.0 [
-  | inl done ↦ rw done (ends_behind who js es are.1)
-  | inr drop ↦ rw drop (ends_all who js es are.1)
-]
-
-pub none_behind : (who : Who) (loads : List Load) (js : List ℕ) (ends : List Entry) → AreEnds who js ends → none_after_drops (map Start loads ++ ends) ≡ true
-none_behind who [] js ends are = ends_behind who js ends are
-none_behind who (load ∷ loads) js ends are = none_behind who loads js ends are
+-- Starts stand before all that is given up
+pub starts_first : (loads : List Load) (ends : List Entry) → drops_are_last ends ≡ true → drops_are_last (map Start loads ++ ends) ≡ true
+starts_first [] ends last = last
+starts_first (load ∷ loads) ends last = starts_first loads ends last
 
 -- each load of a look is one that the look may start
 may_be_started :

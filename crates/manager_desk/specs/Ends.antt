@@ -10,7 +10,7 @@ use Rattle.segment_load.specs.Loads.{JobOf}
 use Rattle.history_core.specs.Answers.{IsAnswer}
 use Rattle.history_core.specs.Cache.{CacheOf}
 use Rattle.history_core.specs.declared.answers.Answer.{Answer as Told}
-use Rattle.line_session.specs.Desks.{AreHeadersOf, AreLoadsEnded, delivered_with, with_more}
+use Rattle.line_session.specs.Desks.{AreHeadersOf, AreLoadsEnded, delivered_with, drops_are_last, with_more}
 use Rattle.segment_header.specs.Widening.{Allowing}
 
 -- the entry that ends a job: its load was delivered, or given up
@@ -34,10 +34,11 @@ AreEndsOf (job ∷ jobs) (entry ∷ entries) =
     ((entry ≡ Done job.who job.load) ⊎ (entry ≡ Drop job.who job.load)) × AreEndsOf jobs entries
 AreEndsOf jobs entries = ⊥
 
--- a history goes on by the ends of some jobs, and by nothing else
+-- a history goes on by the ends of some jobs, and by nothing else; after one that was given up the rest are
 pub record EndsJobs (before after : List Entry) (jobs : List JobOf) : Type 0 where
   pub ends : List Entry
   pub are : AreEndsOf jobs ends
+  pub given_up : drops_are_last ends ≡ true
   pub entries : after ≡ before ++ ends
 
 -- the loads that some cells lack were delivered, and then the cells were answered, with the sources that the answer
@@ -54,10 +55,11 @@ pub record AddsAnswer (allowing : Allowing) (before after : CacheOf) (who : Who)
   pub within : kept_groups after.setting.catalog after.entries ≤ after.setting.budget
   pub answered : IsAnswer (with_more before (delivered_with before who cells headers)) cells answer
 
--- nothing was added, or the loads that some cells lack were started and ended
+-- nothing was added, or the loads that some cells lack were started and ended; after one that was given up the rest were
 pub record AddsEnded (allowing : Allowing) (before after : CacheOf) (who : Who)
     (cells : List Cell) : Type 0 where
   pub more : List Entry
   pub setting : after.setting ≡ before.setting
   pub entries : after.entries ≡ before.entries ++ more
   pub ended : AreLoadsEnded allowing before who cells more
+  pub given_up : drops_are_last more ≡ true

@@ -1,5 +1,5 @@
--- What parsing a text of decimal digits, perhaps after a minus sign, gives: the number that it spells, where that is in bounds.
-use Rattle.std.proofs.Common.{◌≡◌, ◌<◌, ℕ, ℤ, true, List, [], ◌∷◌, Some, Result, Ok, Err, option_map, nat_lt, length, refl, ap, arith, inl, inr}
+-- What parsing a text of decimal digits gives: the number that it spells, where that is in bounds.
+use Rattle.std.proofs.Common.{◌≡◌, ◌<◌, ℕ, true, List, [], ◌∷◌, Some, Result, Ok, Err, option_map, nat_lt, length, refl, ap, arith, inl, inr}
 use Rattle.std.proofs.lemmas.Bool.{cases_Bool}
 use Rattle.std.proofs.lemmas.Bool.Decides.{nat_tests}
 use Rattle.std.proofs.lemmas.Str.Parse.{IsNumeralModel, numerals_by_value, tells_all_ascii_digits}
@@ -12,7 +12,7 @@ pub all_digits_model : IsNumeralModel (λ ds. all_ascii_digits ds ≡ true) (dig
 all_digits_model = numerals_by_value _ tells_all_ascii_digits
 
 -- parsing digits gives what they spell below the limit
-pub spelled : {E : Type 0} (r : Result ℤ E) (limit : ℕ) (f : ℕ → ℤ) (ds : List ℕ) → OkIff r ((all_ascii_digits ds ≡ true) × (0 < length ds) × (digits_value 10 ds < limit)) (f (digits_value 10 ds))
+pub spelled : {A E : Type 0} (r : Result A E) (limit : ℕ) (f : ℕ → A) (ds : List ℕ) → OkIff r ((all_ascii_digits ds ≡ true) × (0 < length ds) × (digits_value 10 ds < limit)) (f (digits_value 10 ds))
     → result_ok r ≡ option_map f (digits_below limit ds)
 spelled (Ok x) limit f [] h = absurd (omega (arith, h.0.1))
 spelled (Err e) limit f [] h = refl
@@ -27,6 +27,6 @@ spelled (Err e) limit f (d ∷ ds) h = elim (cases_Bool (all_ascii_digits (d ∷
   ]
 ]
 
-pub same_told : {E : Type 0} (r : Result ℤ E) (P Q : Type 0) (v : ℤ) → (P → Q) → (Q → P) → OkIff r P v → OkIff r Q v
+pub same_told : {A E : Type 0} (r : Result A E) (P Q : Type 0) (v : A) → (P → Q) → (Q → P) → OkIff r P v → OkIff r Q v
 same_told (Ok x) P Q v to from h = (to h.0, h.1)
 same_told (Err e) P Q v to from h = λ q. h (from q)

@@ -5,8 +5,6 @@ pub mod FullNames
 pub mod Limits
 pub mod Records
 pub mod FileQuery
-pub mod Options
-pub mod Commands
 pub mod Catalog
 pub mod MemberOf
 pub mod Schema

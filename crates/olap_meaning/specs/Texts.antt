@@ -1,8 +1,10 @@
 -- How values and names are written. A text is the list of its bytes.
-use Rattle.std.specs.Prelude.{ℕ, ◌++◌, ◌/◌, ◌%◌, ◌==◌, ◌≤◌, ◌^◌, List, [], ◌∷◌, ℤ, pos, negsuc, codes, flat_map, encode_utf8, if◌then◌else◌}
+use Rattle.std.specs.Prelude.{ℕ, ◌++◌, ◌/◌, ◌%◌, ◌==◌, ◌≤◌, ◌^◌, List, [], ◌∷◌, Option, Some, None, ℤ, pos, negsuc, bytes_eq, codes, flat_map, encode_utf8, if◌then◌else◌}
 use Rattle.std.specs.Fmt.{decimal, signed_decimal}
 use Rattle.std.specs.Str.{chars}
 use Rattle.std.specs.Int.RustNames.{unsigned_abs}
+use Rattle.olap_meaning.specs.declared.Aggregator.{Aggregator}
+use Rattle.olap_meaning.specs.declared.Aggregator.TheVariants.{Sum, Count, Min, Max, Avg, DistinctCount}
 use Rattle.olap_meaning.specs.declared.CellValue.{CellValue}
 use Rattle.olap_meaning.specs.declared.CellValue.TheVariants.{Empty, Whole, Hundredths}
 use Rattle.olap_meaning.specs.declared.texts.Written.{Written}
@@ -57,3 +59,14 @@ named_line label name = line (label ++ codes " " ++ name_text name)
 abbrev pub text_of : Written → List ℕ
 text_of (Fixed text) = text.now
 text_of (Made text) = text
+
+-- the aggregator of a name, as schemas and command lines spell it
+abbrev pub aggregator_named : List ℕ → Option Aggregator
+aggregator_named name =
+    if bytes_eq name (codes "sum") then Some Sum
+    else if bytes_eq name (codes "count") then Some Count
+    else if bytes_eq name (codes "min") then Some Min
+    else if bytes_eq name (codes "max") then Some Max
+    else if bytes_eq name (codes "avg") then Some Avg
+    else if bytes_eq name (codes "distinct-count") then Some DistinctCount
+    else None

@@ -61,7 +61,7 @@ pub enum Aggregator {
 
 impl Aggregator {
     ghost use Rattle.std.specs.Prelude.{◌≡◌};
-    ghost use Rattle.olap_meaning.specs.Commands.{aggregator_named};
+    ghost use Rattle.olap_meaning.specs.Texts.{aggregator_named};
 
     /// The aggregator of a name, as schemas and command lines spell it.
     pub fn named(name: &str) -> Option<Aggregator>

@@ -2,7 +2,7 @@
 use Rattle.std.proofs.Common.{◌≡◌, ◌≢◌, refl, sym, ◌∙◌, ap, subst, ℕ, List, Option, Some, None, IsSome, inl, inr, [], append-nil}
 use Rattle.std.specs.Prelude.{Err, IfSome}
 use Rattle.olap_meaning.specs.declared.tables.Setting.{Setting}
-use Rattle.olap_meaning.specs.Commands.{Command, Cell, Run}
+use Rattle.command_words.specs.Commands.{Command, Cell, Run}
 use Rattle.olap_meaning.specs.History.{Entry}
 use Rattle.outside.specs.Fetched.{Fetched}
 use Rattle.outside.specs.Told.{Files}
@@ -13,9 +13,10 @@ use Rattle.cache_opening.specs.declared.fault.OpenFault.TheVariants as fault
 use Rattle.cache_opening.proofs.LeadFacts.{none_theirs}
 use Rattle.history_core.specs.History.{HistoryOf}
 use Rattle.history_core.specs.Cache.{CacheOf}
+use Rattle.line_session.specs.Desks.{GoesOn}
 use Rattle.line_session.specs.Tools.{ToolsOf}
 use Rattle.olap_server.specs.Asked.{IsAsked, MayLackMemory}
-use Rattle.olap_server.specs.Run.{Around, AskedTells, EndsRun, IsCutOff, IsLastLine, IsTold, OpeningTells, SayTells, ServesDesk, Tells, cache_of}
+use Rattle.olap_server.specs.Run.{Around, AskedTells, BeginsWith, EndsRun, IsCutOff, IsLastLine, IsTold, OpeningTells, SayTells, ServesDesk, Tells, cache_of, desk_over}
 use Rattle.olap_server.specs.Said.{Said, no_memory, told_opening}
 use Rattle.olap_server.specs.declared.status.Status.{Status}
 use Rattle.olap_server.specs.declared.status.Status.TheVariants.{Sink}
@@ -33,6 +34,15 @@ pub ends_run : (tools : ToolsOf) (files : Option Files) (opened after : CacheOf)
     → ServesDesk tools files opened after start finish status read → EndsRun tools files opened history start finish status read
 ends_run tools files opened after history start finish status read same entries serves = subst (λ (k : CacheOf). ServesDesk tools files opened k start finish status read) (sym (cache_is history after same entries)) serves
 
+-- a history begins with that of the cache that its session has begun with
+pub begins_with : (opened after : CacheOf) (history : HistoryOf) → history.setting ≡ after.setting → history.entries ≡ after.entries → GoesOn (desk_over opened) (desk_over after) → BeginsWith opened history
+begins_with opened after history same entries (more, goes_on) = record {
+  added = more;
+  setting = same ∙ ap (λ (k : CacheOf). k.setting) goes_on.cache;
+  entries = entries ∙ ap (λ (k : CacheOf). k.entries) goes_on.cache;
+  own = goes_on.own refl;
+}
+
 -- there was no memory to begin
 pub has_not_begun :
     (tools : ToolsOf) (files : Option Files) (opened after : CacheOf) (start finish : Around) (status : Status) (said : Said) → after ≡ opened → said ≡ no_memory → IsLastLine said.status said.text start.talk finish.talk status → finish.answers ≡ start.answers → finish.left ≡ start.left
@@ -45,6 +55,11 @@ has_not_begun tools files opened after start finish status said unserved is last
       unread = unread;
       none_read = refl;
     })
+
+-- what holds of a history by another thing that does
+pub where_history : (o : Option HistoryOf) (P Q : HistoryOf → Type 0) → ((history : HistoryOf) → P history → Q history) → IfSome o P → IfSome o Q
+where_history None P Q so first = tt
+where_history (Some history) P Q so first = so history first
 
 -- what holds of a history by two things that do
 pub of_history : (o : Option HistoryOf) (P Q R : HistoryOf → Type 0) → ((history : HistoryOf) → P history → Q history → R history) → IfSome o P → IfSome o Q → IfSome o R
@@ -75,7 +90,7 @@ opening_tells file files before after f said leads (inr (is, other)) = subst (λ
 asked_never : (command : Option Command) (files : Option Files) (before after : List Fetched) (text : List ℕ) → AskedTells command files before after Sink text → ⊥
 asked_never None files before after text h = absurd (cc (h.1))
 asked_never (Some (Cell command)) files before after text h = h
-asked_never (Some (Run file)) files before after text h = h
+asked_never (Some (Run command)) files before after text h = h
 
 -- what is told of words has a cause by what they ask for
 pub by_asked : (words : Words) (command : Option Command) (files : Option Files) (before after : List Fetched) (status : Status) (text : List ℕ) → IsAsked words command → AskedTells command files before after status text → Tells words files before after status text
@@ -90,7 +105,7 @@ by_memory (Read given) files answers (inl some) = inl (of _ some)
     of : (command : Option Command) → IsSome command → AskedTells command files answers answers no_memory.status no_memory.text
     of None some = absurd (cc some)
     of (Some (Cell command)) some = record { asked = inl refl; line_is = refl }
-    of (Some (Run file)) some = (fault.OutOfMemory, (λ e. absurd (cc e)), leads_nowhere files answers (opening_from file), refl)
+    of (Some (Run command)) some = (fault.OutOfMemory, (λ e. absurd (cc e)), leads_nowhere files answers (opening_from command.file), refl)
 by_memory (Read given) files answers (inr may) = inr (may, (refl, refl, refl))
 by_memory NotText files answers may = absurd may
 by_memory OutOfMemory files answers may = (refl, refl, refl)

@@ -2,7 +2,7 @@
 use Rattle.std.proofs.Common.{◌≡◌, ◌<◌, ◌+◌, ◌*◌, ◌/◌, ◌%◌, ◌∙◌, ◌++◌, ℕ, suc, true, List, [], ◌∷◌, Option, Some, None, map, length, drop, get_or, nat_eq, is_some, option_map, IsSome, refl, sym, ap, arith, append_assoc, append-nil}
 use Rattle.std.proofs.lemmas.Bool.{eqb-true}
 use Rattle.std.proofs.lemmas.List.{drop_more, drop_all}
-use Rattle.olap_meaning.specs.Commands.{pairs_of}
+use Rattle.command_words.specs.Commands.{pairs_of}
 
 some_mapped : {A B : Type 0} (f : A → B) (o : Option A) → is_some o ≡ is_some (option_map f o)
 some_mapped f None = refl

@@ -1,8 +1,9 @@
 -- What the words of a command line ask for, as they were given.
 use Rattle.std.specs.Prelude.{ℕ, ◌≡◌, ◌⊎◌, ◌&&◌, ⊤, Bool, true, false, not, List, [], ◌∷◌, Option, None, IsSome, bytes_eq, codes, map, string_bytes}
 use Rattle.std.specs.List.{list_any}
-use Rattle.olap_meaning.specs.Commands.{Command, Cell, Run, command_of}
+use Rattle.command_words.specs.Commands.{Command, Cell, Run, command_of}
 use Rattle.command_words.specs.OddWords.{is_odd}
+use Rattle.command_words.specs.Shapes.{run_read}
 use Rattle.olap_server.specs.declared.command.Command.{Command as Read}
 use Rattle.olap_server.specs.declared.command.Command.TheVariants as read
 use Rattle.olap_server.specs.declared.words.Words.{Words}
@@ -11,7 +12,7 @@ use Rattle.olap_server.specs.declared.words.Words.TheVariants as words
 -- what a command that was read asks for
 abbrev pub asked : Read → Command
 asked (read.Cell command) = Cell command
-asked (read.Run file) = Run file.now
+asked (read.Run options) = Run (run_read options)
 
 -- what words ask for, which were given so: those that are no text are no command line
 abbrev pub IsAsked : Words → Option Command → Type 0

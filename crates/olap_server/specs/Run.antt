@@ -1,12 +1,14 @@
 -- What a run of the command line tells, and why.
-use Rattle.std.specs.Prelude.{◌≡◌, ◌≢◌, ◌≤◌, ◌+◌, ◌⊎◌, ◌++◌, ℕ, List, [], ◌∷◌, Option, Some, None, Result, Ok, Err, IfSome, length, map, string_bytes, true}
+use Rattle.std.specs.Prelude.{◌≡◌, ◌≢◌, ◌≤◌, ◌+◌, ◌⊎◌, ◌||◌, ◌++◌, ℕ, List, [], ◌∷◌, Option, Some, None, Result, Ok, Err, IfSome, length, map, string_bytes, true}
+use Rattle.std.specs.List.{list_all}
 use Rattle.csv_records.specs.Files.{file_records}
 use Rattle.history_core.specs.History.{HistoryOf}
 use Rattle.history_core.specs.Cache.{CacheOf}
+use Rattle.history_core.specs.Seats.{is_of_seat}
 use Rattle.cache_opening.specs.declared.fault.OpenFault.{OpenFault}
 use Rattle.cache_opening.specs.declared.fault.OpenFault.TheVariants as fault
 use Rattle.cache_opening.specs.Asking.{Leads}
-use Rattle.cache_opening.specs.Opening.{AddsFewSteps, IsOpened, opening_from}
+use Rattle.cache_opening.specs.Opening.{AddsFewSteps, IsOpened, opening_from, rows_checked}
 use Rattle.line_session.specs.declared.end.SessionEnd.{SessionEnd}
 use Rattle.line_session.specs.declared.end.SessionEnd.TheVariants as end
 use Rattle.line_session.specs.Desks.{DeskOf}
@@ -15,8 +17,10 @@ use Rattle.line_session.specs.Conversations.{HasConversed, fresh}
 use Rattle.line_session.specs.Tools.{ToolsOf}
 use Rattle.line_session.specs.Sessions.{IsServed, ReadsFew, all_read, byte_limit}
 use Rattle.fault_texts.specs.FaultTexts.{fact_line}
-use Rattle.olap_meaning.specs.Commands.{CellCommand, Command, Cell, Run, command_of}
+use Rattle.command_words.specs.Commands.{CellCommand, Command, RunCommand, Cell, Run, command_of}
+use Rattle.olap_meaning.specs.Budget.{is_eviction}
 use Rattle.olap_meaning.specs.FileQuery.{FileFault, answer_of}
+use Rattle.olap_meaning.specs.History.{Entry}
 use Rattle.olap_meaning.specs.Texts.{line, plain_text}
 use Rattle.olap_meaning.specs.declared.CellValue.{CellValue}
 use Rattle.outside.specs.Event.{Event, took}
@@ -145,8 +149,8 @@ AskedTells None files before after status text =
     (after ≡ before) × (status ≡ Usage) × (text ≡ usage_line)
 AskedTells (Some (Cell command)) files before after status text =
     CellTells command files before after status text
-AskedTells (Some (Run file)) files before after status text =
-    OpeningTells file files before after status text
+AskedTells (Some (Run command)) files before after status text =
+    OpeningTells command.file files before after status text
 
 -- nothing was asked for, and it is told that there was no memory
 abbrev pub TellsNoMemory : List Fetched → List Fetched → Status → List ℕ → Type 0
@@ -270,20 +274,27 @@ with_answers around answers = record around { answers = answers }
 abbrev pub AddsFew : Words → Option Files → List Fetched → List Fetched → ℕ → ℕ → Type 0
 AddsFew words files before after steps_before steps_after =
     (steps_after ≡ steps_before)
-    ⊎ ((file : List ℕ) × IsAsked words (Some (Run file))
-    × AddsFewSteps files before after file steps_before steps_after)
+    ⊎ ((command : RunCommand) × IsAsked words (Some (Run command))
+    × AddsFewSteps files before after command.file steps_before steps_after)
 
--- a run of the words opened a cache from their schema's file, by this many steps, and then served a session over it: the other
--- steps are what was read for its lines
+-- a history begins with that of an opened cache, under the same setting; each entry after it is of seat 1, or an eviction
+pub record BeginsWith (opened : CacheOf) (history : HistoryOf) : Type 0 where
+  pub added : List Entry
+  pub setting : history.setting ≡ opened.setting
+  pub entries : history.entries ≡ opened.entries ++ added
+  pub own : list_all (λ entry. is_eviction entry || is_of_seat 1 entry) added ≡ true
+
+-- a run of the words opened a cache from their schema's file with their budget, and then served a session over it, which added
+-- to its history. It costs the rows that the aggregate tables are checked over, and what was read for the lines
 pub record RunsSession (tools : ToolsOf) (words : Words) (files : Option Files) (start finish : Around)
-    (steps_before steps_after : ℕ) (history : HistoryOf) (status : Status) : Type 0 where
-  pub file : List ℕ
-  pub command : IsAsked words (Some (Run file))
+    (history : HistoryOf) (status : Status) : Type 0 where
+  pub command : RunCommand
+  pub asked : IsAsked words (Some (Run command))
   pub cache : CacheOf
   pub answers : List Fetched
-  pub middle : ℕ
-  pub rise : steps_before ≤ middle
-  pub opened : IsOpened files start.answers answers file cache steps_before middle
+  pub opened : IsOpened files start.answers answers command.file command.budget cache
+  pub begins : BeginsWith cache history
   pub read : ℕ
   pub ends : EndsRun tools files cache history (with_answers start answers) finish status read
-  pub steps : steps_after ≡ middle + read
+  pub cost : ℕ
+  pub cost_is : cost ≡ rows_checked opened.opening.catalog opened.opening.batches + read

@@ -1,6 +1,6 @@
 //! The words of the command `cell`.
 ghost use Rattle.std.specs.Prelude.{◌≡◌, Some, None, IfOk, OnErr, IsSome, is_some, map, string_bytes};
-ghost use Rattle.olap_meaning.specs.Commands.{cell_command, pairs_of};
+ghost use Rattle.command_words.specs.Commands.{cell_command, pairs_of};
 
 use olap_meaning::{Aggregator, List, OutOfMemory, Text};
 use std::alloc::Global;
@@ -16,7 +16,7 @@ pub(crate) struct CellCommand<'a> {
 }
 
 impl<'a> Model for CellCommand<'a> {
-    ghost use Rattle.olap_meaning.specs.Commands.{CellCommand as Command};
+    ghost use Rattle.command_words.specs.Commands.{CellCommand as Command};
 
     ghost Value = { Command };
 

@@ -1,11 +1,11 @@
 //! What the words of a command line ask for.
 ghost use Rattle.std.specs.Prelude.{◌≡◌, IfOk, OnErr, map, option_map, string_bytes};
-ghost use Rattle.olap_meaning.specs.Commands.{command_of};
+ghost use Rattle.command_words.specs.Commands.{command_of};
 ghost use Rattle.olap_server.specs.Asked.{IsAsked, MayLackMemory, MayWant, asked};
 
 use crate::cell_command::{CellCommand, read_cell};
 use crate::words::Words;
-use command_words::{CommandFault, read_run};
+use command_words::{CommandFault, RunOptions, read_run};
 use olap_meaning::OutOfMemory;
 use std::alloc::Global;
 
@@ -14,8 +14,8 @@ use std::alloc::Global;
 pub(crate) enum Command<'a> {
     /// One aggregate of a file.
     Cell(CellCommand<'a>),
-    /// A session over the cache that the schema of this file opens.
-    Run(&'a str),
+    /// A session over the cache that the schema of a file opens.
+    Run(RunOptions<'a>),
 }
 
 /// The command of the words; None where they are no command line.
@@ -30,7 +30,7 @@ fn read_command<'a>(alloc: Global, words: &'a [String]) -> Result<Option<Command
             None => Ok(None),
         },
         [first, rest @ ..] if first.as_str() == "run" => match read_run(alloc, rest) {
-            Ok(options) => Ok(Some(Command::Run(options.schema))),
+            Ok(options) => Ok(Some(Command::Run(options))),
             Err(CommandFault::Usage) => Ok(None),
             Err(CommandFault::OutOfMemory) => Err(OutOfMemory),
         },

@@ -17,7 +17,8 @@ use std::alloc::Global;
 use std::sync::ledger::{Blank, Ledger};
 use std::thread::Threads;
 
-/// Carries out a command line as `run` does, with a counter of steps of its own, which begins at 0.
+/// Carries out a command line as `run` does, with a counter of steps of its own. A program can not name the type of a counter
+/// that it has itself, and so calls this. What a run costs is said of it, and not what its counter has counted.
 pub fn carry_out<D: Depot, K: Link, L: Ledger>(
     rt: &(impl Threads + Sync),
     alloc: Global,
@@ -31,12 +32,12 @@ pub fn carry_out<D: Depot, K: Link, L: Ledger>(
     requires parts { blank.parts ≡ L.parts }
     requires one { blank.parts ≡ 1 }
     ensures session { IfSome result.history
-        (λ history. (steps : ℕ) × RunsSession
+        (λ history. RunsSession
         (tools_of (⟦<Formatter as GivesTexts>⟧.answers tools.now.formatter)
         (⟦<Widener as AllowsValues>⟧.answers tools.now.widener))
         words.now (D.files depot.old)
         (around_of D.answers K.talk K.left depot.old link.old)
-        (around_of D.answers K.talk K.left depot.new link.new) 0 steps history result.status) }
+        (around_of D.answers K.talk K.left depot.new link.new) history result.status) }
     ensures legal { IfSome result.history (λ history. Legal history.setting history.entries) }
     ensures told { result.history ≡ None → result.status ≢ Status.Sink
         → IsTold words.now (D.files depot.old)

@@ -2,8 +2,9 @@
 ghost use Rattle.std.specs.Prelude.{◌≡◌, ◌≢◌, ◌≤◌, ◌+◌, [], ℕ, IfSome, MatchResult, None};
 ghost use Rattle.history_core.specs.Seats.{NoneFlies, entries_of};
 ghost use Rattle.olap_meaning.specs.Legal.{Legal};
-ghost use Rattle.olap_server.specs.Run.{EndsRun, IsLast, SayTells, ServesDesk, around_of};
+ghost use Rattle.olap_server.specs.Run.{BeginsWith, EndsRun, IsLast, SayTells, ServesDesk, around_of, desk_over};
 ghost use Rattle.olap_server.specs.Said.{budget_line, no_memory};
+ghost use Rattle.line_session.specs.Desks.{GoesOn};
 ghost use Rattle.line_session.specs.Tools.{tools_of};
 
 use crate::reply::Reply;
@@ -101,6 +102,7 @@ fn serve_with<D: Depot, K: Link, L: Ledger>(
         (D.files depot.old) desk.old desk.new
         (around_of D.answers K.talk K.left depot.old link.old)
         (around_of D.answers K.talk K.left depot.new link.new) result read }
+    ensures grown { GoesOn (desk_over desk.old) (desk_over desk.new) }
 {
     match serve(alloc, desk, link, depot, catalog, tools, BYTE_LIMIT, steps) {
         SessionEnd::Memory => Reply::no_memory().say(link),
@@ -123,6 +125,7 @@ fn serve_desk<D: Depot, K: Link, L: Ledger>(
         (D.files depot.old) desk.old desk.new
         (around_of D.answers K.talk K.left depot.old link.old)
         (around_of D.answers K.talk K.left depot.new link.new) result read }
+    ensures grown { GoesOn (desk_over desk.old) (desk_over desk.new) }
 {
     match Arc::try_clone(desk.catalog()) {
         Ok(catalog) => serve_with(alloc, desk, &catalog, depot, link, tools, steps),
@@ -147,6 +150,7 @@ pub(crate) fn serve_opened<D: Depot, K: Link, L: Ledger>(
         (D.files depot.old) opened history
         (around_of D.answers K.talk K.left depot.old link.old)
         (around_of D.answers K.talk K.left depot.new link.new) result.status read) }
+    ensures begins { IfSome result.history (BeginsWith opened) }
     ensures there { result.history ≢ None }
     ensures legal { IfSome result.history (λ history. Legal history.setting history.entries) }
     ensures at_least { steps.old ≤ steps.new }

@@ -2,7 +2,7 @@
 ghost use Rattle.std.specs.Prelude.{◌≡◌, ◌≢◌, ◌⊎◌, ◌≤◌, ◌+◌, ℕ, IfOk, IfSome, List, None};
 ghost use Rattle.outside.specs.Fetched.{Fetched};
 ghost use Rattle.history_core.specs.Cache.{CacheOf};
-ghost use Rattle.cache_opening.specs.Opening.{AddsFewSteps, IsOpened};
+ghost use Rattle.cache_opening.specs.Opening.{AddsFewSteps, IsOpened, rows_checked};
 ghost use Rattle.csv_records.specs.Files.{file_records};
 ghost use Rattle.fault_texts.specs.FaultTexts.{fact_line};
 ghost use Rattle.olap_meaning.specs.Texts.{line, plain_text};
@@ -10,7 +10,7 @@ ghost use Rattle.olap_meaning.specs.FileQuery.{answer_of};
 ghost use Rattle.olap_meaning.specs.Legal.{Legal};
 ghost use Rattle.olap_server.specs.Faults.{refusal_text};
 ghost use Rattle.olap_server.specs.Said.{IsSaid, Said, memory_line, no_memory};
-ghost use Rattle.olap_server.specs.Run.{AddsFew, AnswerTells, CellTells, EndsRun, IsCutOff, IsLastLine, IsTold, OpeningTells, RunsSession, around_of, with_answers};
+ghost use Rattle.olap_server.specs.Run.{AddsFew, AnswerTells, BeginsWith, CellTells, EndsRun, IsCutOff, IsLastLine, IsTold, OpeningTells, RunsSession, around_of, with_answers};
 ghost use Rattle.line_session.specs.Tools.{tools_of};
 
 use crate::cell::cell_of_csv;
@@ -22,6 +22,7 @@ use crate::sessions::{Ended, reply_to_opening, serve_opened};
 use crate::status::Status;
 use crate::words::Words;
 use cache_opening::open_cache;
+use command_words::RunOptions;
 use fact_versions::Steps;
 use fault_texts::fact_line;
 use line_session::Tools;
@@ -48,14 +49,15 @@ pub fn run<D: Depot, K: Link, L: Ledger>(
     tools: &Tools,
     steps: &mut Steps<L>,
 ) -> Ended
-    // Where a cache was opened, a session was served over it.
-    ensures session { IfSome result.history (λ history. RunsSession
+    // Where a cache was opened, a session was served over it, and the history is the opening's entries and then what the
+    // session added. The steps that are added are what the run costs.
+    ensures session { IfSome result.history (λ history. (session : RunsSession
         (tools_of (⟦<Formatter as GivesTexts>⟧.answers tools.now.formatter)
         (⟦<Widener as AllowsValues>⟧.answers tools.now.widener))
         words.now (D.files depot.old)
         (around_of D.answers K.talk K.left depot.old link.old)
         (around_of D.answers K.talk K.left depot.new link.new)
-        steps.old steps.new history result.status) }
+        history result.status) × (steps.new ≡ steps.old + session.cost)) }
     ensures legal { IfSome result.history (λ history. Legal history.setting history.entries) }
 
     // Where none was, the status has its cause, and just its text was sent.
@@ -77,7 +79,7 @@ pub fn run<D: Depot, K: Link, L: Ledger>(
     ensures at_least { steps.old ≤ steps.new }
 {
     match read_words(alloc, words) {
-        Ok(Some(Command::Run(file))) => run_session(alloc, file, depot, link, tools, steps),
+        Ok(Some(Command::Run(options))) => run_session(alloc, &options, depot, link, tools, steps),
         Ok(Some(Command::Cell(command))) => {
             let reply = reply_to_command(rt, alloc, &command, depot);
             without_cache(link, &reply)
@@ -107,10 +109,10 @@ fn without_cache<K: Link>(link: &mut K, reply: &Reply) -> Ended
     }
 }
 
-// The command `run`, by its schema's file.
+// The command `run`, by its options.
 fn run_session<D: Depot, K: Link, L: Ledger>(
     alloc: Global,
-    file: &str,
+    options: &RunOptions<'_>,
     depot: &mut D,
     link: &mut K,
     tools: &Tools,
@@ -118,27 +120,29 @@ fn run_session<D: Depot, K: Link, L: Ledger>(
 ) -> Ended
     ensures session { IfSome result.history (λ history. (opened : CacheOf)
         × (answers : List Fetched)
-        × (middle : ℕ) × (read : ℕ) × (steps.old ≤ middle)
-        × IsOpened (D.files depot.old) (D.answers depot.old) answers file.now opened
-        steps.old middle
+        × (read : ℕ)
+        × (is : IsOpened (D.files depot.old) (D.answers depot.old) answers
+        options.now.schema.now options.now.budget opened)
+        × BeginsWith opened history
         × EndsRun (tools_of (⟦<Formatter as GivesTexts>⟧.answers tools.now.formatter)
         (⟦<Widener as AllowsValues>⟧.answers tools.now.widener))
         (D.files depot.old) opened history
         (with_answers (around_of D.answers K.talk K.left depot.old link.old) answers)
         (around_of D.answers K.talk K.left depot.new link.new) result.status read
-        × (steps.new ≡ middle + read)) }
+        × (steps.new ≡ steps.old
+        + (rows_checked is.opening.catalog is.opening.batches + read))) }
     ensures legal { IfSome result.history (λ history. Legal history.setting history.entries) }
     ensures told { result.history ≡ None → (said : Said)
-        × OpeningTells file.now (D.files depot.old) (D.answers depot.old) (D.answers depot.new)
+        × OpeningTells options.now.schema.now (D.files depot.old) (D.answers depot.old) (D.answers depot.new)
         said.status said.text
         × IsLastLine said.status said.text (K.talk link.old) (K.talk link.new) result.status }
     ensures unread { result.history ≡ None → K.left link.new ≡ K.left link.old }
     ensures few { result.history ≡ None
-        → AddsFewSteps (D.files depot.old) (D.answers depot.old) (D.answers depot.new) file.now
-        steps.old steps.new }
+        → AddsFewSteps (D.files depot.old) (D.answers depot.old) (D.answers depot.new)
+        options.now.schema.now steps.old steps.new }
     ensures at_least { steps.old ≤ steps.new }
 {
-    match open_cache(alloc, depot, file, steps) {
+    match open_cache(alloc, depot, options.schema, options.budget, steps) {
         Ok(manager) => serve_opened(alloc, manager, depot, link, tools, steps),
         Err(fault) => {
             let reply = reply_to_opening(alloc, &fault);

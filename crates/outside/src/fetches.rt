@@ -1,4 +1,5 @@
-//! What a depot was asked for, and what came. Only contracts see it; it takes no bytes.
+//! What a depot was asked for, and what came. Only contracts see it; it takes no bytes. Who writes a depot of his own keeps
+//! `Fetches` in it, and notes there what came of each name.
 ghost use Rattle.std.specs.Prelude.{◌≡◌, ◌++◌, ◌∷◌, [], List};
 ghost use Rattle.std.specs.Borrow.{ftrue};
 ghost use Rattle.outside.specs.Fetched.{Fetched, fetched_code};
@@ -26,23 +27,24 @@ pub struct Fetch<'a> {
 }
 
 impl Fetches {
-    pub(crate) fn new() -> Fetches
+    /// Nothing was asked for.
+    pub fn new() -> Fetches
         ensures { result.answers ≡ [] }
     {
         Fetches {}
     }
 
-    // The same, with one fetch more.
+    /// The same, with one fetch more.
     #[inline(always)]
-    pub(crate) fn and(&self, _fetch: &Fetch<'_>) -> Fetches
+    pub fn and(&self, _fetch: &Fetch<'_>) -> Fetches
         ensures { result.answers ≡ self.now.answers ++ fetched_of _fetch.now ∷ [] }
     {
         Fetches {}
     }
 }
 
-// Notes what came of a name.
-pub(crate) fn noted(
+/// Notes what came of a name, and gives it back.
+pub fn noted(
     fetches: &mut Fetches,
     name: &str,
     came: Result<List<u8>, DepotRefusal>,

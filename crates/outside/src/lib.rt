@@ -16,10 +16,10 @@ mod standard;
 mod talk;
 
 pub use depot::{Depot, DepotRefusal};
-pub use fetches::{Fetch, Fetches};
+pub use fetches::{Fetch, Fetches, noted};
 pub use link::{Link, Pair};
 pub use memory::{Calls, MemoryDepot, MemoryLink, MemorySink, MemorySource};
 pub use sink::{CutOff, Sink};
 pub use source::{Failed, Source};
 pub use standard::{FolderDepot, StdSink, StdSource};
-pub use talk::{Note, Talk};
+pub use talk::{Note, Talk, note_cut, note_read};

@@ -1,7 +1,8 @@
 //! What has passed between a program and an object outside. Only contracts see it; it takes no bytes.
 //!
-//! The objects of this crate alone can add to it, so a contract that ties an answer to what has passed refuses a body
-//! that makes it up.
+//! Who writes an object of his own keeps a `Talk` in it, and notes there what each call gave and took. Code that has the
+//! object only as a `Source`, a `Sink` or a `Link` can not add to its talk, so a contract that ties an answer to what has
+//! passed refuses a body that makes it up.
 ghost use Rattle.std.specs.Prelude.{◌≡◌, ◌++◌, ◌∷◌, [], ◌≤◌, List, length};
 ghost use Rattle.std.specs.Borrow.{ftrue};
 ghost use Rattle.outside.specs.Event.{Event, talk_code};
@@ -20,7 +21,8 @@ impl Model for Talk {
     ghost also_owns = { λ _. ftrue };
 }
 
-/// One thing that passes.
+/// One thing that passes: bytes that are given to the program, bytes that are taken from it, the end of what is given, or a
+/// failure of either.
 #[derive(Clone, Copy, Drop)]
 pub enum Note<'a> {
     Gave(&'a [u8]),
@@ -31,23 +33,24 @@ pub enum Note<'a> {
 }
 
 impl Talk {
-    pub(crate) fn new() -> Talk
+    /// Nothing has passed.
+    pub fn new() -> Talk
         ensures { result.events ≡ [] }
     {
         Talk {}
     }
 
-    // The same, with one thing more.
+    /// The same, with one thing more.
     #[inline(always)]
-    pub(crate) fn and(&self, _note: &Note<'_>) -> Talk
+    pub fn and(&self, _note: &Note<'_>) -> Talk
         ensures { result.events ≡ self.now.events ++ event_of _note.now ∷ [] }
     {
         Talk {}
     }
 }
 
-// Notes what a read gave.
-pub(crate) fn note_read(talk: &mut Talk, n: usize, piece: &[u8])
+/// Notes what a read gave: the first bytes of a piece, or the end where there are none.
+pub fn note_read(talk: &mut Talk, n: usize, piece: &[u8])
     requires { n ≤ length piece.now }
     ensures { talk.new.events ≡ talk.old.events ++ shown n piece.now }
 {
@@ -58,8 +61,8 @@ pub(crate) fn note_read(talk: &mut Talk, n: usize, piece: &[u8])
     }
 }
 
-// Notes what a write took that then failed.
-pub(crate) fn note_cut(talk: &mut Talk, n: usize, bytes: &[u8])
+/// Notes what a write took that then failed: the first of its bytes.
+pub fn note_cut(talk: &mut Talk, n: usize, bytes: &[u8])
     requires { n ≤ length bytes.now }
     ensures { talk.new.events ≡ talk.old.events ++ cut n bytes.now }
 {

@@ -1,3 +1,4 @@
 pub mod RiseFacts
 pub mod WideFacts
 pub mod MaskFacts
+pub mod SameFacts

@@ -1,5 +1,5 @@
 -- What a header is, and the rows that it allows.
-use Rattle.std.specs.Prelude.{ℕ, List, Bool, true, ◌==◌, ◌&&◌, length, map, nat_lt, not}
+use Rattle.std.specs.Prelude.{ℕ, ◌≡◌, List, Bool, true, ◌==◌, ◌&&◌, length, map, nat_lt, not}
 use Rattle.std.specs.List.{list_all, list_any, zip}
 use Rattle.olap_meaning.specs.declared.cells.Cell.{Cell}
 use Rattle.olap_meaning.specs.declared.cells.Header.{Header}
@@ -33,3 +33,8 @@ are_allowed header values =
 abbrev pub drops : Header → Cell → ℕ → Bool
 drops header cell column =
     list_any (λ own. own.0 == column) header.columns && not (names_column cell column)
+
+-- a header has a cell's columns, and no others
+abbrev pub HasColumnsOf : Header → Cell → Type 0
+HasColumnsOf header cell =
+    (column : ℕ) → list_any (λ own. own.0 == column) header.columns ≡ names_column cell column

@@ -3,6 +3,7 @@ ghost use Rattle.std.specs.Prelude.{◌≡◌, ◌==◌, ◌&&◌, IsTrue, lengt
 ghost use Rattle.std.specs.List.{list_any, list_all, zip};
 ghost use Rattle.olap_meaning.specs.Covering as covering;
 ghost use Rattle.segment_header.specs.Headers as headers;
+ghost use Rattle.segment_header.specs.Headers.{HasColumnsOf};
 
 use crate::{allows, allows_at, are_columns, names_column};
 use olap_meaning::{Allowed, Cell, ColumnId, Header, ValueId};
@@ -40,14 +41,19 @@ pub fn covers(header: &Header, cell: &Cell) -> bool
 /// takes no memory.
 pub fn same_columns(header: &Header, cell: &Cell) -> bool
     requires { IsTrue (headers.is_header header.now) }
-    ensures { result
+    ensures none_lacks { result
         ≡ list_all (λ column. covering.names_column cell.now column.0) header.now.columns }
+    ensures same { IsTrue result → IsTrue (covering.header_covers header.now cell.now)
+        → HasColumnsOf header.now cell.now }
 {
-    header
-        .columns
-        .as_slice()
-        .iter()
-        .all(|column| names_column(cell, column.0))
+    are_named(header.columns.as_slice(), cell)
+}
+
+// Whether a cell names each of these columns.
+fn are_named(columns: &[(ColumnId, Allowed)], cell: &Cell) -> bool
+    ensures { result ≡ list_all (λ column. covering.names_column cell.now column.0) columns.now }
+{
+    columns.iter().all(|column| names_column(cell, column.0))
 }
 
 fn has_column(columns: &[(ColumnId, Allowed)], column: ColumnId) -> bool

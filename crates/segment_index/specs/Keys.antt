@@ -32,7 +32,7 @@ cell_columns_key cell = columns_key cell.cube cell.measure (columns_of cell)
 abbrev pub header_columns_key : Header → ℕ
 header_columns_key header = columns_key header.cube header.measure (map (λ own. own.0) header.columns)
 
--- how many well-formed cells have just these columns, at allowed values: the product of the numbers of these. Here and below,
+-- how many cells have just these columns, at values that these allow: the product of the numbers of these. Here and below,
 -- sizes tell how many values each column has
 abbrev pub cell_count : (ℕ → ℕ) → List (ℕ × Allowed) → ℕ
 cell_count sizes [] = 1

@@ -46,6 +46,7 @@ impl Model for SegmentIndex {
 impl SegmentIndex {
     /// An index of no load, over a catalog. It takes no memory.
     pub fn new(alloc: Global, catalog: Arc<Catalog>) -> SegmentIndex
+        ensures catalog { result.catalog ≡ catalog.value }
         ensures loads { result.loads ≡ [] }
         ensures flushed { result.flushed ≡ [] }
     {

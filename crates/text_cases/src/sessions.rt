@@ -1,8 +1,9 @@
 //! Sessions over a desk. The head of the table names the formatter, the widener, how many rows the cubes may have, and the
 //! file of the schema. Over the cache, in which nothing has happened, each line is a session of its own: it asks by how many
 //! bytes may be lines, a space, and the bytes that come. What is said is how it ends, how much the loads have read in all by
-//! then, and what is sent.
-ghost use Rattle.std.specs.Prelude.{◌≡◌, ◌≤◌, [], IfOk, IsTrue};
+//! then, and what is sent. With the word `opened` in the place of a number of rows the cache is the one that the file opens.
+ghost use Rattle.std.specs.Prelude.{◌≡◌, ◌≤◌, [], IfOk, IfSome, IsTrue};
+ghost use Rattle.history_core.specs.Seats.{NoneFlies, entries_of};
 ghost use Rattle.olap_meaning.specs.Texts.{CanBeShown};
 ghost use Rattle.query_meaning.specs.Shown.{Shows};
 ghost use Rattle.segment_header.specs.Widening.{Serves, are_wanted};
@@ -14,7 +15,7 @@ use crate::tables::{compared, parted};
 use crate::widens::{Allows, allowed, allows_of};
 use anyhow::{Result, anyhow, bail};
 use cache_manager::Manager;
-use cache_opening::{BUDGET, open_cache};
+use cache_opening::open_cache;
 use fact_versions::Steps;
 use line_session::{SessionEnd, Tools, serve};
 use manager_desk::ManagerDesk;
@@ -28,6 +29,9 @@ use std::marker::Brand;
 use std::rt::Files;
 use std::sync::Arc;
 use std::sync::ledger::{Blank, Ledger};
+
+// The most groups that the kept loads have after an answer.
+const BUDGET: u64 = 1_000_000;
 
 fn no_memory(_fault: OutOfMemory) -> anyhow::Error {
     anyhow!("no memory")
@@ -45,9 +49,12 @@ fn opened<L: Ledger>(
     rt: &(impl Files + AllocGlobal),
     schema: &str,
     steps: &mut Steps<L>,
-) -> Result<Manager> {
+) -> Result<Manager>
+    ensures idle { IfOk result (λ manager. NoneFlies manager.entries) }
+    ensures unused { IfOk result (λ manager. entries_of manager.entries 1 ≡ []) }
+{
     let mut depot = FolderDepot::new(rt);
-    match open_cache(rt.alloc(), &mut depot, schema, steps) {
+    match open_cache(rt.alloc(), &mut depot, schema, BUDGET, steps) {
         Ok(manager) => Ok(manager),
         Err(_) => bail!("the cache was not opened"),
     }
@@ -83,17 +90,23 @@ fn desk_over(alloc: Global, catalog: Arc<Catalog>, row_limit: u32) -> Result<Man
     }
 }
 
-// A desk over a cache of a schema's catalog in which nothing has happened.
+// A desk over the cache that a schema's file opens; or, where a limit of rows is given, over one of its catalog in which nothing
+// has happened.
 fn desk_of<L: Ledger>(
     rt: &(impl Files + AllocGlobal),
     schema: &str,
-    row_limit: u32,
+    row_limit: Option<u32>,
     steps: &mut Steps<L>,
 ) -> Result<ManagerDesk>
-    requires { row_limit ≤ ROW_LIMIT }
+    requires { IfSome row_limit (λ limit. limit ≤ ROW_LIMIT) }
 {
-    let catalog = catalog_of(rt, schema, steps)?;
-    desk_over(rt.alloc(), catalog, row_limit)
+    match row_limit {
+        Some(limit) => {
+            let catalog = catalog_of(rt, schema, steps)?;
+            desk_over(rt.alloc(), catalog, limit)
+        }
+        None => Ok(ManagerDesk::new(opened(rt, schema, steps)?)),
+    }
 }
 
 // The most bytes that may be lines, and that are sent.
@@ -255,11 +268,11 @@ fn sessions_of(alloc: Global, table: &str, schema: &str, lines: &str) -> Result<
 fn tell_over<L: Ledger>(
     rt: &(impl Files + AllocGlobal + Print),
     sessions: &Sessions,
-    row_limit: u32,
+    row_limit: Option<u32>,
     tools: &Tools,
     blank: Blank,
 ) -> Result<bool>
-    requires rows { row_limit ≤ ROW_LIMIT }
+    requires rows { IfSome row_limit (λ limit. limit ≤ ROW_LIMIT) }
     requires name { blank.name ≡ L.name }
     requires parts { blank.parts ≡ L.parts }
     requires one { blank.parts ≡ 1 }
@@ -274,10 +287,10 @@ fn tell_over<L: Ledger>(
 fn tell_counted(
     rt: &(impl Files + AllocGlobal + Print),
     sessions: &Sessions,
-    row_limit: u32,
+    row_limit: Option<u32>,
     tools: &Tools,
 ) -> Result<bool>
-    requires { row_limit ≤ ROW_LIMIT }
+    requires { IfSome row_limit (λ limit. limit ≤ ROW_LIMIT) }
 {
     tell_over::<Brand>(rt, sessions, row_limit, tools, Blank::new(1))
 }
@@ -287,11 +300,11 @@ fn tell_with(
     rt: &(impl Files + AllocGlobal + Print),
     table: &str,
     schema: &str,
-    row_limit: u32,
+    row_limit: Option<u32>,
     tools: &Tools,
     lines: &str,
 ) -> Result<bool>
-    requires { row_limit ≤ ROW_LIMIT }
+    requires { IfSome row_limit (λ limit. limit ≤ ROW_LIMIT) }
 {
     let sessions = sessions_of(rt.alloc(), table, schema, lines)?;
     tell_counted(rt, &sessions, row_limit, tools)
@@ -303,11 +316,11 @@ fn tell_by(
     rt: &(impl Files + AllocGlobal + Print),
     table: &str,
     schema: &str,
-    row_limit: u32,
+    row_limit: Option<u32>,
     kinds: (Manner, Allows),
     lines: &str,
 ) -> Result<bool>
-    requires { row_limit ≤ ROW_LIMIT }
+    requires { IfSome row_limit (λ limit. limit ≤ ROW_LIMIT) }
 {
     let (alloc, (manner, allows)) = (rt.alloc(), kinds);
     let show: Showing = Box::new(
@@ -331,6 +344,16 @@ fn tell_by(
     tell_with(rt, table, schema, row_limit, &tools, lines)
 }
 
+// The limit of rows of a word; none for the word `opened`.
+fn limit_of(word: &str) -> Result<Option<u32>>
+    ensures { IfOk result (λ limit. IfSome limit (λ limit. limit ≤ ROW_LIMIT)) }
+{
+    match word {
+        "opened" => Ok(None),
+        _ => Ok(Some(number(word)?.min(ROW_LIMIT))),
+    }
+}
+
 /// Whether each line of a table comes out as it stands, by the words of its head after its kind.
 pub(crate) fn tell(
     rt: &(impl Files + AllocGlobal + Print),
@@ -340,9 +363,9 @@ pub(crate) fn tell(
 ) -> Result<bool> {
     let words = setting.split(' ').collect::<Vec<&str>>(rt.alloc())?;
     let [show, allow, rows, schema] = words.as_slice() else {
-        bail!("a formatter, a widener, a number of rows and a schema are wanted");
+        bail!("a formatter, a widener, a limit of rows and a schema are wanted");
     };
-    let row_limit = number(rows)?.min(ROW_LIMIT);
+    let row_limit = limit_of(rows)?;
     let kinds = (manner_of(show)?, allows_of(allow)?);
     tell_by(rt, table, schema, row_limit, kinds, lines)
 }

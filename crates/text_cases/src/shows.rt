@@ -1,7 +1,9 @@
 //! Formatters: the program's, one that puts a space after each digit, and one that has no memory.
-ghost use Rattle.std.specs.Prelude.{◌≡◌, IfOk, string_bytes};
-ghost use Rattle.olap_meaning.specs.Texts.{CanBeShown};
+ghost use Rattle.std.specs.Prelude.{◌≡◌, IfOk, flat_map, string_bytes};
+ghost use Rattle.std.specs.Str.{chars};
+ghost use Rattle.olap_meaning.specs.Texts.{CanBeShown, plain_text};
 ghost use Rattle.query_meaning.specs.Shown.{Shows, bare, breaks};
+ghost use Rattle.text_cases.specs.Spaced.{spaced};
 
 use anyhow::{Result as Anyhow, bail};
 use olap_meaning::{CellValue, OutOfMemory, Text};
@@ -18,6 +20,7 @@ pub(crate) enum Manner {
 
 // A text with a space after each digit.
 fn with_spaces(alloc: Global, plain: &str) -> Result<String, OutOfMemory>
+    ensures text { IfOk result (λ text. string_bytes text ≡ flat_map spaced (chars plain.now)) }
     ensures same { IfOk result (λ text. bare (string_bytes text) ≡ bare plain.now) }
     ensures breaks { IfOk result (λ text. breaks (string_bytes text) ≡ breaks plain.now) }
 {
@@ -34,7 +37,8 @@ fn with_spaces(alloc: Global, plain: &str) -> Result<String, OutOfMemory>
 // The text of a value with a space after each digit.
 fn shown_with_spaces(alloc: Global, value: &CellValue) -> Result<Text, OutOfMemory>
     requires { CanBeShown value.now }
-    ensures { IfOk result (Shows value.now) }
+    ensures text { IfOk result (λ text. text ≡ flat_map spaced (chars (plain_text value.now))) }
+    ensures shows { IfOk result (Shows value.now) }
 {
     let plain = shown_plainly(alloc, value)?;
     let text = with_spaces(alloc, plain.as_str())?;

@@ -11,9 +11,9 @@ use prog.Atomic.{either}
 use Rattle.atomic_table.specs.Table.{State, Me, Act, keeps, takes, gives, step, stepped, carried_after, Valid, opening, Allows, Splits, Joins, Final, Seen}
 use Rattle.atomic_table.proofs.Lists.{at_set, set_else, set_again, at_last, at_longer}
 use Rattle.turn_inbox.specs.declared.view.View.{View}
-use Rattle.turn_inbox.specs.Entries.{Among, by, AllBy}
+use Rattle.turn_inbox.specs.Entries.{Among, by, AllBy, AllUpTo}
 use Rattle.turn_inbox.specs.Rule.{up_from, first_of, rest_of, founder, again, Has, renewed, holding, resting, looked, note_of, part_of, left_of, merged, spent, Fits, left_home, Keeps, Grown, founds, enters, publishes, leaves, looks}
-use Rattle.turn_inbox.proofs.Prefixes.{prefix_self, prefix_trans, by_grown}
+use Rattle.turn_inbox.proofs.Prefixes.{prefix_self, prefix_trans, longer_prefix, longer_first, longer_second, by_grown, upto_nobody, upto_grown}
 
 module _ {A : Type 0} where
   pub here : (l : List A) (i : ℕ) (a b : A) → get_elem? l i ≡ some a → get_elem? (set l i b) i ≡ some b
@@ -57,12 +57,17 @@ module _ {M E G : Type 0} (list : M → List E) (basis : M → G) (seat_of : E �
   abbrev Fit : List E → ℕ → (ℕ → ℕ) → ℕ → V → Type 0
   Fit h t at id v = Fits seat_of seats h g t at id v
 
+  -- the view at the place of some number has seen the whole list
+  abbrev Newest : List V → (ℕ → ℕ) → List E → Type 0
+  Newest views at h = (k : ℕ) × (v : V) × (1 ≤ k) × (k ≤ seats) × (get_elem? views (at k) ≡ some v) × (v.seen ≡ h)
+
   -- what a view with the whole history knows
-  grown : (h : List E) (t id : ℕ) (at : ℕ → ℕ) (v : V) → lawful g h → Fit h t at id v → Grown seat_of lawful v h
-  grown h t id at v law f = record {
+  grown : (h : List E) (t id : ℕ) (at : ℕ → ℕ) (v : V) → lawful g h → AllUpTo seat_of seats h → Fit h t at id v → Grown seat_of lawful v h
+  grown h t id at v law authors f = record {
     seen = f.seen;
     told = f.told;
-    law = λ k a. (g, f.based k a, law);
+    law = λ k a. (g, (f.based k a).0, law);
+    authors = λ k a. subst (λ (n : ℕ). AllUpTo seat_of n h) (sym (f.based k a).1) authors;
     mine = λ k es a. (f.mine k es a).3;
   }
 
@@ -76,6 +81,12 @@ module _ {M E G : Type 0} (list : M → List E) (basis : M → G) (seat_of : E �
 
   owner_still : (s : St) (r : Rule s) (id : ℕ) (v w : V) → get_elem? s.views id ≡ some v → ((k : ℕ) → Has k v → Has k w) → (k : ℕ) → 1 ≤ k → k ≤ seats → (u : V) × (get_elem? (set s.views id w) (r.at k) ≡ some u) × Has k u
   owner_still s r id v w at to k lo hi = still (Has k) s.views id v w at (to k) (r.at k) (r.owner k lo hi)
+
+  newest_still : (s : St) (r : Rule s) (id : ℕ) (v w : V) → get_elem? s.views id ≡ some v → (v.seen ≡ r.history → w.seen ≡ r.history) → Newest (set s.views id w) r.at r.history
+  newest_still s r id v w at to =
+      let o = r.newest in
+      let n = still (λ (u : V). u.seen ≡ r.history) s.views id v w at to (r.at o.0) (o.1, o.4, o.5) in
+      (o.0, n.0, o.2, o.3, n.1, n.2)
 
   same_has : (v w : V) → w.mine ≡ v.mine → (k : ℕ) → Has k v → Has k w
   same_has v w same k h = (h.0, subst (Among (k, h.0)) (sym same) h.1)
@@ -113,25 +124,25 @@ module _ {M E G : Type 0} (list : M → List E) (basis : M → G) (seat_of : E �
   carry h h' t t' place at at' v f more mine held = record {
     based = f.based;
     seen = prefix_trans _ _ _ f.seen more;
-    told = prefix_trans _ _ _ f.told more;
+    told = λ xs a. prefix_trans _ _ _ (f.told xs a) more;
     mine = λ k es a. let m = f.mine k es a in let n = mine k es a in (n.0, m.1, m.2, n.1 ∙ m.3);
     held = held;
   }
 
   -- a view with no number
-  numberless : (h : List E) (t place : ℕ) (at : ℕ → ℕ) (xs : List E) (b : Option G) → IsPrefix xs h → Fit h t at place (record (spent {E = E} {G = G}) { seen = xs; basis = b })
-  numberless h t place at xs b seen = record {
+  numberless : (h : List E) (t place : ℕ) (at : ℕ → ℕ) (xs : List E) (b : Option G) (n : ℕ) → IsPrefix xs h → Fit h t at place (record (spent {E = E} {G = G}) { seen = xs; basis = b; seats = n })
+  numberless h t place at xs b n seen = record {
     based = λ k a. absurd a.1;
     seen = seen;
-    told = (h, refl);
+    told = λ ys a. absurd a;
     mine = λ k es a. absurd a;
     held = λ t. off t;
   }
 
   -- a view with some numbers of another one, which has not the turn
-  numbered : (h : List E) (t place place' : ℕ) (at at' : ℕ → ℕ) (v w : V) → Fit h t at place v → w.basis ≡ v.basis → IsPrefix w.seen h → IsPrefix w.told h → w.turn ≡ false → ((k : ℕ) (es : List E) → Among (k, es) w.mine → Among (k, es) v.mine × (at' k ≡ place')) → Fit h t at' place' w
-  numbered h t place place' at at' v w f same seen told idle mine = record {
-    based = λ k a. same ∙ f.based k (a.0, (mine k a.0 a.1).0);
+  numbered : (h : List E) (t place place' : ℕ) (at at' : ℕ → ℕ) (v w : V) → Fit h t at place v → w.basis ≡ v.basis → w.seats ≡ v.seats → IsPrefix w.seen h → ((xs : List E) → Among xs w.told → IsPrefix xs h) → w.turn ≡ false → ((k : ℕ) (es : List E) → Among (k, es) w.mine → Among (k, es) v.mine × (at' k ≡ place')) → Fit h t at' place' w
+  numbered h t place place' at at' v w f same many seen told idle mine = record {
+    based = λ k a. let b = f.based k (a.0, (mine k a.0 a.1).0) in (same ∙ b.0, many ∙ b.1);
     seen = seen;
     told = told;
     mine = λ k es a. let n = mine k es a in let m = f.mine k es n.0 in (n.1, m.1, m.2, m.3);
@@ -139,28 +150,31 @@ module _ {M E G : Type 0} (list : M → List E) (basis : M → G) (seat_of : E �
   }
 
   -- the rule after a step that changes one view
-  one_changed : (s : St) (r : Rule s) (id : ℕ) (v w : V) (ws : List ℕ) (hs : Homes) (h : List E) (t : ℕ) → get_elem? s.views id ≡ some v → ws ≡ length h ∷ t ∷ [] → lawful g h → Fit h t r.at id w
+  one_changed : (s : St) (r : Rule s) (id : ℕ) (v w : V) (ws : List ℕ) (hs : Homes) (h : List E) (t : ℕ) → get_elem? s.views id ≡ some v → ws ≡ length h ∷ t ∷ [] → lawful g h → AllUpTo seat_of seats h → Fit h t r.at id w
       → ((j : ℕ) (u : V) → j ≢ id → get_elem? s.views j ≡ some u → Fit h t r.at j u)
       → ((k : ℕ) → Has k v → Has k w)
+      → Newest (set s.views id w) r.at h
       → (t ≡ 0 → (x : M) × (hs ≡ some (Some x) ∷ []) × (list x ≡ h) × (basis x ≡ g))
       → (1 ≤ t → (u : V) × (t ≤ seats) × (get_elem? (set s.views id w) (r.at t) ≡ some u) × (u.turn ≡ true) × (hs ≡ left_home u.fresh))
       → Rule record { words = ws; homes = hs; views = set s.views id w }
-  one_changed s r id v w ws hs h t at words law fit others has home away = record {
+  one_changed s r id v w ws hs h t at words law authors fit others has newest home away = record {
     history = h;
     turn = t;
     at = r.at;
     words = words;
     law = law;
+    authors = authors;
     fits = set_each (Fit h t r.at) s.views id w fit others;
     owner = owner_still s r id v w at has;
+    newest = newest;
     home = home;
     away = away;
   }
 
   -- a step that changes neither word nor slot
-  unmoved : (s : St) (r : Rule s) (id : ℕ) (v w : V) (ws : List ℕ) → get_elem? s.views id ≡ some v → ws ≡ s.words → w.mine ≡ v.mine → w.turn ≡ v.turn → w.fresh ≡ v.fresh → Fit r.history r.turn r.at id w
+  unmoved : (s : St) (r : Rule s) (id : ℕ) (v w : V) (ws : List ℕ) → get_elem? s.views id ≡ some v → ws ≡ s.words → w.mine ≡ v.mine → w.turn ≡ v.turn → w.fresh ≡ v.fresh → (v.seen ≡ r.history → w.seen ≡ r.history) → Fit r.history r.turn r.at id w
       → Rule record { words = ws; homes = s.homes; views = set s.views id w }
-  unmoved s r id v w ws at same n t f fit = one_changed s r id v w ws s.homes r.history r.turn at (same ∙ r.words) r.law fit (λ j u apart e. r.fits j u e) (same_has v w n) r.home (away_still s r id v w at t f)
+  unmoved s r id v w ws at same n t f seen fit = one_changed s r id v w ws s.homes r.history r.turn at (same ∙ r.words) r.law r.authors fit (λ j u apart e. r.fits j u e) (same_has v w n) (newest_still s r id v w at seen) r.home (away_still s r id v w at t f)
 
   -- look
   pub looks_at : (slots id : ℕ) (me : Mine) → Allows Rule slots id me 0 (λ n. n) (looks seat_of lawful (step slots 0 0 0 none) me)
@@ -174,8 +188,8 @@ module _ {M E G : Type 0} (list : M → List E) (basis : M → G) (seat_of : E �
         w,
         keeps,
         tt,
-        unmoved s r id v w _ at (ap (λ ws. set ws 0 (get_or ws 0 0)) r.words ∙ sym r.words) refl refl refl fit,
-        (h, refl, sym found, grown h r.turn id r.at v r.law f),
+        unmoved s r id v w _ at (ap (λ ws. set ws 0 (get_or ws 0 0)) r.words ∙ sym r.words) refl refl refl (λ _. refl) fit,
+        (h, refl, sym found, grown h r.turn id r.at v r.law r.authors f),
       )
 
   -- the view with the turn is the one that the turn's number leads to
@@ -196,15 +210,17 @@ module _ {M E G : Type 0} (list : M → List E) (basis : M → G) (seat_of : E �
       apart (sym b.2 ∙ a.2)
 
   -- the first view of all, with the turn out and nothing in the slot
-  pub opens : (count : ℕ) (xs : List E) → length xs ≡ count → lawful g xs → 1 ≤ seats → Rule (opening (count ∷ 1 ∷ []) (None ∷ []) (founder seat_of xs g seats))
-  opens count xs long law some_seat = record {
+  pub opens : (count : ℕ) (xs : List E) → length xs ≡ count → lawful g xs → AllBy seat_of 0 xs → 1 ≤ seats → Rule (opening (count ∷ 1 ∷ []) (None ∷ []) (founder seat_of xs g seats))
+  opens count xs long law fresh some_seat = record {
     history = xs;
     turn = 1;
     at = λ _. 0;
     words = ap (λ (n : ℕ). n ∷ 1 ∷ []) (sym long);
     law = law;
+    authors = upto_nobody seat_of seats xs fresh;
     fits = first_fits;
     owner = λ k lo hi. (founder seat_of xs g seats, refl, (by seat_of k xs, among_up 1 seats k lo (omega arith)));
+    newest = (1, founder seat_of xs g seats, omega arith, some_seat, refl, refl);
     home = λ z. absurd (omega arith);
     away = λ _. (founder seat_of xs g seats, some_seat, refl, refl, refl);
   }
@@ -222,9 +238,9 @@ module _ {M E G : Type 0} (list : M → List E) (basis : M → G) (seat_of : E �
 
       first_fit : Fit xs 1 (λ _. 0) 0 (founder seat_of xs g seats)
       first_fit = record {
-        based = λ _ _. refl;
+        based = λ _ _. (refl, refl);
         seen = prefix_self xs;
-        told = (xs, refl);
+        told = λ ys a. absurd a;
         mine = λ k es a. let b = up_among 1 seats k es a in let lo = b.0 in let hi = b.1 in (refl, lo, omega arith, b.2);
         held = λ _. ((by seat_of 1 xs, among_up 1 seats 1 (omega arith) (omega arith)), refl);
       }
@@ -245,7 +261,7 @@ module _ {M E G : Type 0} (list : M → List E) (basis : M → G) (seat_of : E �
         w,
         takes 0 None,
         ap (λ hs. get_elem? hs 0) homes,
-        one_changed s r id v w _ _ r.history r.turn at (ap (λ ws. set ws 1 (get_or ws 1 0)) r.words) r.law fit (λ j u apart e. r.fits j u e) (λ k h. h)
+        one_changed s r id v w _ _ r.history r.turn at (ap (λ ws. set ws 1 (get_or ws 1 0)) r.words) r.law r.authors fit (λ j u apart e. r.fits j u e) (λ k h. h) (newest_still s r id v w at (λ e. e))
             (λ z. let lo = tv.0 in absurd (omega arith))
             (λ _. (w, tv.1, subst (λ (n : ℕ). get_elem? (set s.views id w) n ≡ some w) (sym tv.2) (here s.views id v w at), refl, ap (λ hs. set hs 0 none) homes)),
         refl,
@@ -271,12 +287,13 @@ module _ {M E G : Type 0} (list : M → List E) (basis : M → G) (seat_of : E �
             w,
             takes 0 (Some x),
             ap (λ hs. get_elem? hs 0) h.1,
-            one_changed s r id me.0 w _ _ r.history number at (ap (λ ws. set ws 1 number) r.words) r.law fit
+            one_changed s r id me.0 w _ _ r.history number at (ap (λ ws. set ws 1 number) r.words) r.law r.authors fit
                 (λ j u apart e. carry r.history r.history r.turn number j r.at r.at u (r.fits j u e) (prefix_self r.history) (λ k es a. (((r.fits j u e).mine k es a).0, refl)) (λ t. let tv = turn_view s r j u e t in let lo = tv.0 in absurd (omega arith)))
                 (λ k h. h)
+                (newest_still s r id me.0 w at (λ _. h.2))
                 (λ z. let lo = m.1 in absurd (omega arith))
                 (λ _. (w, m.2, subst (λ (n : ℕ). get_elem? (set s.views id w) n ≡ some w) (sym m.0) (here s.views id me.0 w at), refl, ap (λ hs. set hs 0 none) h.1)),
-            (x, refl, f.based number among ∙ ap Some (sym h.3), subst (Grown seat_of lawful me.0) (sym h.2) (grown r.history r.turn id r.at me.0 r.law f)),
+            (x, refl, (f.based number among).0 ∙ ap Some (sym h.3), subst (Grown seat_of lawful me.0) (sym h.2) (grown r.history r.turn id r.at me.0 r.law r.authors f)),
           )
 
       busy : EnterGoal s id number me false r.turn
@@ -284,7 +301,7 @@ module _ {M E G : Type 0} (list : M → List E) (basis : M → G) (seat_of : E �
         me.0,
         keeps,
         tt,
-        unmoved s r id me.0 me.0 _ at (ap (λ ws. set ws 1 r.turn) r.words ∙ sym r.words) refl refl refl (r.fits id me.0 at),
+        unmoved s r id me.0 me.0 _ at (ap (λ ws. set ws 1 r.turn) r.words ∙ sym r.words) refl refl refl (λ e. e) (r.fits id me.0 at),
         refl,
       )
 
@@ -295,30 +312,34 @@ module _ {M E G : Type 0} (list : M → List E) (basis : M → G) (seat_of : E �
   -- publish the count
   pub publishes_at : (slots id count : ℕ) (v : V) (x : M) → v.turn ≡ true → v.fresh ≡ false → length (list x) ≡ count → lawful (basis x) (list x) → v.basis ≡ Some (basis x) → IsPrefix v.seen (list x)
       → ((k : ℕ) → 1 ≤ k → (Has k v → ⊥) → by seat_of k (list x) ≡ by seat_of k v.seen)
+      → ((n : ℕ) → ((k : ℕ) → Has k v → k ≤ n) → AllUpTo seat_of n v.seen → AllUpTo seat_of n (list x))
       → Allows Rule slots id (v, (0, Some x) ∷ []) 0 (λ _. count) (λ _. publishes list seat_of (step slots 0 count 0 none) (v, (0, Some x) ∷ []) count)
-  publishes_at slots id count v x t fr long law same more others s r cnt at small =
+  publishes_at slots id count v x t fr long law same more others within s r cnt at small =
       let f = r.fits id v at in
       let tv = turn_view s r id v at t in
       let xs = list x in
       let w = renewed seat_of v xs in
       let more' : IsPrefix r.history xs = subst (λ (h : List E). IsPrefix h xs) tv.4 more in
-      let on : basis x ≡ g = cc (same, f.based r.turn (f.held t).0) in
+      let has_turn = f.based r.turn (f.held t).0 in
+      let on : basis x ≡ g = cc (same, has_turn.0) in
+      let authors : AllUpTo seat_of seats xs = within seats (λ k h. (f.mine k h.0 h.1).2) (subst (AllUpTo seat_of seats) (sym tv.4) r.authors) in
       let fit : Fit xs r.turn r.at id w = record {
         based = λ k h. let m = again_from xs v.mine k h.0 h.1 in f.based k (m.0, m.1);
         seen = prefix_self xs;
-        told = prefix_trans _ _ _ f.told more';
+        told = λ ys a. prefix_trans _ _ _ (f.told ys a) more';
         mine = λ k es a. let o = again_from xs v.mine k es a in let m = f.mine k o.0 o.1 in (m.0, m.1, m.2, o.2);
         held = λ _. let h = (f.held t).0 in ((by seat_of r.turn xs, again_has xs v.mine r.turn h.0 h.1), refl);
       } in (
         w,
         keeps,
         tt,
-        one_changed s r id v w _ s.homes xs r.turn at (ap (λ ws. set ws 0 count) r.words ∙ ap (λ (n : ℕ). n ∷ r.turn ∷ []) (sym long)) (subst (λ (b : G). lawful b xs) on law) fit
+        one_changed s r id v w _ s.homes xs r.turn at (ap (λ ws. set ws 0 count) r.words ∙ ap (λ (n : ℕ). n ∷ r.turn ∷ []) (sym long)) (subst (λ (b : G). lawful b xs) on law) authors fit
             (λ j u apart e. let q = r.fits j u e in carry r.history xs r.turn r.turn j r.at r.at u q more' (λ k es a. let m = q.mine k es a in (m.0, others k m.1 (λ own. apart (sym m.0 ∙ (f.mine k own.0 own.1).0)) ∙ ap (by seat_of k) tv.4)) (λ t'. absurd (others_rest s r id v at t j u apart e t')))
             (λ k h. (by seat_of k xs, again_has xs v.mine k h.0 h.1))
+            (r.turn, w, tv.0, tv.1, subst (λ (n : ℕ). get_elem? (set s.views id w) n ≡ some w) (sym tv.2) (here s.views id v w at), refl)
             (λ z. let lo = tv.0 in absurd (omega arith))
             (λ _. (w, tv.1, subst (λ (n : ℕ). get_elem? (set s.views id w) n ≡ some w) (sym tv.2) (here s.views id v w at), refl, tv.3 ∙ ap left_home fr)),
-        refl,
+        (refl, subst (λ (n : ℕ). AllUpTo seat_of n xs) (sym has_turn.1) authors),
       )
 
   -- release the turn
@@ -328,14 +349,15 @@ module _ {M E G : Type 0} (list : M → List E) (basis : M → G) (seat_of : E �
       let f = r.fits id v at in
       let tv = turn_view s r id v at t in
       let w = resting v in
-      let on : basis x ≡ g = cc (same, f.based r.turn (f.held t).0) in
+      let on : basis x ≡ g = cc (same, (f.based r.turn (f.held t).0).0) in
       let fit : Fit r.history 0 r.at id w = renew r.history r.turn 0 id r.at v v.seen v.looks false false f f.seen (λ t'. off t') in (
         w,
         gives,
         tt,
-        one_changed s r id v w _ _ r.history 0 at (ap (λ ws. set ws 1 0) r.words) r.law fit
+        one_changed s r id v w _ _ r.history 0 at (ap (λ ws. set ws 1 0) r.words) r.law r.authors fit
             (λ j u apart e. let q = r.fits j u e in carry r.history r.history r.turn 0 j r.at r.at u q (prefix_self r.history) (λ k es a. ((q.mine k es a).0, refl)) (λ t'. absurd (others_rest s r id v at t j u apart e t')))
             (λ k h. h)
+            (newest_still s r id v w at (λ e. e))
             (λ _. (x, ap (λ hs. set hs 0 (some (Some x))) (tv.3 ∙ ap left_home fr), is ∙ tv.4, on))
             (λ lo. absurd (omega arith)),
         refl,
@@ -344,9 +366,10 @@ module _ {M E G : Type 0} (list : M → List E) (basis : M → G) (seat_of : E �
   -- the same at a seat that is known by an equation
   pub publishes_as : (slots id count : ℕ) (me : Mine) (v : V) (x : M) → me ≡ (v, (0, Some x) ∷ []) → v.turn ≡ true → v.fresh ≡ false → length (list x) ≡ count → lawful (basis x) (list x) → v.basis ≡ Some (basis x) → IsPrefix v.seen (list x)
       → ((k : ℕ) → 1 ≤ k → (Has k v → ⊥) → by seat_of k (list x) ≡ by seat_of k v.seen)
+      → ((n : ℕ) → ((k : ℕ) → Has k v → k ≤ n) → AllUpTo seat_of n v.seen → AllUpTo seat_of n (list x))
       → Allows Rule slots id me 0 (λ _. count) (λ _. publishes list seat_of (step slots 0 count 0 none) me count)
-  publishes_as slots id count me v x is t fr long law same more others =
-      subst (λ (m : Mine). Allows Rule slots id m 0 (λ _. count) (λ _. publishes list seat_of (step slots 0 count 0 none) m count)) (sym is) (publishes_at slots id count v x t fr long law same more others)
+  publishes_as slots id count me v x is t fr long law same more others within =
+      subst (λ (m : Mine). Allows Rule slots id m 0 (λ _. count) (λ _. publishes list seat_of (step slots 0 count 0 none) m count)) (sym is) (publishes_at slots id count v x t fr long law same more others within)
 
   pub leaves_as : (slots id : ℕ) (me : Mine) (v : V) (x : M) → me ≡ (v, (0, Some x) ∷ []) → v.turn ≡ true → v.fresh ≡ false → list x ≡ v.seen → v.basis ≡ Some (basis x)
       → Allows Rule slots id me 1 (λ _. 0) (λ _. leaves (step slots 1 0 0 none) me 0)
@@ -368,17 +391,19 @@ module _ {M E G : Type 0} (list : M → List E) (basis : M → G) (seat_of : E �
     at = r.at;
     words = r.words;
     law = r.law;
+    authors = r.authors;
     fits = λ j u e. ⊎_elim
         (λ (t : get_elem? s.views j ≡ some u). r.fits j u t)
         (λ (t : (j ≡ length s.views) × (note_of v ≡ u)). subst (Fit r.history r.turn r.at j) t.1 (note_fit j))
         (at_new s.views (note_of v) u j e);
     owner = λ k lo hi. let o = r.owner k lo hi in (o.0, at_longer s.views (note_of v ∷ []) (r.at k) o.0 o.1, o.2);
+    newest = let o = r.newest in (o.0, o.1, o.2, o.3, at_longer s.views (note_of v ∷ []) (r.at o.0) o.1 o.4, o.5);
     home = r.home;
     away = λ lo. let a = r.away lo in (a.0, a.1, at_longer s.views (note_of v ∷ []) (r.at r.turn) a.0 a.2, a.3, a.4);
   }
     where
       note_fit : (j : ℕ) → Fit r.history r.turn r.at j (note_of v)
-      note_fit j = numberless r.history r.turn j r.at v.seen v.basis (r.fits id v at).seen
+      note_fit j = numberless r.history r.turn j r.at v.seen v.basis v.seats (r.fits id v at).seen
 
   -- join
   pub merges_at : (id : ℕ) (v : V) (other : ℕ) (w : V) (own : ℕ) → Has own v → v.turn ≡ false → w.turn ≡ false → Joins Rule id v other w (merged v w) spent
@@ -388,8 +413,12 @@ module _ {M E G : Type 0} (list : M → List E) (basis : M → G) (seat_of : E �
     at = at';
     words = r.words;
     law = r.law;
+    authors = r.authors;
     fits = set_each (Fit r.history r.turn at') (set s.views id both) other spent spent_fit (λ j u ne e. set_each (λ i x. i ≢ other → Fit r.history r.turn at' i x) s.views id both (λ _. both_fit) (λ i x ne' e' ne_other. stays i x ne_other (r.fits i x e')) j u e ne);
-    owner = λ k lo hi. owned k (r.owner k lo hi);
+    owner = λ k lo hi. moved (Has k) (left_has k) (right_has k) k (r.owner k lo hi);
+    newest = let o = r.newest in
+        let n = moved (λ (u : V). u.seen ≡ r.history) (λ whole. longer_first v.seen w.seen r.history whole q.seen) (λ whole. longer_second v.seen w.seen r.history f.seen whole) o.0 (o.1, o.4, o.5) in
+        (o.0, n.0, o.2, o.3, n.1, n.2);
     home = r.home;
     away = λ lo. let a = r.away lo in
         let ne_id : r.at r.turn ≢ id = λ e. true≢false (sym a.3 ∙ (ap (λ (u : V). u.turn) (some-injective a.0 v (sym a.2 ∙ (ap (get_elem? s.views) e ∙ at))) ∙ idle)) in
@@ -419,7 +448,7 @@ module _ {M E G : Type 0} (list : M → List E) (basis : M → G) (seat_of : E �
       q = r.fits other w there
 
       spent_fit : Fit r.history r.turn at' other spent
-      spent_fit = numberless r.history r.turn other at' [] None (r.history, refl)
+      spent_fit = numberless r.history r.turn other at' [] None 0 (r.history, refl)
 
       stays : (i : ℕ) (x : V) → i ≢ other → Fit r.history r.turn r.at i x → Fit r.history r.turn at' i x
       stays i x ne o = carry r.history r.history r.turn r.turn i r.at at' x o (prefix_self r.history) (λ k es a. let m = o.mine k es a in (same_at k (λ e. ne (sym m.0 ∙ e)) ∙ m.0, refl)) o.held
@@ -439,8 +468,11 @@ module _ {M E G : Type 0} (list : M → List E) (basis : M → G) (seat_of : E �
       both_fit : Fit r.history r.turn at' id both
       both_fit = record {
         based = λ k a. f.based own some_own;
-        seen = f.seen;
-        told = q.seen;
+        seen = longer_prefix v.seen w.seen r.history f.seen q.seen;
+        told = λ xs a. ⊎_elim
+            (λ (e : xs ≡ v.seen). subst (λ l. IsPrefix l r.history) (sym e) f.seen)
+            (λ (t : Among xs (w.seen ∷ v.told)). ⊎_elim (λ (e : xs ≡ w.seen). subst (λ l. IsPrefix l r.history) (sym e) q.seen) (λ (l : Among xs v.told). f.told xs l) t)
+            a;
         mine = λ k es a. ⊎_elim
             (λ (l : Among (k, es) v.mine). let m = f.mine k es l in (same_at k (λ e. apart (sym e ∙ m.0)) ∙ m.0, m.1, m.2, m.3))
             (λ (l : Among (k, es) w.mine). let m = q.mine k es l in (moved_at k m.0, m.1, m.2, m.3))
@@ -457,11 +489,12 @@ module _ {M E G : Type 0} (list : M → List E) (basis : M → G) (seat_of : E �
       left_has : (k : ℕ) → Has k v → Has k both
       left_has k h = (h.0, left_among (k, h.0) v.mine w.mine h.1)
 
-      owned : (k : ℕ) → (u : V) × (get_elem? s.views (r.at k) ≡ some u) × Has k u → (u : V) × (get_elem? (set (set s.views id both) other spent) (at' k) ≡ some u) × Has k u
-      owned k o = dite (ℕ_discrete (r.at k) other)
-          (λ e. (both, subst (λ (n : ℕ). get_elem? (set (set s.views id both) other spent) n ≡ some both) (sym (moved_at k e)) at_both, right_has k (subst (Has k) (some-injective o.0 w (sym o.1 ∙ (ap (get_elem? s.views) e ∙ there))) o.2)))
+      -- a fact of the view at the place of a number stays, where the joined view has it of both
+      moved : (Q : V → Type 0) → (Q v → Q both) → (Q w → Q both) → (k : ℕ) → (u : V) × (get_elem? s.views (r.at k) ≡ some u) × Q u → (u : V) × (get_elem? (set (set s.views id both) other spent) (at' k) ≡ some u) × Q u
+      moved Q from_left from_right k o = dite (ℕ_discrete (r.at k) other)
+          (λ e. (both, subst (λ (n : ℕ). get_elem? (set (set s.views id both) other spent) n ≡ some both) (sym (moved_at k e)) at_both, from_right (subst Q (some-injective o.0 w (sym o.1 ∙ (ap (get_elem? s.views) e ∙ there))) o.2)))
           (λ ne. dite (ℕ_discrete (r.at k) id)
-          (λ e. (both, subst (λ (n : ℕ). get_elem? (set (set s.views id both) other spent) n ≡ some both) (sym (same_at k ne ∙ e)) at_both, left_has k (subst (Has k) (some-injective o.0 v (sym o.1 ∙ (ap (get_elem? s.views) e ∙ at))) o.2)))
+          (λ e. (both, subst (λ (n : ℕ). get_elem? (set (set s.views id both) other spent) n ≡ some both) (sym (same_at k ne ∙ e)) at_both, from_left (subst Q (some-injective o.0 v (sym o.1 ∙ (ap (get_elem? s.views) e ∙ at))) o.2)))
           (λ ne'. (o.0, subst (λ (n : ℕ). get_elem? (set (set s.views id both) other spent) n ≡ some o.0) (sym (same_at k ne)) (set_else (set s.views id both) other (r.at k) spent ne ∙ (set_else s.views id (r.at k) both ne' ∙ o.1)), o.2)))
 
   -- split, a seat
@@ -472,15 +505,19 @@ module _ {M E G : Type 0} (list : M → List E) (basis : M → G) (seat_of : E �
     at = at';
     words = r.words;
     law = r.law;
+    authors = r.authors;
     fits = λ j u e. ⊎_elim
         (λ (t : get_elem? (set s.views id left) j ≡ some u). set_each (Fit r.history r.turn at') s.views id left left_fit (λ i x ne e'. stays i x ne (r.fits i x e')) j u t)
         (λ (t : (j ≡ length (set s.views id left)) × (part ≡ u)). subst (λ (y : ℕ × V). Fit r.history r.turn at' y.0 y.1) (λ i. (sym (t.0 ∙ long) i, t.1 i)) part_fit)
         (at_new (set s.views id left) part u j e);
-    owner = λ k lo hi. owned k (r.owner k lo hi);
+    owner = λ k lo hi. parted (Has k) k (λ e h. part_has k e) (λ ne h. left_has k ne h) (r.owner k lo hi);
+    newest = let o = r.newest in
+        let n = parted (λ (u : V). u.seen ≡ r.history) o.0 (λ e whole. whole) (λ ne whole. whole) (o.1, o.4, o.5) in
+        (o.0, n.0, o.2, o.3, n.1, n.2);
     home = r.home;
     away = λ lo. let a = r.away lo in
         let ne_id : r.at r.turn ≢ id = λ e. true≢false (sym a.3 ∙ (ap (λ (u : V). u.turn) (some-injective a.0 v (sym a.2 ∙ (ap (get_elem? s.views) e ∙ at))) ∙ idle)) in
-        (a.0, a.1, subst (λ (m : ℕ). get_elem? (set s.views id left ++ part ∷ []) m ≡ some a.0) (sym (same_at r.turn (λ e. ne_id (ap r.at e ∙ own.0)))) (at_longer (set s.views id left) (part ∷ []) (r.at r.turn) a.0 (set_else s.views id (r.at r.turn) left ne_id ∙ a.2)), a.3, a.4);
+        (a.0, a.1, subst (λ (m : ℕ). get_elem? (set s.views id left ++ part ∷ []) m ≡ some a.0) (sym (same_at r.turn (λ e. ne_id (ap r.at e ∙ first.0)))) (at_longer (set s.views id left) (part ∷ []) (r.at r.turn) a.0 (set_else s.views id (r.at r.turn) left ne_id ∙ a.2)), a.3, a.4);
   }
     where
       left : V
@@ -495,8 +532,8 @@ module _ {M E G : Type 0} (list : M → List E) (basis : M → G) (seat_of : E �
       f : Fit r.history r.turn r.at id v
       f = r.fits id v at
 
-      own : (r.at n ≡ id) × (1 ≤ n) × (n ≤ seats) × (by seat_of n r.history ≡ es)
-      own = f.mine n es (subst (Among (n, es)) (sym is) (inl refl))
+      first : (r.at n ≡ id) × (1 ≤ n) × (n ≤ seats) × (by seat_of n r.history ≡ es)
+      first = f.mine n es (subst (Among (n, es)) (sym is) (inl refl))
 
       at' : ℕ → ℕ
       at' k = either (eqb k n) (length s.views) (r.at k)
@@ -517,34 +554,54 @@ module _ {M E G : Type 0} (list : M → List E) (basis : M → G) (seat_of : E �
       not_n k xs a e = distinct xs (subst (λ (m : ℕ). Among (m, xs) ps) e a)
 
       left_fit : Fit r.history r.turn at' id left
-      left_fit = numbered r.history r.turn id id r.at at' v left f refl f.seen f.told idle (λ k xs a. let p = in_rest k xs a in (in_all k xs p, same_at k (not_n k xs p) ∙ (f.mine k xs (in_all k xs p)).0))
+      left_fit = numbered r.history r.turn id id r.at at' v left f refl refl f.seen f.told idle (λ k xs a. let p = in_rest k xs a in (in_all k xs p, same_at k (not_n k xs p) ∙ (f.mine k xs (in_all k xs p)).0))
 
       stays : (i : ℕ) (x : V) → i ≢ id → Fit r.history r.turn r.at i x → Fit r.history r.turn at' i x
-      stays i x ne o = carry r.history r.history r.turn r.turn i r.at at' x o (prefix_self r.history) (λ k xs a. let m = o.mine k xs a in (same_at k (λ e. ne (sym m.0 ∙ (ap r.at e ∙ own.0))) ∙ m.0, refl)) o.held
+      stays i x ne o = carry r.history r.history r.turn r.turn i r.at at' x o (prefix_self r.history) (λ k xs a. let m = o.mine k xs a in (same_at k (λ e. ne (sym m.0 ∙ (ap r.at e ∙ first.0))) ∙ m.0, refl)) o.held
 
       in_first : (k : ℕ) (xs : List E) → Among (k, xs) (first_of v.mine) → Among {A = ℕ × List E} (k, xs) ((n, es) ∷ [])
       in_first k xs a = subst (λ (l : List (ℕ × List E)). Among {A = ℕ × List E} (k, xs) (first_of l)) is a
 
       part_fit : Fit r.history r.turn at' (length s.views) part
-      part_fit = numbered r.history r.turn id (length s.views) r.at at' v part f refl f.seen (r.history, refl) refl (λ k xs a. ⊎_elim
+      part_fit = numbered r.history r.turn id (length s.views) r.at at' v part f refl refl f.seen (λ xs a. absurd a) refl (λ k xs a. ⊎_elim
           (λ (e : (k, xs) ≡ (n, es)). (subst (Among (k, xs)) (sym is) (inl e), moved_at k (ap (λ q. q.0) e)))
           (λ z. absurd z)
           (in_first k xs a))
 
-      owned : (k : ℕ) → (u : V) × (get_elem? s.views (r.at k) ≡ some u) × Has k u → (u : V) × (get_elem? (set s.views id left ++ part ∷ []) (at' k) ≡ some u) × Has k u
-      owned k o = dite (ℕ_discrete k n)
-          (λ e. (part, subst (λ (m : ℕ). get_elem? (set s.views id left ++ part ∷ []) m ≡ some part) (sym (moved_at k e)) (at_last (set s.views id left) part (length s.views) long), (es, subst (λ (l : List (ℕ × List E)). Among {A = ℕ × List E} (k, es) (first_of l)) (sym is) (inl (λ i. (e i, es))))))
+      later : (k : ℕ) (xs : List E) → k ≢ n → Among {A = ℕ × List E} (k, xs) ((n, es) ∷ ps) → Among (k, xs) ps
+      later k xs ne a = ⊎_elim (λ (e : (k, xs) ≡ (n, es)). absurd (ne (ap (λ q. q.0) e))) (λ (z : Among (k, xs) ps). z) a
+
+      part_has : (k : ℕ) → k ≡ n → Has k part
+      part_has k e = (es, subst (λ (l : List (ℕ × List E)). Among {A = ℕ × List E} (k, es) (first_of l)) (sym is) (inl (λ i. (e i, es))))
+
+      left_has : (k : ℕ) → k ≢ n → Has k v → Has k left
+      left_has k ne h = (h.0, subst (λ (l : List (ℕ × List E)). Among {A = ℕ × List E} (k, h.0) (rest_of l)) (sym is) (later k h.0 ne (subst (Among (k, h.0)) is h.1)))
+
+      -- a fact of the view at the place of a number stays, where the part has it of the first number, and what is left of another one
+      parted : (Q : V → Type 0) (k : ℕ) → (k ≡ n → Q v → Q part) → (k ≢ n → Q v → Q left) → (u : V) × (get_elem? s.views (r.at k) ≡ some u) × Q u → (u : V) × (get_elem? (set s.views id left ++ part ∷ []) (at' k) ≡ some u) × Q u
+      parted Q k to_part to_left o = dite (ℕ_discrete k n)
+          (λ e. let same : o.0 ≡ v = some-injective o.0 v (sym o.1 ∙ (ap (get_elem? s.views) (ap r.at e ∙ first.0) ∙ at)) in
+          (part, subst (λ (m : ℕ). get_elem? (set s.views id left ++ part ∷ []) m ≡ some part) (sym (moved_at k e)) (at_last (set s.views id left) part (length s.views) long), to_part e (subst Q same o.2)))
           (λ ne. dite (ℕ_discrete (r.at k) id)
-          (λ e. let h = subst (Has k) (some-injective o.0 v (sym o.1 ∙ (ap (get_elem? s.views) e ∙ at))) o.2 in
-          (left, subst (λ (m : ℕ). get_elem? (set s.views id left ++ part ∷ []) m ≡ some left) (sym (same_at k ne ∙ e)) (at_longer (set s.views id left) (part ∷ []) id left (here s.views id v left at)), (h.0, subst (λ (l : List (ℕ × List E)). Among {A = ℕ × List E} (k, h.0) (rest_of l)) (sym is) (later k h.0 ne (subst (Among (k, h.0)) is h.1)))))
+          (λ e. let same : o.0 ≡ v = some-injective o.0 v (sym o.1 ∙ (ap (get_elem? s.views) e ∙ at)) in
+          (left, subst (λ (m : ℕ). get_elem? (set s.views id left ++ part ∷ []) m ≡ some left) (sym (same_at k ne ∙ e)) (at_longer (set s.views id left) (part ∷ []) id left (here s.views id v left at)), to_left ne (subst Q same o.2)))
           (λ ne'. (o.0, subst (λ (m : ℕ). get_elem? (set s.views id left ++ part ∷ []) m ≡ some o.0) (sym (same_at k ne)) (at_longer (set s.views id left) (part ∷ []) (r.at k) o.0 (set_else s.views id (r.at k) left ne' ∙ o.1)), o.2)))
-        where
-          later : (k : ℕ) (xs : List E) → k ≢ n → Among {A = ℕ × List E} (k, xs) ((n, es) ∷ ps) → Among (k, xs) ps
-          later k xs ne a = ⊎_elim (λ (e : (k, xs) ≡ (n, es)). absurd (ne (ap (λ q. q.0) e))) (λ (z : Among (k, xs) ps). z) a
+
+  -- what a value at the end has
+  pub record Whole (v : V) (x : M) : Type 0 where
+    pub seen : list x ≡ v.seen
+    pub told : (xs : List E) → Among xs v.told → IsPrefix xs (list x)
+    pub mine : (k : ℕ) (es : List E) → Among (k, es) v.mine → by seat_of k (list x) ≡ es
+    pub based : basis x ≡ g
+    pub law : lawful g (list x)
+    pub authors : AllUpTo seat_of seats (list x)
+
+  abbrev Closed : V → List (Option M) → Type 0
+  Closed v xs = (x : M) × (get_elem? xs 0 ≡ some (Some x)) × Whole v x
 
   -- the end, with a seat that has every number
   pub closes : (id : ℕ) (v : V) (ws : List ℕ) (xs : List (Option M)) → Final (Seen Rule id v) ws xs → v.turn ≡ false → ((k : ℕ) → 1 ≤ k → k ≤ seats → Has k v)
-      → (x : M) × (get_elem? xs 0 ≡ some (Some x)) × IsPrefix v.seen (list x) × ((k : ℕ) (es : List E) → Among (k, es) v.mine → by seat_of k (list x) ≡ es) × (basis x ≡ g)
+      → Closed v xs
   closes id v ws xs end idle all = closed (dite (ℕ_discrete r.turn 0) (λ e. e) (λ ne. absurd (busy ne)))
     where
       s : St
@@ -566,10 +623,25 @@ module _ {M E G : Type 0} (list : M → List E) (basis : M → G) (seat_of : E �
           let m = f.mine r.turn h.0 h.1 in
           true≢false (sym a.3 ∙ (ap (λ (u : V). u.turn) (some-injective a.0 v (sym a.2 ∙ (ap (get_elem? s.views) m.0 ∙ at))) ∙ idle))
 
-      closed : r.turn ≡ 0 → (x : M) × (get_elem? xs 0 ≡ some (Some x)) × IsPrefix v.seen (list x) × ((k : ℕ) (es : List E) → Among (k, es) v.mine → by seat_of k (list x) ≡ es) × (basis x ≡ g)
+      closed : r.turn ≡ 0 → Closed v xs
       closed free =
           let h = r.home free in
-          (h.0, end.4 0 (Some h.0) (ap (λ hs. get_elem? hs 0) h.1), subst (IsPrefix v.seen) (sym h.2) f.seen, (λ k es a. ap (by seat_of k) h.2 ∙ (f.mine k es a).3), h.3)
+          let o = r.newest in
+          let all_of = all o.0 o.2 o.3 in
+          let m = f.mine o.0 all_of.0 all_of.1 in
+          let same : o.1 ≡ v = some-injective _ _ (sym o.4 ∙ (ap (get_elem? s.views) m.0 ∙ at)) in
+          let whole : list h.0 ≡ v.seen = h.2 ∙ (sym o.5 ∙ ap (λ (u : V). u.seen) same) in (
+            h.0,
+            end.4 0 (Some h.0) (ap (λ hs. get_elem? hs 0) h.1),
+            record {
+              seen = whole;
+              told = λ ys a. subst (IsPrefix ys) (sym h.2) (f.told ys a);
+              mine = λ k es a. ap (by seat_of k) h.2 ∙ (f.mine k es a).3;
+              based = h.3;
+              law = subst (lawful g) (sym h.2) r.law;
+              authors = subst (AllUpTo seat_of seats) (sym h.2) r.authors;
+            },
+          )
 
 -- what a step that found the turn free tells
 pub entered : (P Q : Type 0) (n : ℕ) → MatchBool (n == 0) P Q → n ≡ 0 → P
@@ -583,6 +655,12 @@ pub by_turn : {E : Type 0} (seat_of : E → ℕ) (number : ℕ) (mine : List (�
     → (k : ℕ) → 1 ≤ k → ((old : List E) × Among (k, old) mine → ⊥) → by seat_of k ys ≡ by seat_of k xs
 by_turn seat_of number mine es xs ys new is more all k some_seat no_own =
     ap (by seat_of k) more ∙ by_grown seat_of k number xs new some_seat (λ e. no_own (es, subst (Among (k, es)) (sym is) (inl (λ i. (e i, es))))) all
+
+-- and each is of nobody or of a seat
+pub within_turn : {E : Type 0} (seat_of : E → ℕ) (number : ℕ) (mine : List (ℕ × List E)) (es xs ys new : List E) → mine ≡ (number, es) ∷ [] → ys ≡ xs ++ new → AllBy seat_of number new
+    → (n : ℕ) → ((k : ℕ) → ((old : List E) × Among (k, old) mine) → k ≤ n) → AllUpTo seat_of n xs → AllUpTo seat_of n ys
+within_turn seat_of number mine es xs ys new is more all n few known =
+    subst (AllUpTo seat_of n) (sym more) (upto_grown seat_of n number xs new (few number (es, subst (Among (number, es)) (sym is) (inl refl))) all known)
 
 -- a seat has its number
 pub has_own : {E : Type 0} (number : ℕ) (mine : List (ℕ × List E)) (es : List E) → mine ≡ (number, es) ∷ [] → (old : List E) × Among (number, old) mine

@@ -3,9 +3,8 @@ use Rattle.std.proofs.Common.{◌≡◌, ◌⊎◌, ℕ, zero, suc, ◌+◌, ◌
 use Rattle.std.proofs.lemmas.List.{map_push}
 use mathlib.Core.Logic.{dite}
 use native.Mathlib.Decide.{ℕ_discrete}
-use mathlib.Core.List.{IsPrefix}
 use Rattle.turn_inbox.specs.Entries.{Among, by, count_from}
-use Rattle.turn_inbox.specs.Rule.{up_from, first_of, rest_of}
+use Rattle.turn_inbox.specs.Rule.{up_from, rest_of}
 
 module _ {A : Type 0} where
   pub among_push : (x : A) (xs : List A) (y : A) → Among x (xs ++ y ∷ []) → Among x xs ⊎ (x ≡ y)
@@ -19,6 +18,10 @@ module _ {A : Type 0} where
   pub among_right : (x : A) (xs ys : List A) → Among x ys → Among x (xs ++ ys)
   among_right x [] ys a = a
   among_right x (y ∷ xs) ys a = inr (among_right x xs ys a)
+
+  -- what a place had seen or was told of, it is told of after a join
+  pub told_still : (x : A) (seen next other : A) (told told' : List A) → told' ≡ seen ∷ other ∷ told → Among x (seen ∷ told) → Among x (next ∷ told')
+  told_still x seen next other told told' is a = inr (subst (Among x) (sym is) (⊎_elim (λ (e : x ≡ seen). inl e) (λ (t : Among x told). inr (inr t)) a))
 
   -- a fact of each stays true when one more comes that has it
   pub each_push : (P : A → Type 0) (xs : List A) (y : A) → ((x : A) → Among x xs → P x) → P y → (x : A) → Among x (xs ++ y ∷ []) → P x
@@ -45,12 +48,6 @@ module _ {E : Type 0} (seat_of : E → ℕ) (xs : List E) where
   pub next_mine : (mine : List (ℕ × List E)) (k n : ℕ) → mine ≡ up_from seat_of xs k (suc n) → rest_of mine ≡ up_from seat_of xs (k + 1) n
   next_mine mine k n is = let e : suc k ≡ k + 1 = omega arith in ap rest_of is ∙ ap (λ (j : ℕ). up_from seat_of xs j n) e
 
-  pub one_mine : (mine : List (ℕ × List E)) (k n : ℕ) → mine ≡ up_from seat_of xs k (suc n) → first_of mine ≡ (k, by seat_of k xs) ∷ []
-  one_mine mine k n is = ap first_of is
-
-  pub last_mine : (mine : List (ℕ × List E)) (k n : ℕ) → mine ≡ up_from seat_of xs k (suc n) → n ≡ 0 → mine ≡ (k, by seat_of k xs) ∷ []
-  last_mine mine k n is z = is ∙ ap (λ (j : ℕ). up_from seat_of xs k (suc j)) z
-
   pub longer_mine : (mine : List (ℕ × List E)) (k n m : ℕ) → mine ≡ up_from seat_of xs k n → n ≡ suc m → mine ≡ up_from seat_of xs k (suc m)
   longer_mine mine k n m is e = is ∙ ap (up_from seat_of xs k) e
 
@@ -71,9 +68,6 @@ was_last items rest y is = subst (Among y) (sym is) (among_right y rest (y ∷ [
 
 pub was_before : {A : Type 0} (items rest : List A) (y : A) → items ≡ rest ++ y ∷ [] → (x : A) → Among x rest → Among x items
 was_before items rest y is x a = subst (Among x) (sym is) (among_left x rest (y ∷ []) a)
-
-pub grown_prefix : {E : Type 0} (old mid new xs : List E) → mid ≡ old → new ≡ xs → IsPrefix mid xs → IsPrefix old new
-grown_prefix old mid new xs a b p = subst (λ w. IsPrefix w new) a (subst (IsPrefix mid) (sym b) p)
 
 pub none_among : {A : Type 0} (xs : List A) → length xs ≡ 0 → (x : A) → Among x xs → ⊥
 none_among xs e = each_none (λ _. ⊥) xs e

@@ -1,5 +1,5 @@
 -- Lists of entries, and which seat each is of.
-use Rattle.std.specs.Prelude.{◌≡◌, ℕ, zero, suc, ◌==◌, ◌⊎◌, List, [], ◌∷◌}
+use Rattle.std.specs.Prelude.{◌≡◌, ℕ, zero, suc, ◌≤◌, ◌==◌, ◌⊎◌, List, [], ◌∷◌}
 use Rattle.std.specs.List.{filter}
 
 -- the list has this member
@@ -20,3 +20,8 @@ by seat_of k xs = filter (λ e. seat_of e == k) xs
 abbrev pub AllBy : {E : Type 0} → (E → ℕ) → ℕ → List E → Type 0
 AllBy seat_of k [] = Unit {0}
 AllBy seat_of k (e ∷ es) = ((seat_of e ≡ k) ⊎ (seat_of e ≡ 0)) × AllBy seat_of k es
+
+-- each of these entries is of nobody or of one of the seats from 1 to n
+abbrev pub AllUpTo : {E : Type 0} → (E → ℕ) → ℕ → List E → Type 0
+AllUpTo seat_of n [] = Unit {0}
+AllUpTo seat_of n (e ∷ es) = (seat_of e ≤ n) × AllUpTo seat_of n es

@@ -3,10 +3,11 @@ use Rattle.std.specs.Prelude.{ℕ, List, Option, None, Some, IsSome}
 use Rattle.std.proofs.Common.{sym, true≢false}
 use Rattle.atomic_table.specs.Seated.{TableId}
 
--- an inbox: what tells it from every other one, and the basis of its history
+-- an inbox: what tells it from every other one, the basis of its history, and how many seats it has
 pub record Identity (G : Type 0) : Type 0 where
   pub table : TableId
   pub basis : G
+  pub seats : ℕ
 
 pub record Opened (G : Type 0) : Type 0 where
   -- how many seats there are; their numbers are those from 1 on
@@ -17,7 +18,7 @@ pub record Known (E G : Type 0) : Type 0 where
   pub number : ℕ
   -- the beginning of the history that the seat has seen
   pub seen : List E
-  -- the lengths that it was told by its looks, in their order
+  -- the lengths that were loaded for it, in their order: `front` answers the one that it loads, and that of `learn` is told to nobody
   pub looks : List ℕ
   pub inbox : Identity G
 

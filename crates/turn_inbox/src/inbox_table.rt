@@ -1,7 +1,7 @@
 // The inbox as a table with places: word 0 counts the history, word 1 is the number of the seat that has the turn, and the one slot has the value.
 ghost use Rattle.std.specs.Prelude.{◌≡◌, ◌≤◌, ◌++◌, ◌∷◌, [], ℕ, List, true, false, Some, None, IsSome, length};
 ghost use mathlib.Core.List.{IsPrefix};
-ghost use Rattle.turn_inbox.specs.Entries.{by, AllBy};
+ghost use Rattle.turn_inbox.specs.Entries.{by, AllBy, AllUpTo};
 ghost use Rattle.turn_inbox.specs.Rule.{Grown, Has, merged};
 
 use crate::chronicle::Chronicle;
@@ -50,11 +50,12 @@ impl<M: Chronicle> InboxTable<M> {
     // Waits for the turn, and takes the value out of its slot.
     pub fn enter<R: Wait>(&self, rt: &R, seat: SeatPlace<M>) -> (M, TurnPlace<M>)
         requires { seat.place.table_id ≡ self.now.table.shared.table_id }
-        ensures same { (result.1.place.table_id ≡ seat.place.table_id) × (result.1.number ≡ seat.number) × (result.1.place.me.0.looks ≡ seat.place.me.0.looks) × (result.1.place.me.0.basis ≡ seat.place.me.0.basis) }
+        ensures same { (result.1.place.table_id ≡ seat.place.table_id) × (result.1.number ≡ seat.number) × (result.1.place.me.0.looks ≡ seat.place.me.0.looks) × (result.1.place.me.0.basis ≡ seat.place.me.0.basis) × (result.1.place.me.0.seats ≡ seat.place.me.0.seats) }
         ensures value { (M.list result.0 ≡ result.1.place.me.0.seen) × (result.1.place.me.0.basis ≡ Some (M.basis result.0)) }
         ensures seen { IsPrefix seat.place.me.0.seen result.1.place.me.0.seen }
         ensures mine { by M.seat_of seat.number result.1.place.me.0.seen ≡ by M.seat_of seat.number seat.place.me.0.seen }
         ensures lawful { M.lawful (M.basis result.0) result.1.place.me.0.seen }
+        ensures seats { AllUpTo M.seat_of seat.place.me.0.seats result.1.place.me.0.seen }
     {
         let SeatPlace { mut place, number } = seat;
         let shared = &self.table.shared;
@@ -75,9 +76,10 @@ impl<M: Chronicle> InboxTable<M> {
         requires here { hold.place.table_id ≡ self.now.table.shared.table_id }
         requires basis { hold.place.me.0.basis ≡ Some (M.basis value) }
         requires grown { (new : List M.Entry) × (M.list value ≡ hold.place.me.0.seen ++ new) × AllBy M.seat_of hold.number new }
-        ensures same { (result.place.table_id ≡ hold.place.table_id) × (result.number ≡ hold.number) × (result.place.me.0.looks ≡ hold.place.me.0.looks) × (result.place.me.0.basis ≡ hold.place.me.0.basis) }
+        ensures same { (result.place.table_id ≡ hold.place.table_id) × (result.number ≡ hold.number) × (result.place.me.0.looks ≡ hold.place.me.0.looks) × (result.place.me.0.basis ≡ hold.place.me.0.basis) × (result.place.me.0.seats ≡ hold.place.me.0.seats) }
         ensures seen { result.place.me.0.seen ≡ M.list value }
         ensures lawful { M.lawful (M.basis value) result.place.me.0.seen }
+        ensures seats { AllUpTo M.seat_of hold.place.me.0.seats result.place.me.0.seen }
     {
         let TurnPlace { mut place, number } = hold;
         let shared = &self.table.shared;
@@ -93,11 +95,12 @@ impl<M: Chronicle> InboxTable<M> {
     // Loads the count.
     pub fn front(&self, seat: SeatPlace<M>) -> (SeatPlace<M>, u64)
         requires { seat.place.table_id ≡ self.now.table.shared.table_id }
-        ensures same { (result.0.place.table_id ≡ seat.place.table_id) × (result.0.number ≡ seat.number) × (result.0.place.me.0.basis ≡ seat.place.me.0.basis) }
+        ensures same { (result.0.place.table_id ≡ seat.place.table_id) × (result.0.number ≡ seat.number) × (result.0.place.me.0.basis ≡ seat.place.me.0.basis) × (result.0.place.me.0.seats ≡ seat.place.me.0.seats) }
         ensures look { (result.0.place.me.0.looks ≡ seat.place.me.0.looks ++ result.1 ∷ []) × (length result.0.place.me.0.seen ≡ result.1) }
         ensures seen { IsPrefix seat.place.me.0.seen result.0.place.me.0.seen }
         ensures mine { by M.seat_of seat.number result.0.place.me.0.seen ≡ by M.seat_of seat.number seat.place.me.0.seen }
         ensures lawful { (b : M.Basis) → seat.place.me.0.basis ≡ Some b → M.lawful b result.0.place.me.0.seen }
+        ensures seats { AllUpTo M.seat_of seat.place.me.0.seats result.0.place.me.0.seen }
     {
         let SeatPlace { mut place, number } = seat;
         let front = self.table.shared.load::<Look<M>>(&mut place, 0);
@@ -108,7 +111,7 @@ impl<M: Chronicle> InboxTable<M> {
     pub fn note(&self, seat: SeatPlace<M>) -> (SeatPlace<M>, NotePlace<M>)
         requires { seat.place.table_id ≡ self.now.table.shared.table_id }
         ensures same { (result.0.place.table_id ≡ seat.place.table_id) × (result.0.number ≡ seat.number) × (result.0.place.me ≡ seat.place.me) }
-        ensures note { (result.1.place.table_id ≡ seat.place.table_id) × (result.1.place.me.0.seen ≡ seat.place.me.0.seen) × (result.1.place.me.0.basis ≡ seat.place.me.0.basis) }
+        ensures note { (result.1.place.table_id ≡ seat.place.table_id) × (result.1.place.me.0.seen ≡ seat.place.me.0.seen) × (result.1.place.me.0.basis ≡ seat.place.me.0.basis) × (result.1.place.me.0.seats ≡ seat.place.me.0.seats) }
     {
         let SeatPlace { mut place, number } = seat;
         let copy = self.table.shared.split_seat::<Copied>(&mut place);
@@ -119,11 +122,12 @@ impl<M: Chronicle> InboxTable<M> {
     pub fn learn(&self, seat: SeatPlace<M>, note: NotePlace<M>) -> SeatPlace<M>
         requires seat { seat.place.table_id ≡ self.now.table.shared.table_id }
         requires note { note.place.table_id ≡ self.now.table.shared.table_id }
-        ensures same { (result.place.table_id ≡ seat.place.table_id) × (result.number ≡ seat.number) × (result.place.me.0.basis ≡ seat.place.me.0.basis) }
+        ensures same { (result.place.table_id ≡ seat.place.table_id) × (result.number ≡ seat.number) × (result.place.me.0.basis ≡ seat.place.me.0.basis) × (result.place.me.0.seats ≡ seat.place.me.0.seats) }
         ensures look { result.place.me.0.looks ≡ seat.place.me.0.looks ++ length result.place.me.0.seen ∷ [] }
         ensures seen { IsPrefix seat.place.me.0.seen result.place.me.0.seen × IsPrefix note.place.me.0.seen result.place.me.0.seen }
         ensures mine { by M.seat_of seat.number result.place.me.0.seen ≡ by M.seat_of seat.number seat.place.me.0.seen }
         ensures lawful { (b : M.Basis) → seat.place.me.0.basis ≡ Some b → M.lawful b result.place.me.0.seen }
+        ensures seats { AllUpTo M.seat_of seat.place.me.0.seats result.place.me.0.seen }
     {
         let SeatPlace { place, number } = seat;
         let NotePlace { place: other } = note;
@@ -132,8 +136,8 @@ impl<M: Chronicle> InboxTable<M> {
     }
 }
 
-/// Joins the other place to this one, and loads the count, so that this one has seen all that both had.
-pub fn absorb<M: Chronicle>(
+// Joins the other place to this one, and loads the count, so that this one has seen all that both had.
+fn absorb<M: Chronicle>(
     shared: &Shared<Option<M>, View<M::Entry, M::Basis>, Founding<M>, Law<M>>,
     mut place: atomic_table::Seat<Option<M>, View<M::Entry, M::Basis>>,
     other: atomic_table::Seat<Option<M>, View<M::Entry, M::Basis>>,
@@ -141,7 +145,7 @@ pub fn absorb<M: Chronicle>(
     requires here { (place.table_id ≡ shared.now.table_id) × (other.table_id ≡ shared.now.table_id) × (shared.now.table_id.words ≡ 2) }
     requires rest { (place.me.1 ≡ []) × (place.me.0.turn ≡ false) × (other.me.1 ≡ []) × (other.me.0.turn ≡ false) }
     requires some { (k : ℕ) × Has k place.me.0 }
-    ensures same { (result.table_id ≡ place.table_id) × (result.me.1 ≡ []) × (result.me.0.turn ≡ false) × (result.me.0.basis ≡ place.me.0.basis) }
+    ensures same { (result.table_id ≡ place.table_id) × (result.me.1 ≡ []) × (result.me.0.turn ≡ false) × (result.me.0.basis ≡ place.me.0.basis) × (result.me.0.seats ≡ place.me.0.seats) }
     ensures look { result.me.0.looks ≡ place.me.0.looks ++ length result.me.0.seen ∷ [] }
     ensures mine { result.me.0.mine ≡ place.me.0.mine ++ other.me.0.mine }
     ensures grown { Grown M.seat_of M.lawful (merged place.me.0 other.me.0) result.me.0.seen }

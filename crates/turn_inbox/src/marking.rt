@@ -1,4 +1,4 @@
-ghost use Rattle.std.specs.Prelude.{◌≡◌, ◌++◌, [], ◌∷◌, IfErr, length, MatchResult, ◌↔◌};
+ghost use Rattle.std.specs.Prelude.{◌≡◌, ◌++◌, [], ◌∷◌, IfErr, IfOk, length, MatchResult, ◌↔◌};
 ghost use Rattle.turn_inbox.specs.declared.ledger.AddFault.TheVariants.{Full};
 ghost use mathlib.Core.List.{IsPrefix};
 ghost use Rattle.turn_inbox.specs.Entries.{by};
@@ -19,6 +19,7 @@ pub fn add_mark<R: Wait>(
     ensures same { (result.0.number ≡ seat.number) × (result.0.looks ≡ seat.looks) × (result.0.inbox ≡ seat.inbox) }
     ensures seen { IsPrefix seat.seen result.0.seen }
     ensures mine { MatchResult result.1 (λ _. by (λ m. m.seat) seat.number result.0.seen ≡ by (λ m. m.seat) seat.number seat.seen ++ record { seat = seat.number; number = number } ∷ []) (λ _. by (λ m. m.seat) seat.number result.0.seen ≡ by (λ m. m.seat) seat.number seat.seen) }
+    ensures added { IfOk result.1 (λ _. (before : _) × IsPrefix seat.seen before × (result.0.seen ≡ before ++ record { seat = seat.number; number = number } ∷ [])) }
     ensures fault { IfErr result.1 (λ f. (f ≡ Full) ↔ (length result.0.seen ≡ seat.inbox.basis)) }
 {
     let mut turn = inbox.enter(rt, seat);

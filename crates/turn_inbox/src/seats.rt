@@ -15,7 +15,7 @@ impl<M: Chronicle> Model for Seat<M> {
 
     ghost Value = { Known M.Entry M.Basis };
 
-    ghost view = { λ s. record { number = s.place.number; seen = s.place.place.me.0.seen; looks = s.place.place.me.0.looks; inbox = record { table = s.place.place.table_id; basis = sure s.place.place.me.0.basis s.place.based } } };
+    ghost view = { λ s. record { number = s.place.number; seen = s.place.place.me.0.seen; looks = s.place.place.me.0.looks; inbox = record { table = s.place.place.table_id; basis = sure s.place.place.me.0.basis s.place.based; seats = s.place.place.me.0.seats } } };
 }
 
 impl<M: Chronicle> Seat<M> {
@@ -38,7 +38,7 @@ impl<M: Chronicle> Model for Note<M> {
 
     ghost Value = { Noted M.Entry M.Basis };
 
-    ghost view = { λ n. record { seen = n.place.place.me.0.seen; inbox = record { table = n.place.place.table_id; basis = sure n.place.place.me.0.basis n.place.based } } };
+    ghost view = { λ n. record { seen = n.place.place.me.0.seen; inbox = record { table = n.place.place.table_id; basis = sure n.place.place.me.0.basis n.place.based; seats = n.place.place.me.0.seats } } };
 }
 
 /// The turn, with the value. It is not `Drop`: it has to be left.
@@ -52,7 +52,7 @@ impl<M: Chronicle> Model for Turn<M> {
 
     ghost Value = { Held M M.Entry M.Basis };
 
-    ghost view = { λ t. record { value = t.value; number = t.place.number; seen = t.place.place.me.0.seen; looks = t.place.place.me.0.looks; inbox = record { table = t.place.place.table_id; basis = sure t.place.place.me.0.basis t.place.based } } };
+    ghost view = { λ t. record { value = t.value; number = t.place.number; seen = t.place.place.me.0.seen; looks = t.place.place.me.0.looks; inbox = record { table = t.place.place.table_id; basis = sure t.place.place.me.0.basis t.place.based; seats = t.place.place.me.0.seats } } };
 }
 
 impl<M: Chronicle> Turn<M> {

@@ -1,6 +1,5 @@
 ghost use Rattle.std.specs.Prelude.{◌≡◌, ◌≤◌, ◌∷◌, [], IfSome, map, vec_len, vec_capacity};
-ghost use mathlib.Core.List.{IsPrefix};
-ghost use Rattle.turn_inbox.specs.Entries.{Among, count_from};
+ghost use Rattle.turn_inbox.specs.Entries.{AllBy, Among, count_from};
 
 use super::*;
 use std::alloc::Global;
@@ -105,19 +104,78 @@ fn two_seats(alloc: Global) -> Option<(Inbox<Ledger>, Seat<Ledger>, Seat<Ledger>
     }
 }
 
-// The first seat hands a note to the second.
-fn hand_over(
-    inbox: &Inbox<Ledger>,
+// The first seat marks three times in a thread of its own, and hands over a note of what it has seen; the second learns it, and tells how many marks there are then.
+fn hand_over<R: Threads + Wait + Sync>(
+    rt: &R,
+    inbox: Inbox<Ledger>,
     first: Seat<Ledger>,
     second: Seat<Ledger>,
-) -> (Seat<Ledger>, Seat<Ledger>)
-    requires here { (first.inbox ≡ inbox.now.inbox) × (second.inbox ≡ inbox.now.inbox) }
-    ensures same { (result.0 ≡ first) × (result.1.inbox ≡ second.inbox) }
-    ensures seen { IsPrefix first.seen result.1.seen × IsPrefix second.seen result.1.seen }
+    mut row: Vec<Seat<Ledger>>,
+) -> (u64, Ledger)
+    requires here { (first.inbox ≡ inbox.inbox) × (second.inbox ≡ inbox.inbox) }
+    requires numbers { (first.number ≡ 1) × (second.number ≡ 2) × (inbox.seats ≡ 2) }
+    requires room { (vec_len row ≡ 0) × (2 ≤ vec_capacity row) }
 {
-    let (first, note) = inbox.note(first);
+    let (one, second) = join(
+        rt,
+        || -> (Seat<Ledger>, Note<Ledger>)
+            requires { first.inbox ≡ inbox.inbox }
+            ensures { (result.0.number ≡ first.number) × (result.0.inbox ≡ first.inbox) × (result.1.inbox ≡ first.inbox) }
+        {
+            let seat = mark_many(rt, &inbox, first, 3);
+            inbox.note(seat)
+        },
+        || -> Seat<Ledger>
+            requires { second.inbox ≡ inbox.inbox }
+            ensures { (result.number ≡ second.number) × (result.inbox ≡ second.inbox) }
+        {
+            let (seat, _front) = inbox.front(second);
+            seat
+        },
+    );
+    let (first, note) = one;
     let second = inbox.learn(second, note);
-    (first, second)
+    let (second, front) = inbox.front(second);
+    row.push_reserved(first);
+    row.push_reserved(second);
+    (front, inbox.close(row))
+}
+
+// The same with the two seats of an inbox, taken out of their row.
+fn hand_over_in_row<R: Threads + Wait + Sync>(
+    rt: &R,
+    inbox: Inbox<Ledger>,
+    mut seats: Vec<Seat<Ledger>>,
+) -> (u64, Ledger)
+    requires here { (s : _) → Among s seats.items → s.inbox ≡ inbox.inbox }
+    requires numbers { (map (λ s. s.number) seats.items ≡ 1 ∷ 2 ∷ []) × (inbox.seats ≡ 2) }
+{
+    let second = seats.pop();
+    let Some(second) = second else { unreachable!() };
+    let first = seats.pop();
+    let Some(first) = first else { unreachable!() };
+    hand_over(rt, inbox, first, second, seats)
+}
+
+// A ledger with a mark of nobody, where there is memory for it.
+fn marked_by_nobody(alloc: Global) -> Ledger
+    ensures fresh { AllBy (λ m. m.seat) 0 result.marks.items }
+{
+    let mut ledger = Ledger::new(alloc, 10);
+    let _added = ledger.add(Mark { seat: 0, number: 7 });
+    ledger
+}
+
+// An inbox that is closed before any turn gives back the list that it began with.
+fn open_and_close(alloc: Global, ledger: Ledger, seats: u32) -> Ledger
+    requires seats { (1 ≤ seats) × (seats ≤ 64) }
+    requires fresh { AllBy (λ m. m.seat) 0 ledger.marks.items }
+    ensures marks { result.marks.items ≡ ledger.marks.items }
+{
+    match Inbox::new(alloc, ledger, seats) {
+        Err(ledger) => ledger,
+        Ok((inbox, row)) => inbox.close(row),
+    }
 }
 
 // One turn for each seat, from the last to the first, with its number as the mark.
@@ -166,14 +224,13 @@ fn two_threads_take_many_turns(rt: HostRuntime) -> Result<(), Fail> {
 }
 
 #[test]
-fn a_note_tells_what_a_seat_had_seen(rt: HostRuntime) -> Result<(), Fail> {
-    let Some((inbox, first, second)) = two_seats(rt.alloc()) else {
+fn a_note_from_a_thread_is_learned(rt: HostRuntime) -> Result<(), Fail> {
+    let Ok((inbox, seats)) = Inbox::new(rt.alloc(), Ledger::new(rt.alloc(), 10), 2) else {
         return Err(Fail::new("memory"));
     };
-    let first = mark_many(&rt, &inbox, first, 3);
-    let (_first, second) = hand_over(&inbox, first, second);
-    let (_second, front) = inbox.front(second);
+    let (front, ledger) = hand_over_in_row(&rt, inbox, seats);
     assert_eq!(rt; front, 3);
+    assert!(rt; ledger.marks.len() == 3 && are_in_order(&ledger, 1, 3));
     Ok(())
 }
 
@@ -189,6 +246,13 @@ fn a_front_is_read_while_another_seat_has_the_turn(rt: HostRuntime) -> Result<()
     let _first = inbox.leave(turn);
     let (_second, after) = inbox.front(second);
     assert!(rt; added.is_ok() && before == 0 && after == 1);
+    Ok(())
+}
+
+#[test]
+fn an_inbox_without_a_turn_gives_its_marks_back(rt: HostRuntime) -> Result<(), Fail> {
+    let ledger = open_and_close(rt.alloc(), marked_by_nobody(rt.alloc()), 3);
+    assert!(rt; ledger.marks.len() == 1 && are_in_order(&ledger, 1, 0));
     Ok(())
 }
 

@@ -8,12 +8,14 @@ pub struct View<E, G> {
     pub seen: LinkedList<E>,
     /// The place for a stamp beside each entry that was seen. No step writes it.
     pub stamps: LinkedList<u64>,
-    /// A beginning of the history that it was told of.
-    pub told: LinkedList<E>,
-    /// The lengths that its looks told.
+    /// What the views that were joined had seen.
+    pub told: LinkedList<LinkedList<E>>,
+    /// The lengths that its looks loaded.
     pub looks: LinkedList<u64>,
     /// The basis of the history; none where the view was joined away.
     pub basis: Option<G>,
+    /// How many seats the inbox has; 0 where the view was joined away.
+    pub seats: u64,
     /// The place for the ticket of a seat that waits. No step writes it.
     pub ticket: u64,
     /// It has the turn.

@@ -19,6 +19,12 @@ returns-in-Ok-clause-made g c =
     base_table c.args.manager.now c.requires.based c.deref.result.now (c.deref.ensures ∙ c.catalog.ensures) c.args.table c.cube_of.result c.cube_of.ensures.cube c.cube_of.ensures.within c.in_ok-snapshot.snapshot c.in_ok-snapshot.ensures.version c.in_ok-snapshot.ensures.rows
     c.deref-2.result.now (c.deref-2.ensures ∙ c.catalog-2.ensures) c.in-Ok.made c.in-Ok.ensures.table
 
+pub returns-in-Ok-clause-cost : goal.returns-in-Ok-clause-cost
+returns-in-Ok-clause-cost g c =
+    let rows =
+    rows_here c.args.manager.now c.requires.based c.deref.result.now (c.deref.ensures ∙ c.catalog.ensures) c.args.table c.cube_of.result c.cube_of.ensures.cube c.cube_of.ensures.within c.in_ok-snapshot.snapshot c.in_ok-snapshot.ensures.version c.in_ok-snapshot.ensures.rows in
+    rw (← rows) c.in-Ok.ensures.cost
+
 pub returns-in-Ok-clause-at_most : goal.returns-in-Ok-clause-at_most
 returns-in-Ok-clause-at_most g c =
     let rows =
@@ -45,6 +51,7 @@ returns g c =
       fault =
           table_wrong c.args.manager.now c.requires.based c.deref.result.now (c.deref.ensures ∙ c.catalog.ensures) c.args.table c.cube_of.result c.cube_of.ensures.cube c.cube_of.ensures.within c.in_ok-snapshot.snapshot c.in_ok-snapshot.ensures.version c.in_ok-snapshot.ensures.rows
           c.deref-2.result.now (c.deref-2.ensures ∙ c.catalog-2.ensures) c.args.bytes.now c.args.file.now c.in-Err.fault c.refused_aggregate.result other c.in-Err.ensures.fault c.refused_aggregate.ensures;
+      cost = tt;
       at_least = c.check.ensures.at_least;
       at_most = rw (← rows) c.check.ensures.at_most;
     }

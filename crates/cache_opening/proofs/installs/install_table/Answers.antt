@@ -3,7 +3,7 @@ use Rattle.std.proofs.Common.{◌∙◌, length, slice_get}
 use Rattle.std.proofs.lemmas.Result.{err_from_is_err_and}
 use Rattle.cache_opening.specs.Opening.{base_rows}
 use Rattle.cache_opening.specs.Steps.{base_in, batches_in}
-use Rattle.cache_opening.proofs.CameFacts.{none_came, none_read, some_came, some_read}
+use Rattle.cache_opening.proofs.CameFacts.{none_came, none_cost, none_read, some_came, some_cost, some_read}
 use Rattle.cache_opening.proofs.CheckSteps.{none_installed, one_stops}
 use Rattle.cache_opening.proofs.EntryFacts.{opened_next}
 use Rattle.cache_opening.proofs.installs.install_table.Goals as goal
@@ -36,6 +36,16 @@ pub returns-in_ok-install-in-Some-clause-at_most : goal.returns-in_ok-install-in
 returns-in_ok-install-in-Some-clause-at_most g c =
     some_read (slice_get c.args.manager.now.setting.catalog.schema.aggregates c.args.table) c.in-Some.file.now (g.D.Depot.answers c.args.depot.now) (g.D.Depot.answers c.open_aggregate.new.depot) c.args.steps.now c.open_aggregate.new.steps (length (base_rows c.args.manager.now.setting.catalog (batches_in c.args.manager.now.entries) c.args.table))
     (rw (c.deref.ensures ∙ c.catalog.ensures) at c.in-Some.ensures) c.open_aggregate.ensures.at_most
+
+pub returns-in_ok-install-in-Some-clause-cost : goal.returns-in_ok-install-in-Some-clause-cost
+returns-in_ok-install-in-Some-clause-cost g c =
+    some_cost (slice_get c.args.manager.now.setting.catalog.schema.aggregates c.args.table) c.in-Some.file.now c.args.steps.now c.open_aggregate.new.steps (length (base_rows c.args.manager.now.setting.catalog (batches_in c.args.manager.now.entries) c.args.table))
+    (rw (c.deref.ensures ∙ c.catalog.ensures) at c.in-Some.ensures) c.in_ok-made-in-Some.ensures.cost
+
+pub returns-in-None-clause-cost : goal.returns-in-None-clause-cost
+returns-in-None-clause-cost g c =
+    none_cost (slice_get c.args.manager.now.setting.catalog.schema.aggregates c.args.table) c.args.steps.now (length (base_rows c.args.manager.now.setting.catalog (batches_in c.args.manager.now.entries) c.args.table))
+    (rw (c.deref.ensures ∙ c.catalog.ensures) at c.in-None.ensures)
 
 pub returns-in_ok-install-in-Some-clause-came : goal.returns-in_ok-install-in-Some-clause-came
 returns-in_ok-install-in-Some-clause-came g c =

@@ -4,7 +4,7 @@ use Rattle.cache_opening.proofs.OpenSteps.{batches_unread, begun, catalog_unread
 use Rattle.cache_opening.proofs.opened.open_base.Goals as goal
 
 pub open_cubes-requires : goal.open_cubes-requires
-open_cubes-requires g c = begun c.in_ok-catalog.catalog c.in_ok-manager.manager c.in_ok-catalog.ensures.whole c.in_ok-manager.ensures
+open_cubes-requires g c = begun c.in_ok-catalog.catalog c.args.budget c.in_ok-manager.manager c.in_ok-catalog.ensures.whole c.in_ok-manager.ensures
 
 pub returns-in_err-catalog-clause-fault : goal.returns-in_err-catalog-clause-fault
 returns-in_err-catalog-clause-fault g c =
@@ -19,10 +19,10 @@ returns-in_err-manager-clause-fault g c =
 pub returns-in_err-open_cubes-clause-fault : goal.returns-in_err-open_cubes-clause-fault
 returns-in_err-open_cubes-clause-fault g c =
     let p = err_from_is_err_and c.from_residual-in_err-open_cubes.result c.from_residual-in_err-open_cubes.ensures.1 in rw (p.1, p.2)
-    (batches_unread c.args.file.now (g.D.Depot.files c.args.depot.now) (g.D.Depot.answers c.args.depot.now) (g.D.Depot.answers c.open_catalog.new.depot) (g.D.Depot.answers c.open_cubes.new.depot) c.in_ok-catalog.catalog c.in_ok-catalog.ensures.read c.in_ok-manager.manager c.in_ok-manager.ensures
+    (batches_unread c.args.file.now (g.D.Depot.files c.args.depot.now) (g.D.Depot.answers c.args.depot.now) (g.D.Depot.answers c.open_catalog.new.depot) (g.D.Depot.answers c.open_cubes.new.depot) c.in_ok-catalog.catalog c.in_ok-catalog.ensures.read c.args.budget c.in_ok-manager.manager c.in_ok-manager.ensures
     c.in_err-open_cubes.field-0.0 (rw c.open_catalog.ensures.same_files at c.in_err-open_cubes.ensures.fault))
 
 pub returns-clause-base : goal.returns-clause-base
 returns-clause-base g c =
-    has_base c.args.file.now (g.D.Depot.files c.args.depot.now) (g.D.Depot.answers c.args.depot.now) (g.D.Depot.answers c.open_catalog.new.depot) (g.D.Depot.answers c.open_cubes.new.depot) c.in_ok-catalog.catalog c.in_ok-catalog.ensures.read c.in_ok-manager.manager c.in_ok-manager.ensures
+    has_base c.args.file.now (g.D.Depot.files c.args.depot.now) (g.D.Depot.answers c.args.depot.now) (g.D.Depot.answers c.open_catalog.new.depot) (g.D.Depot.answers c.open_cubes.new.depot) c.in_ok-catalog.catalog c.in_ok-catalog.ensures.read c.args.budget c.in_ok-manager.manager c.in_ok-manager.ensures
     c.open_cubes.new.manager c.open_cubes.ensures.setting (rw c.open_catalog.ensures.same_files at c.in_ok-open_cubes.ensures.ok)

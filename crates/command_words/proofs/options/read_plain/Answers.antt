@@ -5,7 +5,7 @@ use Rattle.clap.specs.Simple.{is_simple, matches_of}
 use Rattle.clap.specs.Kinds.{HasKind}
 use Rattle.clap.specs.Faults.{fault_of, is_simple_and_free}
 use Rattle.clap.specs.declared.error.kind.ErrorKind.TheVariants as kind
-use Rattle.olap_meaning.specs.Options.{command_line}
+use Rattle.command_words.specs.Options.{command_line}
 use Rattle.command_words.specs.Shapes.{known_option, options_app}
 use Rattle.command_words.proofs.ClapFacts.{among-full, has-options, options-free, options-read, options-refused, options-simple}
 use Rattle.command_words.proofs.options.read_plain.Goals as goal

@@ -3,4 +3,6 @@ use Rattle.olap_server.proofs.CompleteFacts.{run_complete}
 use Rattle.olap_server.proofs.laws.runs_are_complete.Goals as goal
 
 pub returns : goal.returns
-returns g c = λ files opened history start finish status read ends none memory. run_complete _ files opened history start finish status read ends none memory
+returns g c =
+    λ given files all command opening start finish steps_before steps_after history status runs asks answers opens unread none memory replies.
+    run_complete _ given files all command opening start finish steps_before steps_after history status runs asks answers opens unread none memory replies

@@ -1,6 +1,7 @@
 -- Where there is no memory for the catalog's owner, no session begins.
-use Rattle.std.proofs.Common.{arith, refl}
-use Rattle.olap_server.specs.Run.{around_of}
+use Rattle.std.proofs.Common.{[], arith, refl}
+use Rattle.line_session.proofs.GoingOn.{stands}
+use Rattle.olap_server.specs.Run.{around_of, desk_over}
 use Rattle.olap_server.proofs.RunFacts.{has_not_begun}
 use Rattle.olap_server.proofs.sessions.serve_desk.Goals as goal
 
@@ -14,4 +15,5 @@ returns-in-Err g c =
         omega arith,
         has_not_begun _ (g.D.Depot.files c.args.depot.now) c.args.desk.now c.args.desk.now start finish c.say-in-Err.result c.no_memory.result refl c.no_memory.ensures c.say-in-Err.ensures.last refl c.say-in-Err.ensures.unread,
       );
+      grown = ([], stands (desk_over c.args.desk.now));
     }

@@ -4,8 +4,9 @@ use Rattle.shown_values.specs.contracts.formatter.FormatterGivesTexts.TheImpl as
 use Rattle.segment_header.specs.contracts.widener.WidenerAllowsValues.TheImpl as widens
 use Rattle.line_session.specs.Tools.{tools_of}
 use Rattle.history_core.specs.Cache.{CacheOf}
-use Rattle.olap_server.specs.Run.{ServesDesk, around_of}
-use Rattle.olap_server.proofs.RunFacts.{ends_run}
+use Rattle.line_session.specs.Desks.{GoesOn}
+use Rattle.olap_server.specs.Run.{ServesDesk, around_of, desk_over}
+use Rattle.olap_server.proofs.RunFacts.{begins_with, ends_run}
 use Rattle.olap_server.proofs.sessions.serve_opened.Goals as goal
 
 pub returns-clause-served : goal.returns-clause-served
@@ -26,3 +27,10 @@ returns-clause-at_least g c = let read = c.serve_desk-status.ensures.served.1 in
 
 pub returns-clause-legal : goal.returns-clause-legal
 returns-clause-legal g c = rw (c.into_history.ensures.setting, c.into_history.ensures.entries) c.steps_are_legal.ensures
+
+pub returns-clause-begins : goal.returns-clause-begins
+returns-clause-begins g c =
+    let same = c.into_manager-manager.ensures.same in
+    begins_with c.args.opened c.serve_desk-status.new.desk c.into_history.result
+    (c.into_history.ensures.setting ∙ ap (λ (k : CacheOf). k.setting) same) (c.into_history.ensures.entries ∙ ap (λ (k : CacheOf). k.entries) same)
+    (subst (λ (k : CacheOf). GoesOn (desk_over k) (desk_over c.serve_desk-status.new.desk)) c.new-desk.ensures c.serve_desk-status.ensures.grown)

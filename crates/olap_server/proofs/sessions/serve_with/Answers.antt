@@ -26,6 +26,7 @@ returns-in_default g c =
           last = c.last_word.ensures;
         }),
       );
+      grown = c.serve.ensures.grown;
     }
 
 pub returns-in-Memory : goal.returns-in-Memory
@@ -39,4 +40,5 @@ returns-in-Memory g c =
         (let none = still.3 in omega (arith, none)),
         has_not_begun _ (g.D.Depot.files c.args.depot.now) c.args.desk.now c.serve.new.desk start finish c.say-in-Memory.result c.no_memory.result (ap (λ (desk : DeskOf). desk.cache) still.0) c.no_memory.ensures (rw still.1 at c.say-in-Memory.ensures.last) (ap g.D.Depot.answers still.2) (c.say-in-Memory.ensures.unread ∙ ap g.K.Link.left still.1),
       );
+      grown = c.serve.ensures.grown;
     }

@@ -14,7 +14,7 @@ loop-number-init g c =
       low = omega arith;
       left = (c.args.seats - 1, omega arith, c.requires.mine ∙ ap (up_from g.M.Chronicle.seat_of c.args.place.me.0.seen 1) (sym n));
       here = c.requires.here.0;
-      view = (c.requires.first.0, c.requires.first.1, c.requires.first.2, refl, refl);
+      view = (c.requires.first.0, c.requires.first.1, c.requires.first.2, refl, refl, refl);
       room = (search rules, search rules);
       numbers = numbered_none _ _ _ none c.requires.room.0;
       each = λ b on. each_none _ _ none;
@@ -38,10 +38,10 @@ loop-number-preserved g c =
       low = omega arith;
       left = (i.left.0 - 1, omega arith, ap (λ m. m.0.mine) s.2 ∙ longer_mine _ _ _ _ _ _ (next_mine _ _ _ _ _ i.left.2) n);
       here = s.0 ∙ i.here;
-      view = (ap (λ m. m.1) s.2 ∙ i.view.0, ap (λ m. m.0.turn) s.2 ∙ i.view.1, ap (λ m. m.0.looks) s.2 ∙ i.view.2, ap (λ m. m.0.seen) s.2 ∙ i.view.3, ap (λ m. m.0.basis) s.2 ∙ i.view.4);
+      view = (ap (λ m. m.1) s.2 ∙ i.view.0, ap (λ m. m.0.turn) s.2 ∙ i.view.1, ap (λ m. m.0.looks) s.2 ∙ i.view.2, ap (λ m. m.0.seen) s.2 ∙ i.view.3, ap (λ m. m.0.basis) s.2 ∙ i.view.4, ap (λ m. m.0.seats) s.2 ∙ i.view.5);
       room = (search rules, search rules);
       numbers = ap (map (λ t. t.number)) p.items ∙ numbered_push _ _ _ _ _ i.numbers (sym i.room.0 ∙ sym p.len) (sym p.len);
-      each = λ b on. subst (λ items. (t : _) → Among t items → (t.inbox ≡ record { table = c.args.shared.now.table_id; basis = b }) × (t.seen ≡ c.args.place.me.0.seen) × (t.looks ≡ [])) (sym p.items) (each_push _ _ _ (i.each b on) (identity_is _ _ _ _ _ (s.3 ∙ i.here) (ap (λ m. m.0.basis) s.4 ∙ i.view.4 ∙ on), ap (λ m. m.0.seen) s.4 ∙ i.view.3, ap (λ m. m.0.looks) s.4));
+      each = λ b on. subst (λ items. (t : _) → Among t items → (t.inbox ≡ record { table = c.args.shared.now.table_id; basis = b; seats = c.args.place.me.0.seats }) × (t.seen ≡ c.args.place.me.0.seen) × (t.looks ≡ [])) (sym p.items) (each_push _ _ _ (i.each b on) (identity_is _ _ _ _ _ _ _ (s.3 ∙ i.here) (ap (λ m. m.0.basis) s.4 ∙ i.view.4 ∙ on) (ap (λ m. m.0.seats) s.4 ∙ i.view.5), ap (λ m. m.0.seen) s.4 ∙ i.view.3, ap (λ m. m.0.looks) s.4));
     }
 
 pub returns-clause-numbers : goal.returns-clause-numbers
@@ -56,4 +56,4 @@ pub returns-clause-each : goal.returns-clause-each
 returns-clause-each g c = λ b on.
     let i = c.loop-number.invariant in
     let p = c.push_reserved-2.ensures in
-    subst (λ items. (t : _) → Among t items → (t.inbox ≡ record { table = c.args.shared.now.table_id; basis = b }) × (t.seen ≡ c.args.place.me.0.seen) × (t.looks ≡ [])) (sym p.items) (each_push _ _ _ (i.each b on) (identity_is _ _ _ _ _ i.here (i.view.4 ∙ on), i.view.3, i.view.2))
+    subst (λ items. (t : _) → Among t items → (t.inbox ≡ record { table = c.args.shared.now.table_id; basis = b; seats = c.args.place.me.0.seats }) × (t.seen ≡ c.args.place.me.0.seen) × (t.looks ≡ [])) (sym p.items) (each_push _ _ _ (i.each b on) (identity_is _ _ _ _ _ _ _ i.here (i.view.4 ∙ on) i.view.5, i.view.3, i.view.2))

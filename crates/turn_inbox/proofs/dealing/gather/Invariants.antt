@@ -1,5 +1,4 @@
-use Rattle.std.proofs.Common.{◌≡◌, ◌⊎◌, [], false, vec_len, ℕ}
-use mathlib.Core.List.{IsPrefix}
+use Rattle.std.proofs.Common.{◌≡◌, ◌⊎◌, [], ◌∷◌, false, vec_len, ℕ}
 use Rattle.turn_inbox.specs.Entries.{Among, by}
 use Rattle.turn_inbox.proofs.dealing.gather.Given as goal
 
@@ -9,7 +8,8 @@ invariant-loop-seat g l = record {
   here : l.place.table_id ≡ l.fn.shared.table_id;
   view : (l.place.me.1 ≡ []) × (l.place.me.0.turn ≡ false);
   rest : (s : _) → Among s l.seats.items → Among s l.fn.seats.items;
-  each : (s : _) → Among s l.fn.seats.items → Among s l.seats.items ⊎ (IsPrefix s.seen l.place.me.0.seen × Among (s.number, by g.M.Chronicle.seat_of s.number s.seen) l.place.me.0.mine);
+  each : (s : _) → Among s l.fn.seats.items → Among s l.seats.items ⊎ (Among s.seen (l.place.me.0.seen ∷ l.place.me.0.told) × Among (s.number, by g.M.Chronicle.seat_of s.number s.seen) l.place.me.0.mine);
+  newest : (s : _) × Among s l.fn.seats.items × (s.seen ≡ l.place.me.0.seen);
   some : (own : ℕ) × (es : _) × Among (own, es) l.place.me.0.mine;
 }
 

@@ -1,6 +1,7 @@
 use Rattle.std.proofs.Common.{◌≡◌, rules, sym, ap, ◌∙◌, subst, ◌∷◌, [], Some, None}
 use Rattle.atomic_table.specs.Table.{rest}
 use Rattle.turn_inbox.specs.Entries.{by}
+use Rattle.turn_inbox.proofs.Prefixes.{upto_same}
 use Rattle.turn_inbox.proofs.Moves.{enters_at, entered, lawful_on, has_own, own_again, same_slot}
 use Rattle.std.specs.Prelude.{is_some}
 use Rattle.turn_inbox.proofs.inbox_table.InboxTable.enter.Goals as goal
@@ -39,3 +40,10 @@ invariant_of-result g c =
       );
       based = ap is_some (ap (λ m. m.0.basis) e ∙ ap (λ m. m.0.basis) h.1 ∙ ap (λ m. m.0.basis) same) ∙ c.args.seat.based;
     }
+
+pub returns-then-found-eq0-clause-seats : goal.returns-then-found-eq0-clause-seats
+returns-then-found-eq0-clause-seats g c =
+    let same = c.loop.invariant.1 in
+    let h = entered _ _ _ c.compare_exchange-found.ensures.2 c.if-found-eq0.true in
+    let own = has_own _ _ _ (ap (λ m. m.0.mine) same ∙ c.args.seat.numbered.1) in
+    upto_same _ _ _ _ _ (ap (λ m. m.0.seats) same) (sym (ap (λ m. m.0.seen) c.exchange-taken.ensures.3 ∙ ap (λ m. m.0.seen) h.1)) (h.3.authors _ own)

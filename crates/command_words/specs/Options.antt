@@ -1,7 +1,8 @@
 -- Command lines of options, each with one value.
-use Rattle.std.specs.Prelude.{ℕ, ◌==◌, ◌&&◌, ◌||◌, Bool, true, false, not, List, [], ◌∷◌, Option, Some, None, if◌then◌else◌, find, option_map, codes, bytes_eq}
+use Rattle.std.specs.Prelude.{ℕ, ◌+◌, ◌==◌, ◌&&◌, ◌||◌, Bool, true, false, not, nat_le, List, [], ◌∷◌, length, Option, Some, None, if◌then◌else◌, find, option_map, bytes_eq}
 use Rattle.std.specs.List.{list_all, list_any, before_first, after_first}
 use Rattle.std.specs.Option.{option_and_then}
+use Rattle.olap_meaning.specs.Records.{digits_below}
 
 -- a text is a list of bytes
 abbrev pub Text : Type 0
@@ -95,10 +96,13 @@ command_line known words = taken known (options_from None words)
 abbrev pub value_of : Text → Given → Option Text
 value_of name given = option_map (λ option. option.1) (find (λ option. bytes_eq option.0 name) given)
 
--- what `run` knows: the option `--schema`, which must be given
-abbrev pub run_known : Known
-run_known = (codes "schema", true) ∷ []
+-- a number up to this one, in 1 to 20 ASCII digits
+abbrev pub number_to : ℕ → Text → Option ℕ
+number_to most value =
+    if nat_le (length value) 20 then digits_below (most + 1) value else None
 
--- the schema's file of the words after `run`, --schema FILE; None where they are no command line
-abbrev pub run_file : List Text → Option Text
-run_file words = option_and_then (value_of (codes "schema")) (command_line run_known words)
+-- the number that an option gives, up to this one, or the usual one where the option is not given; None where its value is no
+-- such number
+abbrev pub number_or : ℕ → ℕ → Option Text → Option ℕ
+number_or most usual None = Some usual
+number_or most usual (Some value) = number_to most value
