@@ -272,6 +272,11 @@ module _
         opened_is all command.file opening ok run.opened.opening run.opened.read.answers
         (subst (λ (f : List ℕ). Comes (opening_from f) run.opened.read.answers (Ok run.opened.opening)) (ap (λ (c : RunCommand). c.file) same) run.opened.read.comes) theirs
 
+    opening_read : Leads files start.answers run.answers (opening_from command.file) (Ok opening)
+    opening_read =
+        subst (λ (o : Opening). Leads files start.answers run.answers (opening_from command.file) (Ok o)) opened_same
+        (subst (λ (c : RunCommand). Leads files start.answers run.answers (opening_from c.file) (Ok run.opened.opening)) same run.opened.read)
+
     grown : (more : List Event) × (finish.talk ≡ served.talk ++ more)
     grown = last_grows served.end served.talk finish.talk status served.last
 
@@ -288,10 +293,12 @@ module _
       entries = run.opened.entries ∙ ap (λ (o : Opening). opened_entries o.batches o.tables) opened_same;
       begins = run.begins;
       answers = run.answers;
+      read = opening_read;
       end = served.end;
       by_itself = itself;
       talk = served.talk;
       asked = served.conversed.asked;
+      answered = served.conversed.answered;
       handled = served.handled;
       conversed = served.conversed;
       lines = served.served.lines;

@@ -18,7 +18,8 @@ use Rattle.command_words.specs.Commands.{RunCommand, Run}
 use Rattle.history_core.specs.Cache.{CacheOf}
 use Rattle.history_core.specs.History.{HistoryOf, setting_of}
 use Rattle.history_core.specs.declared.answers.Answer.{Answer}
-use Rattle.cache_opening.specs.Opening.{Opening, opened_entries, opening_of, rows_checked}
+use Rattle.cache_opening.specs.Opening.{Opening, opened_entries, opening_from, opening_of, rows_checked}
+use Rattle.cache_opening.specs.Asking.{Leads}
 use Rattle.line_session.specs.Conversations.{HasConversed, fresh}
 use Rattle.line_session.specs.Desks.{DeskOf, HasAsked}
 use Rattle.line_session.specs.Replies.{Dealing, Handled, Handles, IsGridOf, catalog_of}
@@ -96,7 +97,7 @@ status_by_itself end.SendFault = None
 status_by_itself end.Memory = None
 
 -- a run is complete: a cache was opened, which is that of this opening with the command's budget, and with whose entries the
--- history begins. A conversation over it has passed to its end, which what was received has brought about. Where the link tells
+-- history begins; what the depot was asked for led to the opening, and then is what the lines asked for. A conversation over it has passed to its end, which what was received has brought about. Where the link tells
 -- what is left, each line of it up to that end was handled; each query that means axes has its grid; and after the conversation
 -- at most the line of the status was sent. The steps are the rows that the aggregate tables are checked over, and what was read
 -- for the lines
@@ -108,10 +109,12 @@ pub record IsComplete (tools : ToolsOf) (command : RunCommand) (files : Option F
   pub entries : cache.entries ≡ opened_entries opening.batches opening.tables
   pub begins : BeginsWith cache history
   pub answers : List Fetched
+  pub read : Leads files start.answers answers (opening_from command.file) (Ok opening)
   pub end : SessionEnd
   pub by_itself : status_by_itself end ≡ Some status
   pub talk : List Event
   pub asked : List Fetched
+  pub answered : finish.answers ≡ answers ++ asked
   pub handled : List Handled
   pub conversed : HasConversed tools start.talk talk answers finish.answers files
       (fresh byte_limit) (desk_over cache) (desk_over (cache_of history)) end handled
